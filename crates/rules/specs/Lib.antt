@@ -1,0 +1,17 @@
+pub mod Lists
+pub mod Build
+pub mod Node
+pub mod Frames
+pub mod Operation
+pub mod Types
+pub mod Refusal
+pub mod Settling
+pub mod Step
+pub mod Valid
+pub mod Memory
+pub mod MemoryTest
+pub mod Text
+pub mod Script
+pub mod Private
+pub mod Run
+pub mod Cases

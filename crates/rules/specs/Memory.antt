@@ -1,0 +1,219 @@
+-- The memory map at paper 01's sizes: where each number of a node stands among 32-bit words, as a function from a node to words and one
+-- back. docs/MEMORY.md is its prose. Assumes nothing.
+use Prim.Native.Nat.{ℕ, zero, suc, _+_, _-_, _*_}
+use mathlib.Core.Bool.{Bool, true, false}
+use mathlib.Core.List.{List, [], _∷_, _++_, map}
+use lib.Dec.{eqb}
+use lib.ListN.{length, take, drop, getD}
+use Rattle.rules.specs.Lists.{concatMap, upFrom, pad}
+use Rattle.rules.specs.Build.{Build, paper01, groupCount, wordLimit}
+use Rattle.rules.specs.Node.{Message, Place, Frame, Buffer, Group, Node}
+use Rattle.rules.specs.Valid.{frameNumber}
+
+-- single numbers
+abbrev pub runningAt : ℕ
+runningAt = 0
+
+abbrev pub timerAt : ℕ
+timerAt = 1
+
+abbrev pub queuedAt : ℕ
+queuedAt = 2
+
+abbrev pub freeCountAt : ℕ
+freeCountAt = 3
+
+-- the hardware queue: 16 places of a group, a length and eight words
+abbrev pub queueAt : ℕ
+queueAt = 4
+
+abbrev pub queueStride : ℕ
+queueStride = 10
+
+-- the free line: 32 numbers
+abbrev pub freeAt : ℕ
+freeAt = 164
+
+-- the groups: 8 records of 46 words, and what stands where in one
+abbrev pub groupsAt : ℕ
+groupsAt = 196
+
+abbrev pub groupStride : ℕ
+groupStride = 46
+
+abbrev pub atomicOffset : ℕ
+atomicOffset = 0
+
+abbrev pub pendingOffset : ℕ
+pendingOffset = 1
+
+abbrev pub usedOffset : ℕ
+usedOffset = 2
+
+abbrev pub countOffset : ℕ
+countOffset = 3
+
+abbrev pub heldOffset : ℕ
+heldOffset = 4
+
+abbrev pub describedOffset : ℕ
+describedOffset = 5
+
+abbrev pub descriptorOffset : ℕ
+descriptorOffset = 6
+
+abbrev pub listOffset : ℕ
+listOffset = 14
+
+-- the frames: 32 of eight places, each a kept length and eight words
+abbrev pub framesAt : ℕ
+framesAt = 564
+
+abbrev pub placeStride : ℕ
+placeStride = 9
+
+abbrev pub frameStride : ℕ
+frameStride = 72
+
+-- the size of a node
+abbrev pub size : ℕ
+size = 2868
+
+-- where frame f stands, and the record of group g
+unfoldable pub frameAddress : ℕ → ℕ
+frameAddress f = framesAt + frameStride * f
+
+unfoldable pub groupAddress : ℕ → ℕ
+groupAddress g = groupsAt + groupStride * (g - 1)
+
+-- From a node to words.
+
+unfoldable pub flagWord : Bool → ℕ
+flagWord true = 1
+flagWord false = 0
+
+unfoldable pub messageWords : Message → List ℕ
+messageWords m = m .group ∷ length (m .words) ∷ pad wordLimit (m .words)
+
+-- "The queue, the free line and each list of frames stand head first. The queue's unused places .. are 0."
+unfoldable pub queueWords : List Message → List ℕ
+queueWords q = pad (paper01 .places * queueStride) (concatMap messageWords q)
+
+unfoldable pub lineWords : List ℕ → List ℕ
+lineWords fs = pad (paper01 .frames) fs
+
+unfoldable pub groupWords : Group → List ℕ
+groupWords G =
+    flagWord (G .atomic)
+    ∷ flagWord (G .pending)
+    ∷ G .buffer .used
+    ∷ G .buffer .count
+    ∷ length (G .buffer .frames)
+    ∷ length (G .descriptor)
+    ∷ pad wordLimit (G .descriptor) ++ lineWords (G .buffer .frames)
+
+unfoldable pub placeWords : Place → List ℕ
+placeWords p = p .len ∷ p .words
+
+-- the frames of a buffer, each with its share of the places
+unfoldable pub framesFrom : List ℕ → List Place → List Frame
+framesFrom [] ps = []
+framesFrom (f ∷ fs) ps =
+    record { number = f; places = take (paper01 .perFrame) ps } ∷ framesFrom fs (drop (paper01 .perFrame) ps)
+
+unfoldable pub framesOf : Group → List Frame
+framesOf G = framesFrom (G .buffer .frames) (G .buffer .places)
+
+-- the places of the frame with number f
+unfoldable pub placesOf : ℕ → List Frame → List Place
+placesOf f [] = []
+placesOf f (x ∷ xs) = elim (eqb (x .number) f) [ true ↦ x .places | false ↦ placesOf f xs ]
+
+unfoldable pub allFrames : Node → List Frame
+allFrames n = n .free ++ concatMap framesOf (n .groups)
+
+unfoldable pub frameWords : List Frame → ℕ → List ℕ
+frameWords xs f = concatMap placeWords (placesOf f xs)
+
+-- the node's words
+unfoldable pub words : Node → List ℕ
+words n =
+    n .running
+    ∷ n .timer
+    ∷ length (n .queue)
+    ∷ length (n .free)
+    ∷ queueWords (n .queue)
+    ++ (lineWords (map frameNumber (n .free)) ++ (concatMap groupWords (n .groups) ++ concatMap (frameWords (allFrames n)) (upFrom 0 (paper01 .frames))))
+
+-- From words to a node.
+
+-- the word at an address, and k words from it on
+unfoldable pub word : List ℕ → ℕ → ℕ
+word m a = getD m a 0
+
+unfoldable pub wordsAt : List ℕ → ℕ → ℕ → List ℕ
+wordsAt m a zero = []
+wordsAt m a (suc k) = word m a ∷ wordsAt m (a + 1) k
+
+-- k queue places from address a on
+unfoldable pub messageAt : List ℕ → ℕ → Message
+messageAt m a = record { group = word m a; words = take (word m (a + 1)) (wordsAt m (a + 2) wordLimit) }
+
+unfoldable pub messagesAt : List ℕ → ℕ → ℕ → List Message
+messagesAt m a zero = []
+messagesAt m a (suc k) = messageAt m a ∷ messagesAt m (a + queueStride) k
+
+-- k places of a frame from address a on
+unfoldable pub placeAt : List ℕ → ℕ → Place
+placeAt m a = record { len = word m a; words = wordsAt m (a + 1) wordLimit }
+
+unfoldable pub placesAt : List ℕ → ℕ → ℕ → List Place
+placesAt m a zero = []
+placesAt m a (suc k) = placeAt m a ∷ placesAt m (a + placeStride) k
+
+-- the places of frame f
+unfoldable pub framePlaces : List ℕ → ℕ → List Place
+framePlaces m f = placesAt m (frameAddress f) (paper01 .perFrame)
+
+unfoldable pub frameAt : List ℕ → ℕ → Frame
+frameAt m f = record { number = f; places = framePlaces m f }
+
+-- the record of a group from address a on
+unfoldable pub flagAt : List ℕ → ℕ → Bool
+flagAt m a = eqb (word m a) 1
+
+unfoldable pub listAt : List ℕ → ℕ → List ℕ
+listAt m a = wordsAt m (a + listOffset) (word m (a + heldOffset))
+
+unfoldable pub bufferAt : List ℕ → ℕ → Buffer
+bufferAt m a =
+    record {
+      used = word m (a + usedOffset);
+      count = word m (a + countOffset);
+      frames = listAt m a;
+      places = concatMap (framePlaces m) (listAt m a);
+    }
+
+unfoldable pub groupAt : List ℕ → ℕ → Group
+groupAt m a =
+    record {
+      atomic = flagAt m (a + atomicOffset);
+      pending = flagAt m (a + pendingOffset);
+      buffer = bufferAt m a;
+      descriptor = wordsAt m (a + descriptorOffset) (word m (a + describedOffset));
+    }
+
+unfoldable pub groupsFrom : List ℕ → ℕ → ℕ → List Group
+groupsFrom m a zero = []
+groupsFrom m a (suc k) = groupAt m a ∷ groupsFrom m (a + groupStride) k
+
+-- the node that the words hold
+unfoldable pub nodeAt : List ℕ → Node
+nodeAt m =
+    record {
+      running = word m runningAt;
+      timer = word m timerAt;
+      queue = messagesAt m queueAt (word m queuedAt);
+      free = map (frameAt m) (wordsAt m freeAt (word m freeCountAt));
+      groups = groupsFrom m groupsAt groupCount;
+    }

@@ -1,0 +1,140 @@
+-- "Memory is a node when", on words; and the steps on memory. Assumes nothing.
+use Prim.Native.Nat.{ℕ, zero, suc, _+_, _*_, _-_}
+use mathlib.Core.Bool.{Bool, true, false, cond, _&&_, _||_}
+use mathlib.Core.List.{List, [], _∷_, _++_, map}
+use lib.Dec.{eqb, leb, ltb}
+use lib.ListN.{length, take, drop}
+use Rattle.rules.specs.Lists.{all, passes, isEmpty, upFrom}
+use Rattle.rules.specs.Build.{paper01, groupCount, wordLimit}
+use Rattle.rules.specs.Node.{Node, powerOn, buffered, line}
+use Rattle.rules.specs.Operation.{Operation, Report, accepted, notNode, refused}
+use Rattle.rules.specs.Valid.{isNode}
+use Rattle.rules.specs.Step.{step}
+use Rattle.rules.specs.Memory.{runningAt, queuedAt, freeCountAt, queueAt, queueStride, freeAt, atomicOffset, pendingOffset, usedOffset, heldOffset, describedOffset, descriptorOffset, listOffset, placeStride, size}
+use Rattle.rules.specs.Memory.{words, word, wordsAt, frameAddress, groupAddress, nodeAt}
+
+-- the k words from address a on are 0
+unfoldable pub zeroAt : List ℕ → ℕ → ℕ → Bool
+zeroAt m a k = all (eqb 0) (wordsAt m a k)
+
+-- "counts .. are within the bounds above", and so are the lengths kept in the queue
+unfoldable pub lengthInBounds : List ℕ → ℕ → Bool
+lengthInBounds m i = leb (word m (queueAt + queueStride * i + 1)) wordLimit
+
+unfoldable pub groupCounts : List ℕ → ℕ → Bool
+groupCounts m g =
+    leb (word m (groupAddress g + heldOffset)) (paper01 .frames) && leb (word m (groupAddress g + describedOffset)) wordLimit
+
+unfoldable pub countsInBounds : List ℕ → Bool
+countsInBounds m =
+    leb (word m queuedAt) (paper01 .places)
+    && (leb (word m freeCountAt) (paper01 .frames)
+    && (all (groupCounts m) (upFrom 1 groupCount) && all (lengthInBounds m) (upFrom 0 (word m queuedAt))))
+
+-- "flags are 0 or 1"
+unfoldable pub groupFlags : List ℕ → ℕ → Bool
+groupFlags m g = leb (word m (groupAddress g + atomicOffset)) 1 && leb (word m (groupAddress g + pendingOffset)) 1
+
+unfoldable pub flagsAreFlags : List ℕ → Bool
+flagsAreFlags m = all (groupFlags m) (upFrom 1 groupCount)
+
+-- "unused places of the queue, free line and lists, unused descriptor words and a waiting message's words past its length are 0"; those of
+-- a message in a buffer are asked of the node
+unfoldable pub queueUnused : List ℕ → Bool
+queueUnused m =
+    let k = word m queuedAt in
+    zeroAt m (queueAt + queueStride * k) (queueStride * (paper01 .places - k))
+
+unfoldable pub freeUnused : List ℕ → Bool
+freeUnused m =
+    let k = word m freeCountAt in
+    zeroAt m (freeAt + k) (paper01 .frames - k)
+
+unfoldable pub groupUnused : List ℕ → ℕ → Bool
+groupUnused m g =
+    let held = word m (groupAddress g + heldOffset) in
+    let described = word m (groupAddress g + describedOffset) in
+    zeroAt m (groupAddress g + listOffset + held) (paper01 .frames - held)
+    && zeroAt m (groupAddress g + descriptorOffset + described) (wordLimit - described)
+
+unfoldable pub messageUnused : List ℕ → ℕ → Bool
+messageUnused m i =
+    let len = word m (queueAt + queueStride * i + 1) in
+    zeroAt m (queueAt + queueStride * i + 2 + len) (wordLimit - len)
+
+unfoldable pub unusedAreZero : List ℕ → Bool
+unusedAreZero m =
+    queueUnused m
+    && (freeUnused m && (all (groupUnused m) (upFrom 1 groupCount) && all (messageUnused m) (upFrom 0 (word m queuedAt))))
+
+-- the memory test: the size, the clauses on words, then those on the node that the words hold
+unfoldable pub memoryTests : List (List ℕ → Bool)
+memoryTests =
+    (λ m. leb size (length m))
+    ∷ countsInBounds
+    ∷ flagsAreFlags
+    ∷ unusedAreZero
+    ∷ (λ m. isNode paper01 (nodeAt m))
+    ∷ []
+
+unfoldable pub isMemory : List ℕ → Bool
+isMemory m = passes memoryTests m
+
+-- a step on memory: its report, and the words after it
+pub record MemoryStep : Type 0 where
+  pub report : Report
+  pub memory : List ℕ
+
+-- "Memory past the node's size is never touched."
+unfoldable pub replaced : Node → List ℕ → List ℕ
+replaced n m = words n ++ drop size m
+
+-- "1: memory too short, or not a node. Tested first, at every step"
+unfoldable pub stepMemory : List ℕ → Operation → MemoryStep
+stepMemory m op =
+    elim (isMemory m) [
+      | true ↦
+          let s = step paper01 (nodeAt m) op in
+          record { report = s .report; memory = replaced (s .node) m }
+      | false ↦ record { report = refused notNode; memory = m }
+    ]
+
+-- "power-on tests only the size"
+unfoldable pub powerOnMemory : List ℕ → MemoryStep
+powerOnMemory m =
+    elim (leb size (length m)) [
+      | true ↦ record { report = refused accepted; memory = replaced (powerOn paper01) m }
+      | false ↦ record { report = refused notNode; memory = m }
+    ]
+
+-- a part of the memory: where it begins, and how many words it has
+pub record Part : Type 0 where
+  pub start : ℕ
+  pub len : ℕ
+
+abbrev pub emptyPart : Part
+emptyPart = record { start = 0; len = 0 }
+
+-- the words of the first message of group g: at its place in its first frame, or at the head of the hardware queue
+unfoldable pub firstPlace : List ℕ → ℕ → ℕ
+firstPlace m g =
+    frameAddress (word m (groupAddress g + listOffset)) + placeStride * word m (groupAddress g + usedOffset)
+
+unfoldable pub bufferPart : List ℕ → ℕ → Part
+bufferPart m g = record { start = firstPlace m g + 1; len = word m (firstPlace m g) }
+
+unfoldable pub queuePart : List ℕ → Part
+queuePart m = record { start = queueAt + 2; len = word m (queueAt + 1) }
+
+unfoldable pub runnerPart : List ℕ → Node → Part
+runnerPart m n =
+    cond (eqb (n .running) 0 || isEmpty (line n (n .running))) emptyPart
+    (cond (buffered n (n .running)) (bufferPart m (n .running)) (queuePart m))
+
+-- "the words of the head message as a part of the lent memory .. : the running group's first, an empty part if there is none or the
+-- memory is no node"
+unfoldable pub headPart : List ℕ → Part
+headPart m = elim (isMemory m) [ true ↦ runnerPart m (nodeAt m) | false ↦ emptyPart ]
+
+unfoldable pub headWords : List ℕ → List ℕ
+headWords m = take (headPart m .len) (drop (headPart m .start) m)

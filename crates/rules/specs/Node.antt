@@ -1,0 +1,135 @@
+-- The node as records and lists. A frame carries its contents: taking one moves them from the free line into a buffer, freeing one moves
+-- them back, so no two parts of a node name the same storage. Assumes nothing.
+use Prim.Native.Nat.{ℕ, pred, _+_}
+use mathlib.Core.Bool.{Bool, false}
+use mathlib.Core.List.{List, [], _∷_, _++_, map}
+use lib.Dec.{ltb, eqb}
+use lib.ListN.{length, take, drop, getD, set, replicate}
+use Rattle.rules.specs.Lists.{filter, upFrom, pad}
+use Rattle.rules.specs.Build.{Build, groupCount, wordLimit}
+
+-- "A message has a group and 1 to 8 words of 32 bits."
+pub record Message : Type 0 where
+  pub group : ℕ
+  pub words : List ℕ
+
+-- a place of a frame: the length kept with the message last written there, and its eight words, waiting or used up
+pub record Place : Type 0 where
+  pub len : ℕ
+  pub words : List ℕ
+
+-- a page frame: its number and its places
+pub record Frame : Type 0 where
+  pub number : ℕ
+  pub places : List Place
+
+-- "Each group has a virtual buffer: a list of frames, filled in order. Let n be its messages, h the used-up places before the first"
+pub record Buffer : Type 0 where
+  -- h
+  pub used : ℕ
+  -- n
+  pub count : ℕ
+  -- the numbers of its frames, the first message's first
+  pub frames : List ℕ
+  -- the places of these frames, one frame's after the other's
+  pub places : List Place
+
+-- "Each group has a flag atomic, a flag pending and a descriptor of 0 to 8 words."
+pub record Group : Type 0 where
+  pub atomic : Bool
+  pub pending : Bool
+  pub buffer : Buffer
+  pub descriptor : List ℕ
+
+-- the running group is 0 for nobody; the queue stands in order of arrival; "Free frames stand in a line"; group g is the g-th of the groups
+pub record Node : Type 0 where
+  pub running : ℕ
+  pub timer : ℕ
+  pub queue : List Message
+  pub free : List Frame
+  pub groups : List Group
+
+-- "every queue, buffer, flag and descriptor is empty or off, all message words are 0"
+abbrev pub emptyPlace : Place
+emptyPlace = record { len = 0; words = pad wordLimit [] }
+
+unfoldable pub emptyFrame : Build → ℕ → Frame
+emptyFrame b f = record { number = f; places = replicate (b .perFrame) emptyPlace }
+
+abbrev pub emptyBuffer : Buffer
+emptyBuffer = record { used = 0; count = 0; frames = []; places = [] }
+
+abbrev pub emptyGroup : Group
+emptyGroup = record { atomic = false; pending = false; buffer = emptyBuffer; descriptor = [] }
+
+-- "At power-on nobody runs"; "Free frames stand in a line, at power-on 0 to 31."
+unfoldable pub powerOn : Build → Node
+powerOn b =
+    record {
+      running = 0;
+      timer = 0;
+      queue = [];
+      free = map (emptyFrame b) (upFrom 0 (b .frames));
+      groups = replicate groupCount emptyGroup;
+    }
+
+-- the group of that number
+unfoldable pub groupOf : Node → ℕ → Group
+groupOf n g = getD (n .groups) (pred g) emptyGroup
+
+-- the node with one part changed
+unfoldable pub withRunning : ℕ → Node → Node
+withRunning g n = record { running = g; timer = n .timer; queue = n .queue; free = n .free; groups = n .groups }
+
+unfoldable pub withTimer : ℕ → Node → Node
+withTimer t n = record { running = n .running; timer = t; queue = n .queue; free = n .free; groups = n .groups }
+
+unfoldable pub withQueue : List Message → Node → Node
+withQueue q n = record { running = n .running; timer = n .timer; queue = q; free = n .free; groups = n .groups }
+
+unfoldable pub withFree : List Frame → Node → Node
+withFree fs n = record { running = n .running; timer = n .timer; queue = n .queue; free = fs; groups = n .groups }
+
+unfoldable pub withGroup : ℕ → Group → Node → Node
+withGroup g G n =
+    record { running = n .running; timer = n .timer; queue = n .queue; free = n .free; groups = set (n .groups) (pred g) G }
+
+-- the group with one part changed
+unfoldable pub withFlags : Bool → Bool → Group → Group
+withFlags a p G = record { atomic = a; pending = p; buffer = G .buffer; descriptor = G .descriptor }
+
+unfoldable pub withBuffer : Buffer → Group → Group
+withBuffer v G = record { atomic = G .atomic; pending = G .pending; buffer = v; descriptor = G .descriptor }
+
+unfoldable pub withDescriptor : List ℕ → Group → Group
+withDescriptor d G = record { atomic = G .atomic; pending = G .pending; buffer = G .buffer; descriptor = d }
+
+-- "A group is buffered while n is above 0, else direct."
+unfoldable pub buffered : Node → ℕ → Bool
+buffered n g = ltb 0 (groupOf n g .buffer .count)
+
+-- a message as it is kept in a place: its length, its words, 0 past them
+unfoldable pub placeOf : Message → Place
+placeOf m = record { len = length (m .words); words = pad wordLimit (m .words) }
+
+-- and back, as a message of group g
+unfoldable pub messageOf : ℕ → Place → Message
+messageOf g p = record { group = g; words = take (p .len) (p .words) }
+
+-- the places of a buffer's waiting messages: n of them behind the h used-up ones
+unfoldable pub waiting : Buffer → List Place
+waiting v = take (v .count) (drop (v .used) (v .places))
+
+-- the messages of group g in its buffer, and in the hardware queue
+unfoldable pub inBuffer : Node → ℕ → List Message
+inBuffer n g = map (messageOf g) (waiting (groupOf n g .buffer))
+
+unfoldable pub isOf : ℕ → Message → Bool
+isOf g m = eqb (m .group) g
+
+unfoldable pub inQueue : Node → ℕ → List Message
+inQueue n g = filter (isOf g) (n .queue)
+
+-- "Its line is its buffer, then its messages in the hardware queue."
+unfoldable pub line : Node → ℕ → List Message
+line n g = inBuffer n g ++ inQueue n g

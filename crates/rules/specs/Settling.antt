@@ -1,0 +1,55 @@
+-- What comes after an accepted operation: settling and the upcall; and the drain at a timeout. Assumes nothing.
+use Prim.Native.Nat.{ℕ, suc}
+use mathlib.Core.Bool.{Bool, true, false, cond, not, _&&_}
+use mathlib.Core.List.{List, [], _∷_}
+use lib.Dec.{eqb}
+use Rattle.rules.specs.Lists.{isEmpty}
+use Rattle.rules.specs.Node.{Message, Node, groupOf, withTimer, withQueue, withGroup, withFlags, buffered, line}
+use Rattle.rules.specs.Frames.{store}
+
+-- a node, and how many messages were taken from the hardware queue to buffers on the way to it
+pub record Moved : Type 0 where
+  pub node : Node
+  pub moved : ℕ
+
+unfoldable pub oneMore : Moved → Moved
+oneMore s = record { node = s .node; moved = suc (s .moved) }
+
+-- a head may stay unless it "is not the running group's, or [its] group is buffered"
+unfoldable pub mayStay : Node → Message → Bool
+mayStay n m = eqb (m .group) (n .running) && not (buffered n (m .group))
+
+-- "that head moves to the end of its group's buffer. The pass ends at the first head that may stay."
+unfoldable pub pass : List Message → Node → Moved
+pass [] n = record { node = withQueue [] n; moved = 0 }
+pass (m ∷ q) n =
+    elim (mayStay n m) [
+      | true ↦ record { node = withQueue (m ∷ q) n; moved = 0 }
+      | false ↦ oneMore (pass q (store m n))
+    ]
+
+-- "If the queue is then empty, the timer is 0."
+unfoldable pub restTimer : Node → Node
+restTimer n = cond (isEmpty (n .queue)) (withTimer 0 n) n
+
+unfoldable pub settle : Node → Moved
+settle n =
+    let s = pass (n .queue) n in
+    record { node = restTimer (s .node); moved = s .moved }
+
+-- "the whole hardware queue moves to the buffers"
+unfoldable pub drain : List Message → Node → Node
+drain [] n = withQueue [] n
+drain (m ∷ q) n = drain q (store m n)
+
+-- "if the running group isn't atomic and its line isn't empty"
+unfoldable pub calls : Node → Bool
+calls n = not (eqb (n .running) 0) && (not (groupOf n (n .running) .atomic) && not (isEmpty (line n (n .running))))
+
+-- "it becomes atomic and pending"
+unfoldable pub upcall : Node → Node
+upcall n = cond (calls n) (withGroup (n .running) (withFlags true true (groupOf n (n .running))) n) n
+
+-- "and the report names it"
+unfoldable pub upcallGroup : Node → ℕ
+upcallGroup n = cond (calls n) (n .running) 0

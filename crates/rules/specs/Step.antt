@@ -1,0 +1,155 @@
+-- What each accepted operation does, and a step: refused, or acted, settled and called up. Assumes nothing.
+use Prim.Native.Nat.{ℕ, zero, suc, _+_}
+use mathlib.Core.Bool.{Bool, true, false, cond}
+use mathlib.Core.List.{List, [], _∷_, _++_}
+use lib.Dec.{eqb}
+use lib.ListN.{length, getD}
+use Rattle.rules.specs.Build.{Build}
+use Rattle.rules.specs.Node.{Message, Node, groupOf, withRunning, withTimer, withQueue, withGroup, withFlags, withDescriptor, buffered, isOf, line}
+use Rattle.rules.specs.Frames.{removeFirst, withStock}
+use Rattle.rules.specs.Operation.{Request, poll, peek, dispose, beginAtomic, endAtomic, describe, launch}
+use Rattle.rules.specs.Operation.{Operation, arrive, schedule, tick, user, unknown}
+use Rattle.rules.specs.Operation.{Report, accepted, noTrap, disposeExtend, atomicityExtend, timeoutTrap, refused}
+use Rattle.rules.specs.Refusal.{refusal, queued}
+use Rattle.rules.specs.Settling.{settle, drain, upcall, upcallGroup}
+
+-- what an accepted operation does before settling: the node, and its part of the report
+pub record Effect : Type 0 where
+  pub node : Node
+  pub value : ℕ
+  pub trap : ℕ
+  pub moved : ℕ
+  pub sent : List ℕ
+
+-- "Value is 0 where none is named."
+unfoldable pub valued : ℕ → Node → Effect
+valued x n = record { node = n; value = x; trap = noTrap; moved = 0; sent = [] }
+
+-- S: "gives the processor to that group, 0 to nobody; timer to 0. To the one already running (or 0 to 0): changes nothing"
+unfoldable pub scheduled : ℕ → Node → Node
+scheduled g n = cond (eqb g (n .running)) n (withTimer 0 (withRunning g n))
+
+-- "At 256: timeout, the whole hardware queue moves to the buffers, timer 0"
+unfoldable pub timedOut : Effect → Effect
+timedOut e =
+    record {
+      node = withTimer 0 (drain (e .node .queue) (e .node));
+      value = e .value;
+      trap = timeoutTrap;
+      moved = e .moved + length (e .node .queue);
+      sent = e .sent;
+    }
+
+unfoldable pub counted : Effect → Effect
+counted e =
+    record {
+      node = withTimer (e .node .timer + 1) (e .node);
+      value = e .value;
+      trap = e .trap;
+      moved = e .moved;
+      sent = e .sent;
+    }
+
+-- "A tick adds 1 to the timer if the hardware queue isn't empty."
+unfoldable pub oneTick : Build → List Message → Effect → Effect
+oneTick b [] e = e
+oneTick b (m ∷ q) e = cond (eqb (e .node .timer + 1) (b .timeout)) (timedOut e) (counted e)
+
+-- T: "n single ticks"
+unfoldable pub ticks : Build → ℕ → Effect → Effect
+ticks b zero e = e
+ticks b (suc k) e = ticks b k (oneTick b (e .node .queue) e)
+
+-- M: "words in the line's first message, 0 if none"
+unfoldable pub firstLength : List Message → ℕ
+firstLength [] = 0
+firstLength (m ∷ ms) = length (m .words)
+
+-- E: "word i of that message, from 0"
+unfoldable pub firstWord : List Message → ℕ → ℕ
+firstWord [] i = 0
+firstWord (m ∷ ms) i = getD (m .words) i 0
+
+-- the queue without the first message of group g
+unfoldable pub withoutFirst : ℕ → List Message → List Message
+withoutFirst g [] = []
+withoutFirst g (m ∷ q) = elim (isOf g m) [ true ↦ q | false ↦ m ∷ withoutFirst g q ]
+
+-- D: "removes that message"; it is in the buffer where the group is buffered, else in the hardware queue
+unfoldable pub removed : Build → Node → Node
+removed b n =
+    cond (buffered n (n .running))
+    (withStock (n .running) (removeFirst b (n .free) (groupOf n (n .running) .buffer)) n)
+    (withQueue (withoutFirst (n .running) (n .queue)) n)
+
+-- the running group's flags changed
+unfoldable pub flagged : Bool → Bool → Node → Node
+flagged a p n = withGroup (n .running) (withFlags a p (groupOf n (n .running))) n
+
+-- D: "pending off; timer 0"
+unfoldable pub disposed : Build → Node → Node
+disposed b n = withTimer 0 (flagged (groupOf n (n .running) .atomic) false (removed b n))
+
+-- a trap that is reported where the running group is buffered as the operation begins
+unfoldable pub extending : ℕ → Node → Node → Effect
+extending t n after = record { node = after; value = 0; trap = cond (buffered n (n .running)) t noTrap; moved = 0; sent = [] }
+
+-- the running group's descriptor replaced
+unfoldable pub described : List ℕ → Node → Node
+described d n = withGroup (n .running) (withDescriptor d (groupOf n (n .running))) n
+
+-- L: "sends the descriptor to node 0 to 63, stamped with the running group; value: its length; empties it"
+unfoldable pub launched : ℕ → Node → Effect
+launched k n =
+    let d = groupOf n (n .running) .descriptor in
+    record { node = described [] n; value = length d; trap = noTrap; moved = 0; sent = k ∷ n .running ∷ d }
+
+-- M to L, for the running group
+unfoldable pub serve : Build → Node → Request → Effect
+serve b n poll = valued (firstLength (line n (n .running))) n
+serve b n (peek i) = valued (firstWord (line n (n .running)) i) n
+serve b n dispose = extending disposeExtend n (disposed b n)
+serve b n beginAtomic = valued 0 (flagged true (groupOf n (n .running) .pending) n)
+serve b n endAtomic = extending atomicityExtend n (flagged false (groupOf n (n .running) .pending) n)
+serve b n (describe w) =
+    let d = groupOf n (n .running) .descriptor ++ (w ∷ []) in
+    valued (length d) (described d n)
+serve b n (launch k) = launched k n
+
+-- the table of operations
+unfoldable pub act : Build → Node → Operation → Effect
+act b n (arrive g ws) = valued 0 (queued (record { group = g; words = ws }) n)
+act b n (schedule g) = valued 0 (scheduled g n)
+act b n (tick k) = ticks b k (valued 0 n)
+act b n (user r) = serve b n r
+act b n unknown = valued 0 n
+
+-- a step's report, and the node after it
+pub record Stepped : Type 0 where
+  pub report : Report
+  pub node : Node
+
+-- "An accepted operation acts, then come settling and the upcall."
+unfoldable pub finish : Effect → Stepped
+finish e =
+    let s = settle (e .node) in
+    record {
+      report =
+          record {
+            answer = accepted;
+            value = e .value;
+            trap = e .trap;
+            upcall = upcallGroup (s .node);
+            moved = e .moved + s .moved;
+            sent = e .sent;
+          };
+      node = upcall (s .node);
+    }
+
+-- "A refused step reports its number and zeros, and nothing in memory changes: no settling, no upcall."
+unfoldable pub step : Build → Node → Operation → Stepped
+step b n op =
+    elim (refusal b n op) [
+      | zero ↦ finish (act b n op)
+      | suc r ↦ record { report = refused (suc r); node = n }
+    ]

@@ -1,0 +1,145 @@
+-- "Memory is a node when": the sentence's clauses that speak of a node, first as named invariants, then as tests that compute. A clause
+-- that speaks of words alone is in MemoryTest. Assumes nothing.
+use Prim.Native.Nat.{ℕ, _+_, _*_, _≤_, _<_}
+use mathlib.Core.Path.{_≡_}
+use mathlib.Core.Bool.{Bool, true, false, cond, not, _&&_, _||_}
+use mathlib.Core.List.{List, [], _∷_, _++_, map}
+use lib.Dec.{eqb, leb, ltb}
+use lib.ListN.{length, drop}
+use Rattle.rules.specs.Lists.{Every, all, passes, isEmpty, concatMap, countOf, upFrom}
+use Rattle.rules.specs.Build.{Build, groupCount, wordLimit}
+use Rattle.rules.specs.Node.{Message, Place, Frame, Buffer, Group, Node, groupOf, buffered, waiting, line}
+use Rattle.rules.specs.Frames.{ceilDiv, pledges}
+use Rattle.rules.specs.Settling.{mayStay}
+
+-- the numbers of all frames: those of the free line, then each group's list
+unfoldable pub frameList : Group → List ℕ
+frameList G = G .buffer .frames
+
+unfoldable pub frameNumber : Frame → ℕ
+frameNumber f = f .number
+
+unfoldable pub frameNumbers : Node → List ℕ
+frameNumbers n = map frameNumber (n .free) ++ concatMap frameList (n .groups)
+
+-- a queued message: its group is 1 to 8, and it has 1 to 8 words
+pub record GoodMessage (m : Message) : Type 0 where
+  pub group-low : 1 ≤ m .group
+  pub group-high : m .group ≤ groupCount
+  pub some-words : 1 ≤ length (m .words)
+  pub few-words : length (m .words) ≤ wordLimit
+
+-- a place has eight words
+pub record GoodPlace (p : Place) : Type 0 where
+  pub eight : length (p .words) ≡ wordLimit
+
+-- the place of a waiting message: its length is 1 to 8, and the words past it are 0
+abbrev pub Zero : ℕ → Type 0
+Zero w = w ≡ 0
+
+pub record GoodWaiting (p : Place) : Type 0 where
+  pub some-words : 1 ≤ p .len
+  pub few-words : p .len ≤ wordLimit
+  pub rest-zero : Every Zero (drop (p .len) (p .words))
+
+-- a free frame has all its places
+pub record GoodFrame (b : Build) (f : Frame) : Type 0 where
+  pub whole : length (f .places) ≡ b .perFrame
+  pub places : Every GoodPlace (f .places)
+
+-- a buffer: "h the used-up places before the first (0 to 7; 0 if n is 0)"; "It holds (h + n) / 8 frames, rounded up."
+pub record GoodBuffer (b : Build) (v : Buffer) : Type 0 where
+  pub used-bound : v .used < b .perFrame
+  pub used-empty : v .count ≡ 0 → v .used ≡ 0
+  pub list-length : length (v .frames) ≡ ceilDiv (v .used + v .count) (b .perFrame)
+  pub whole : length (v .places) ≡ length (v .frames) * b .perFrame
+  pub places : Every GoodPlace (v .places)
+  pub waiting-good : Every GoodWaiting (waiting v)
+
+pub record GoodGroup (b : Build) (G : Group) : Type 0 where
+  pub buffer : GoodBuffer b (G .buffer)
+  pub descriptor : length (G .descriptor) ≤ wordLimit
+  pub pending-atomic : G .pending ≡ true → G .atomic ≡ true
+
+-- a node
+pub record Valid (b : Build) (n : Node) : Type 0 where
+  -- "running is 0 to 8"
+  pub running-bound : n .running ≤ groupCount
+  -- "counts, groups, waiting messages' lengths, h and timer are within the bounds above"
+  pub timer-bound : n .timer < b .timeout
+  pub queue-length : length (n .queue) ≤ b .places
+  pub queue-good : Every GoodMessage (n .queue)
+  pub group-count : length (n .groups) ≡ groupCount
+  pub groups-good : Every (GoodGroup b) (n .groups)
+  pub free-good : Every (GoodFrame b) (n .free)
+  -- "each frame stands once, in the free line or in one list"
+  pub frames-once : (f : ℕ) → f < b .frames → countOf f (frameNumbers n) ≡ 1
+  pub frames-all : length (frameNumbers n) ≡ b .frames
+  -- "pledges sum to at most 32"
+  pub pledged : pledges b n ≤ b .frames
+  -- "pending only with atomic and a line not empty" (with atomic: GoodGroup)
+  pub pending-line : (g : ℕ) → 1 ≤ g → g ≤ groupCount → groupOf n g .pending ≡ true → isEmpty (line n g) ≡ false
+  -- "a running group with a line not empty is atomic"
+  pub running-atomic : 1 ≤ n .running → isEmpty (line n (n .running)) ≡ false → groupOf n (n .running) .atomic ≡ true
+  -- "if the hardware queue isn't empty its head is the running group's, and that group is direct"
+  pub head-stays : (m : Message) (q : List Message) → n .queue ≡ m ∷ q → mayStay n m ≡ true
+  -- "if it is empty the timer is 0"
+  pub timer-idle : n .queue ≡ [] → n .timer ≡ 0
+
+-- The same as tests.
+
+unfoldable pub isMessage : Message → Bool
+isMessage m = leb 1 (m .group) && (leb (m .group) groupCount && (leb 1 (length (m .words)) && leb (length (m .words)) wordLimit))
+
+unfoldable pub isPlace : Place → Bool
+isPlace p = eqb (length (p .words)) wordLimit
+
+unfoldable pub isWaiting : Place → Bool
+isWaiting p = leb 1 (p .len) && (leb (p .len) wordLimit && all (eqb 0) (drop (p .len) (p .words)))
+
+unfoldable pub isFrame : Build → Frame → Bool
+isFrame b f = eqb (length (f .places)) (b .perFrame) && all isPlace (f .places)
+
+unfoldable pub isBuffer : Build → Buffer → Bool
+isBuffer b v =
+    ltb (v .used) (b .perFrame)
+    && ((not (eqb (v .count) 0) || eqb (v .used) 0)
+    && (eqb (length (v .frames)) (ceilDiv (v .used + v .count) (b .perFrame))
+    && (eqb (length (v .places)) (length (v .frames) * b .perFrame) && (all isPlace (v .places) && all isWaiting (waiting v)))))
+
+unfoldable pub isGroup : Build → Group → Bool
+isGroup b G = isBuffer b (G .buffer) && (leb (length (G .descriptor)) wordLimit && (not (G .pending) || G .atomic))
+
+unfoldable pub pendingHasLine : Node → ℕ → Bool
+pendingHasLine n g = not (groupOf n g .pending) || not (isEmpty (line n g))
+
+unfoldable pub runnerAtomic : Node → Bool
+runnerAtomic n = eqb (n .running) 0 || (isEmpty (line n (n .running)) || groupOf n (n .running) .atomic)
+
+unfoldable pub headStays : List Message → Node → Bool
+headStays [] n = eqb (n .timer) 0
+headStays (m ∷ q) n = mayStay n m
+
+unfoldable pub standsOnce : List ℕ → ℕ → Bool
+standsOnce fs f = eqb (countOf f fs) 1
+
+-- the clauses, in the order of the record
+unfoldable pub nodeTests : Build → List (Node → Bool)
+nodeTests b =
+    (λ n. leb (n .running) groupCount)
+    ∷ (λ n. ltb (n .timer) (b .timeout))
+    ∷ (λ n. leb (length (n .queue)) (b .places))
+    ∷ (λ n. all isMessage (n .queue))
+    ∷ (λ n. eqb (length (n .groups)) groupCount)
+    ∷ (λ n. all (isGroup b) (n .groups))
+    ∷ (λ n. all (isFrame b) (n .free))
+    ∷ (λ n. all (standsOnce (frameNumbers n)) (upFrom 0 (b .frames)))
+    ∷ (λ n. eqb (length (frameNumbers n)) (b .frames))
+    ∷ (λ n. leb (pledges b n) (b .frames))
+    ∷ (λ n. all (pendingHasLine n) (upFrom 1 groupCount))
+    ∷ runnerAtomic
+    ∷ (λ n. headStays (n .queue) n)
+    ∷ []
+
+unfoldable pub isNode : Build → Node → Bool
+isNode b n = passes (nodeTests b) n

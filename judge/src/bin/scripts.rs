@@ -1,0 +1,104 @@
+//! Random scripts for comparing listings, and a count of what they meet.
+
+use std::io::{self, BufWriter, Write};
+use std::process::ExitCode;
+
+use judge::counts::Counts;
+use judge::generator::{Flavour, FLAVOURS};
+use judge::program::{finish, misused};
+
+const NAME: &str = "scripts";
+const USAGE: &str = "\
+usage: scripts SEED LINES FLAVOUR             writes a random script
+       scripts --list                         lists the flavours
+       scripts --counts SEED LINES [FLAVOUR]  counts the answers and traps that a script meets
+       scripts --help
+
+SEED and LINES are decimal numbers; a seed fixes every byte. Without a FLAVOUR, --counts runs one
+script of each flavour, and fails if some answer 2 to 15 or some trap 0 to 3 was met by none.";
+
+enum Call {
+    Help,
+    List,
+    Script(u64, u64, &'static Flavour),
+    Counts(u64, u64, &'static [Flavour]),
+}
+
+fn main() -> ExitCode {
+    let arguments: Vec<String> = std::env::args_os()
+        .skip(1)
+        .map(|argument| argument.to_string_lossy().into_owned())
+        .collect();
+    let arguments: Vec<&str> = arguments.iter().map(String::as_str).collect();
+    match understand(&arguments) {
+        Ok(call) => finish(NAME, run(call, BufWriter::new(io::stdout().lock()))),
+        Err(reason) => misused(NAME, &reason, USAGE),
+    }
+}
+
+fn understand(arguments: &[&str]) -> Result<Call, String> {
+    Ok(match *arguments {
+        ["--help"] => Call::Help,
+        ["--list"] => Call::List,
+        ["--counts", seed, lines] => Call::Counts(number(seed)?, number(lines)?, &FLAVOURS),
+        ["--counts", seed, lines, name] => {
+            let one = std::slice::from_ref(flavour(name)?);
+            Call::Counts(number(seed)?, number(lines)?, one)
+        }
+        [seed, lines, name] => Call::Script(number(seed)?, number(lines)?, flavour(name)?),
+        _ => return Err("wrong arguments".to_string()),
+    })
+}
+
+fn number(argument: &str) -> Result<u64, String> {
+    argument
+        .parse()
+        .map_err(|_| format!("not a number: {argument}"))
+}
+
+fn flavour(name: &str) -> Result<&'static Flavour, String> {
+    Flavour::named(name).ok_or_else(|| format!("no such flavour: {name}"))
+}
+
+fn run(call: Call, mut output: impl Write) -> io::Result<ExitCode> {
+    let mut code = ExitCode::SUCCESS;
+    match call {
+        Call::Help => writeln!(output, "{USAGE}")?,
+        Call::List => list(&mut output)?,
+        Call::Script(seed, lines, flavour) => flavour.write(seed, lines, &mut output)?,
+        Call::Counts(seed, lines, flavours) => {
+            let counts = count(seed, lines, flavours)?;
+            writeln!(output, "{counts}")?;
+            // One flavour alone need not meet everything.
+            if flavours.len() == FLAVOURS.len() {
+                code = verdict(&counts);
+            }
+        }
+    }
+    output.flush()?;
+    Ok(code)
+}
+
+fn list(output: &mut impl Write) -> io::Result<()> {
+    for flavour in &FLAVOURS {
+        writeln!(output, "{:<10} {}", flavour.name, flavour.about)?;
+    }
+    Ok(())
+}
+
+fn count(seed: u64, lines: u64, flavours: &[Flavour]) -> io::Result<Counts> {
+    let mut counts = Counts::default();
+    for flavour in flavours {
+        counts.add_script(flavour.script(seed, lines).as_slice())?;
+    }
+    Ok(counts)
+}
+
+fn verdict(counts: &Counts) -> ExitCode {
+    let missing = counts.missing();
+    if missing.is_empty() {
+        return ExitCode::SUCCESS;
+    }
+    eprintln!("{NAME}: not met: {}", missing.join(", "));
+    ExitCode::FAILURE
+}

@@ -1,0 +1,17 @@
+//! The judge: the paper's node written a second time, from the paper alone.
+//!
+//! - [`node`]: the node as ordinary records, its operations, refusals, settling and upcall.
+//! - [`memory`]: the same node in lent memory, where docs/MEMORY.md puts it, and the memory test.
+//! - [`script`]: a script's lines read to operations, reports written as a listing.
+//! - [`generator`]: random scripts in flavours, made of bursts and fixed by a seed.
+//! - [`counts`]: which answers and traps scripts have met.
+//! - [`program`]: how the two programs end.
+
+mod bursts;
+pub mod counts;
+pub mod generator;
+pub mod memory;
+pub mod node;
+pub mod program;
+pub mod random;
+pub mod script;

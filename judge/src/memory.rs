@@ -1,0 +1,140 @@
+//! The node in lent memory: power-on, the step, the head message.
+//!
+//! A step reads the records out of the words, steps them, and writes them back.
+
+mod clauses;
+mod map;
+
+use clauses::node_words;
+pub use clauses::{broken_clause, clauses};
+pub use map::SIZE;
+
+use crate::node::{Frame, Group, Message, Node, Operation, Place, Refusal, Report};
+use map::{
+    group_at, message, place_at, queued_at, Record, Words, ATOMIC, DESCRIPTOR_AT, DESCRIPTOR_COUNT,
+    FREE_AT, FREE_COUNT, LIST_AT, LIST_COUNT, MESSAGES, PENDING, PLACE_WORDS, QUEUE_COUNT, RUNNING,
+    TIMER, USED_UP,
+};
+
+/// Makes the memory a node at power-on. "Power-on tests only the size."
+pub fn power_on(memory: &mut [u32]) -> u32 {
+    if memory.len() < SIZE {
+        return Refusal::NotANode as u32;
+    }
+    write(&Node::power_on(), memory);
+    0
+}
+
+/// One step. Answer 1 is "Tested first, at every step", and of a refused step "nothing in memory
+/// changes".
+pub fn step(memory: &mut [u32], operation: &Operation) -> Report {
+    let Some(mut node) = read(memory) else {
+        return Report::refused(Refusal::NotANode);
+    };
+    let report = node.step(operation);
+    if report.accepted() {
+        write(&node, memory);
+    }
+    report
+}
+
+/// The words of the running group's first message "as a part of the lent memory, no copy", "an
+/// empty part if there is none or the memory is no node".
+pub fn head(memory: &[u32]) -> &[u32] {
+    let runner = node_words(memory).filter(|words| words.running() > 0);
+    let first = runner.and_then(|words| words.waiting_of(words.running()).next());
+    first.map_or(&[], message)
+}
+
+/// The records that stand in the memory, if it is a node.
+pub fn read(memory: &[u32]) -> Option<Node> {
+    let words = node_words(memory)?;
+    Some(Node {
+        running: words.running(),
+        timer: words.timer(),
+        queue: words.queued().map(read_queued).collect(),
+        free: words.free().iter().map(|&frame| frame as usize).collect(),
+        groups: std::array::from_fn(|at| read_group(&words.group(at + 1))),
+        frames: std::array::from_fn(|frame| read_frame(&words, frame)),
+    })
+}
+
+fn read_queued(queued: &[u32]) -> Message {
+    Message {
+        group: queued[0] as usize,
+        words: message(&queued[1..]).to_vec(),
+    }
+}
+
+fn read_group(record: &Record) -> Group {
+    let mut group = Group {
+        atomic: record.atomic() == 1,
+        pending: record.pending() == 1,
+        descriptor: record.descriptor().to_vec(),
+        ..Group::default()
+    };
+    group.buffer.used_up = record.used_up() as usize;
+    group.buffer.messages = record.messages() as usize;
+    group.buffer.frames = record.list().iter().map(|&frame| frame as usize).collect();
+    group
+}
+
+fn read_frame(words: &Words, frame: usize) -> Frame {
+    std::array::from_fn(|place| {
+        let kept = words.place(frame, place);
+        Place {
+            length: kept[0],
+            words: std::array::from_fn(|word| kept[1 + word]),
+        }
+    })
+}
+
+/// Writes the records into the first words of the memory: unused places are 0.
+fn write(node: &Node, memory: &mut [u32]) {
+    let memory = &mut memory[..SIZE];
+    memory.fill(0);
+    memory[RUNNING] = node.running as u32;
+    memory[TIMER] = node.timer;
+    memory[QUEUE_COUNT] = node.queue.len() as u32;
+    memory[FREE_COUNT] = node.free.len() as u32;
+    for (place, message) in node.queue.iter().enumerate() {
+        write_queued(message, &mut memory[queued_at(place)..]);
+    }
+    write_frame_numbers(&node.free, &mut memory[FREE_AT..]);
+    for (at, group) in node.groups.iter().enumerate() {
+        write_group(group, &mut memory[group_at(at + 1)..]);
+    }
+    for (number, frame) in node.frames.iter().enumerate() {
+        write_frame(frame, &mut memory[place_at(number, 0)..]);
+    }
+}
+
+fn write_queued(message: &Message, words: &mut [u32]) {
+    words[0] = message.group as u32;
+    words[1] = message.words.len() as u32;
+    words[2..2 + message.words.len()].copy_from_slice(&message.words);
+}
+
+fn write_group(group: &Group, words: &mut [u32]) {
+    words[ATOMIC] = group.atomic.into();
+    words[PENDING] = group.pending.into();
+    words[USED_UP] = group.buffer.used_up as u32;
+    words[MESSAGES] = group.buffer.messages as u32;
+    words[LIST_COUNT] = group.buffer.frames.len() as u32;
+    words[DESCRIPTOR_COUNT] = group.descriptor.len() as u32;
+    words[DESCRIPTOR_AT..][..group.descriptor.len()].copy_from_slice(&group.descriptor);
+    write_frame_numbers(&group.buffer.frames, &mut words[LIST_AT..]);
+}
+
+fn write_frame(frame: &Frame, words: &mut [u32]) {
+    for (place, words) in frame.iter().zip(words.chunks_exact_mut(PLACE_WORDS)) {
+        words[0] = place.length;
+        words[1..].copy_from_slice(&place.words);
+    }
+}
+
+fn write_frame_numbers<'a>(frames: impl IntoIterator<Item = &'a usize>, words: &mut [u32]) {
+    for (word, &frame) in words.iter_mut().zip(frames) {
+        *word = frame as u32;
+    }
+}

@@ -1,0 +1,498 @@
+//! The paper's "The node" as ordinary records, and its "Each step".
+
+use std::collections::VecDeque;
+
+/// "Groups are 1 to 8."
+pub const GROUPS: usize = 8;
+/// "A message has a group and 1 to 8 words."
+pub const MESSAGE_WORDS: usize = 8;
+/// "The hardware queue holds at most 16 messages of all groups."
+pub const QUEUE_PLACES: usize = 16;
+/// "There are 32 page frames."
+pub const FRAMES: usize = 32;
+/// "A frame holds 8 messages."
+pub const FRAME_PLACES: usize = 8;
+/// "a descriptor of 0 to 8 words"
+pub const DESCRIPTOR_WORDS: usize = 8;
+/// "At 256: timeout"
+pub const TIMEOUT: u32 = 256;
+/// "n single ticks, 1 to 65,535"
+pub const MOST_TICKS: u32 = 65_535;
+/// "node 0 to 63"
+pub const LAST_NODE: u32 = 63;
+
+/// The operations of the paper's table, with the numbers as they were asked for.
+#[derive(Clone, Debug, PartialEq, Eq)]
+pub enum Operation {
+    Arrival {
+        group: u32,
+        words: Vec<u32>,
+    },
+    Switch {
+        group: u32,
+    },
+    Ticks {
+        count: u32,
+    },
+    MessageLength,
+    MessageWord {
+        index: u32,
+    },
+    Dispose,
+    BeginAtomic,
+    EndAtomic,
+    Describe {
+        word: u32,
+    },
+    Launch {
+        node: u32,
+    },
+    /// "unknown operation or unreadable line"
+    Unknown,
+}
+
+/// "Who can cause a refusal": the answers other than 0.
+#[derive(Clone, Copy, Debug, PartialEq, Eq)]
+pub enum Refusal {
+    NotANode = 1,
+    Unknown = 2,
+    ArrivalGroup = 3,
+    ArrivalWords = 4,
+    QueueFull = 5,
+    FramesPledged = 6,
+    NobodyRuns = 7,
+    LineEmpty = 8,
+    PastMessage = 9,
+    UpcallPending = 10,
+    DescriptorFull = 11,
+    DescriptorEmpty = 12,
+    LaunchNode = 13,
+    SwitchGroup = 14,
+    TickCount = 15,
+}
+
+/// "Trap: 1 dispose-extend, .. 2 atomicity-extend, .. 3 timeout, on T; else 0."
+#[derive(Clone, Copy, Debug, Default, PartialEq, Eq)]
+pub enum Trap {
+    #[default]
+    None = 0,
+    DisposeExtend = 1,
+    AtomicityExtend = 2,
+    Timeout = 3,
+}
+
+/// What an accepted launch sends.
+#[derive(Clone, Debug, PartialEq, Eq)]
+pub struct Launched {
+    pub node: u32,
+    pub group: u32,
+    pub words: Vec<u32>,
+}
+
+/// A step's report. Its default is that of an accepted step of which nothing is to be told.
+#[derive(Clone, Debug, Default, PartialEq, Eq)]
+pub struct Report {
+    pub answer: u32,
+    pub value: u32,
+    pub trap: Trap,
+    pub upcall: u32,
+    pub moved: u32,
+    pub launched: Option<Launched>,
+}
+
+impl Report {
+    /// "A refused step reports its number and zeros."
+    pub fn refused(refusal: Refusal) -> Self {
+        Report {
+            answer: refusal as u32,
+            ..Report::default()
+        }
+    }
+
+    pub fn accepted(&self) -> bool {
+        self.answer == 0
+    }
+
+    fn of_value(value: u32) -> Self {
+        Report {
+            value,
+            ..Report::default()
+        }
+    }
+
+    fn of_trap(trap: Trap) -> Self {
+        Report {
+            trap,
+            ..Report::default()
+        }
+    }
+}
+
+/// A message in the hardware queue.
+#[derive(Clone, Debug, PartialEq, Eq)]
+pub struct Message {
+    pub group: usize,
+    pub words: Vec<u32>,
+}
+
+/// One of a frame's eight places. A place that holds no waiting message keeps its last length and
+/// words: "Freed words, and the length kept with each message, stay unchanged."
+#[derive(Clone, Copy, Debug, Default, PartialEq, Eq)]
+pub struct Place {
+    pub length: u32,
+    pub words: [u32; MESSAGE_WORDS],
+}
+
+impl Place {
+    fn holding(message: &[u32]) -> Self {
+        let mut place = Place {
+            length: message.len() as u32,
+            ..Place::default()
+        };
+        place.words[..message.len()].copy_from_slice(message);
+        place
+    }
+
+    fn message(&self) -> &[u32] {
+        &self.words[..self.length as usize]
+    }
+}
+
+pub type Frame = [Place; FRAME_PLACES];
+
+/// "Each group has a virtual buffer: a list of frames, filled in order."
+#[derive(Clone, Debug, Default, PartialEq, Eq)]
+pub struct Buffer {
+    /// h: "the used-up places before the first".
+    pub used_up: usize,
+    /// n: "its messages".
+    pub messages: usize,
+    pub frames: VecDeque<usize>,
+}
+
+impl Buffer {
+    /// Where the messages stand: a frame, and a place in it.
+    fn places(&self) -> impl Iterator<Item = (usize, usize)> + '_ {
+        let places = self.used_up..self.used_up + self.messages;
+        places.map(|place| (self.frames[place / FRAME_PLACES], place % FRAME_PLACES))
+    }
+
+    /// The place after the last message; a frame is taken from the free line's front if the list
+    /// has no room for it.
+    fn next_place(&mut self, free: &mut VecDeque<usize>) -> (usize, usize) {
+        let place = self.used_up + self.messages;
+        if place == self.frames.len() * FRAME_PLACES {
+            // Settling keeps every pledge, and the pledges are never above the frames.
+            self.frames
+                .push_back(free.pop_front().expect("a frame was pledged"));
+        }
+        self.messages += 1;
+        (self.frames[place / FRAME_PLACES], place % FRAME_PLACES)
+    }
+
+    /// Uses up the first message's place. "A frame whose places are all used up is freed; when n
+    /// becomes 0 its last frame is freed too", and joins the free line's end.
+    fn use_up_first(&mut self, free: &mut VecDeque<usize>) {
+        self.used_up += 1;
+        self.messages -= 1;
+        if self.messages == 0 || self.used_up == FRAME_PLACES {
+            self.used_up = 0;
+            free.extend(self.frames.pop_front());
+        }
+    }
+}
+
+/// A group's flags, buffer and descriptor: "All survive the loss of the processor."
+#[derive(Clone, Debug, Default, PartialEq, Eq)]
+pub struct Group {
+    pub atomic: bool,
+    pub pending: bool,
+    pub buffer: Buffer,
+    pub descriptor: Vec<u32>,
+}
+
+/// "(h + n + k) / 8 rounded up": the frames that so many places ask for.
+pub fn frames_for(places: u64) -> u64 {
+    places.div_ceil(FRAME_PLACES as u64)
+}
+
+#[derive(Clone, Debug, PartialEq, Eq)]
+pub struct Node {
+    /// "The running group is 0 (nobody) or one of them."
+    pub running: usize,
+    pub timer: u32,
+    pub queue: VecDeque<Message>,
+    pub free: VecDeque<usize>,
+    /// Group g stands at g - 1.
+    pub groups: [Group; GROUPS],
+    pub frames: [Frame; FRAMES],
+}
+
+impl Node {
+    /// "At power-on nobody runs, every queue, buffer, flag and descriptor is empty or off, all
+    /// message words are 0." The free line is 0 to 31.
+    pub fn power_on() -> Self {
+        Node {
+            running: 0,
+            timer: 0,
+            queue: VecDeque::new(),
+            free: (0..FRAMES).collect(),
+            groups: Default::default(),
+            frames: Default::default(),
+        }
+    }
+
+    /// "An accepted operation acts, then come settling and the upcall." A refused one changes
+    /// nothing: "no settling, no upcall".
+    pub fn step(&mut self, operation: &Operation) -> Report {
+        if let Some(refusal) = self.refusal(operation) {
+            return Report::refused(refusal);
+        }
+        let mut report = self.act(operation);
+        report.moved += self.settle();
+        report.upcall = self.upcall();
+        report
+    }
+
+    /// "Its line is its buffer, then its messages in the hardware queue." Nobody's line is empty.
+    pub fn line(&self, group: usize) -> impl Iterator<Item = &[u32]> {
+        let buffered = group
+            .checked_sub(1)
+            .into_iter()
+            .flat_map(|at| self.groups[at].buffer.places())
+            .map(|(frame, place)| self.frames[frame][place].message());
+        let queued = self
+            .queue
+            .iter()
+            .filter(move |message| message.group == group)
+            .map(|message| message.words.as_slice());
+        buffered.chain(queued)
+    }
+
+    /// The group's pledge with `more` messages beyond those in the hardware queue.
+    fn pledge(&self, group: usize, more: usize) -> u64 {
+        let buffer = &self.groups[group - 1].buffer;
+        let queued = self.queue.iter().filter(|m| m.group == group).count();
+        frames_for((buffer.used_up + buffer.messages + queued + more) as u64)
+    }
+
+    /// "A group is buffered while n is above 0, else direct."
+    fn is_buffered(&self, group: usize) -> bool {
+        self.groups[group - 1].buffer.messages > 0
+    }
+
+    /// The refusals in the paper's order; 1 is the keeper's and was tested before.
+    fn refusal(&self, operation: &Operation) -> Option<Refusal> {
+        match operation {
+            Operation::Unknown => Some(Refusal::Unknown),
+            Operation::Arrival { group, words } => self.arrival_refusal(*group, words),
+            Operation::Switch { group } if *group > GROUPS as u32 => Some(Refusal::SwitchGroup),
+            Operation::Switch { .. } => None,
+            Operation::Ticks { count } if !(1..=MOST_TICKS).contains(count) => {
+                Some(Refusal::TickCount)
+            }
+            Operation::Ticks { .. } => None,
+            _ if self.running == 0 => Some(Refusal::NobodyRuns),
+            _ => self.user_refusal(operation),
+        }
+    }
+
+    fn arrival_refusal(&self, group: u32, words: &[u32]) -> Option<Refusal> {
+        if !(1..=GROUPS as u32).contains(&group) {
+            Some(Refusal::ArrivalGroup)
+        } else if !(1..=MESSAGE_WORDS).contains(&words.len()) {
+            Some(Refusal::ArrivalWords)
+        } else if self.queue.len() == QUEUE_PLACES {
+            Some(Refusal::QueueFull)
+        } else if self.pledges_with(group as usize) > FRAMES as u64 {
+            Some(Refusal::FramesPledged)
+        } else {
+            None
+        }
+    }
+
+    /// What the pledges would sum to with one more message for `arriving`.
+    fn pledges_with(&self, arriving: usize) -> u64 {
+        (1..=GROUPS)
+            .map(|group| self.pledge(group, usize::from(group == arriving)))
+            .sum()
+    }
+
+    /// The refusals of the running group's own operations, 7 apart.
+    fn user_refusal(&self, operation: &Operation) -> Option<Refusal> {
+        let group = &self.groups[self.running - 1];
+        match operation {
+            Operation::Dispose => self.first().is_none().then_some(Refusal::LineEmpty),
+            Operation::MessageWord { index } => match self.first() {
+                None => Some(Refusal::LineEmpty),
+                Some(message) => (*index as usize >= message.len()).then_some(Refusal::PastMessage),
+            },
+            Operation::EndAtomic => group.pending.then_some(Refusal::UpcallPending),
+            Operation::Describe { .. } => {
+                (group.descriptor.len() == DESCRIPTOR_WORDS).then_some(Refusal::DescriptorFull)
+            }
+            Operation::Launch { .. } if group.descriptor.is_empty() => {
+                Some(Refusal::DescriptorEmpty)
+            }
+            Operation::Launch { node } => (*node > LAST_NODE).then_some(Refusal::LaunchNode),
+            _ => None,
+        }
+    }
+
+    /// The words of the first message in the running group's line.
+    fn first(&self) -> Option<&[u32]> {
+        self.line(self.running).next()
+    }
+
+    fn running_group(&mut self) -> &mut Group {
+        &mut self.groups[self.running - 1]
+    }
+
+    /// The effects of the paper's table, for an operation that is not refused.
+    fn act(&mut self, operation: &Operation) -> Report {
+        match operation {
+            Operation::Arrival { group, words } => self.arrive(*group as usize, words),
+            Operation::Switch { group } => self.switch(*group as usize),
+            Operation::Ticks { count } => self.ticks(*count),
+            Operation::MessageLength => {
+                Report::of_value(self.first().map_or(0, <[u32]>::len) as u32)
+            }
+            Operation::MessageWord { index } => {
+                let message = self.first().expect("an empty line was refused");
+                Report::of_value(message[*index as usize])
+            }
+            Operation::Dispose => self.dispose(),
+            Operation::BeginAtomic => self.begin_atomic(),
+            Operation::EndAtomic => self.end_atomic(),
+            Operation::Describe { word } => self.describe(*word),
+            Operation::Launch { node } => self.launch(*node),
+            Operation::Unknown => unreachable!("an unknown operation was refused"),
+        }
+    }
+
+    fn arrive(&mut self, group: usize, words: &[u32]) -> Report {
+        let words = words.to_vec();
+        self.queue.push_back(Message { group, words });
+        Report::default()
+    }
+
+    /// "To the one already running (or 0 to 0): changes nothing", so the timer stays.
+    fn switch(&mut self, group: usize) -> Report {
+        if group != self.running {
+            self.running = group;
+            self.timer = 0;
+        }
+        Report::default()
+    }
+
+    /// "A tick adds 1 to the timer if the hardware queue isn't empty": on an empty queue all
+    /// further ticks change nothing, so one step has at most one timeout.
+    fn ticks(&mut self, count: u32) -> Report {
+        for _ in 0..count {
+            if self.queue.is_empty() {
+                break;
+            }
+            self.timer += 1;
+            if self.timer == TIMEOUT {
+                return self.timeout();
+            }
+        }
+        Report::default()
+    }
+
+    /// "the whole hardware queue moves to the buffers, timer 0"
+    fn timeout(&mut self) -> Report {
+        let moved = self.queue.len() as u32;
+        while !self.queue.is_empty() {
+            self.buffer_head();
+        }
+        self.timer = 0;
+        Report {
+            moved,
+            ..Report::of_trap(Trap::Timeout)
+        }
+    }
+
+    /// "removes that message; pending off; timer 0"
+    fn dispose(&mut self) -> Report {
+        self.timer = 0;
+        self.running_group().pending = false;
+        if self.is_buffered(self.running) {
+            let buffer = &mut self.groups[self.running - 1].buffer;
+            buffer.use_up_first(&mut self.free);
+            Report::of_trap(Trap::DisposeExtend)
+        } else {
+            // Settled: the head of the queue is the running group's.
+            self.queue.pop_front();
+            Report::default()
+        }
+    }
+
+    fn begin_atomic(&mut self) -> Report {
+        self.running_group().atomic = true;
+        Report::default()
+    }
+
+    fn end_atomic(&mut self) -> Report {
+        self.running_group().atomic = false;
+        if self.is_buffered(self.running) {
+            Report::of_trap(Trap::AtomicityExtend)
+        } else {
+            Report::default()
+        }
+    }
+
+    fn describe(&mut self, word: u32) -> Report {
+        let descriptor = &mut self.running_group().descriptor;
+        descriptor.push(word);
+        Report::of_value(descriptor.len() as u32)
+    }
+
+    fn launch(&mut self, node: u32) -> Report {
+        let group = self.running as u32;
+        let words = std::mem::take(&mut self.running_group().descriptor);
+        let report = Report::of_value(words.len() as u32);
+        Report {
+            launched: Some(Launched { node, group, words }),
+            ..report
+        }
+    }
+
+    /// "while the hardware queue has a head that is not the running group's, or whose group is
+    /// buffered, that head moves"; returns how many did.
+    fn settle(&mut self) -> u32 {
+        let mut moved = 0;
+        while self.queue.front().is_some_and(|head| !self.may_stay(head)) {
+            self.buffer_head();
+            moved += 1;
+        }
+        if self.queue.is_empty() {
+            self.timer = 0;
+        }
+        moved
+    }
+
+    fn may_stay(&self, head: &Message) -> bool {
+        head.group == self.running && !self.is_buffered(head.group)
+    }
+
+    /// Moves the head of the hardware queue to the end of its group's buffer.
+    fn buffer_head(&mut self) {
+        let head = self.queue.pop_front().expect("the queue has a head");
+        let buffer = &mut self.groups[head.group - 1].buffer;
+        let (frame, place) = buffer.next_place(&mut self.free);
+        self.frames[frame][place] = Place::holding(&head.words);
+    }
+
+    /// "if the running group isn't atomic and its line isn't empty, it becomes atomic and pending,
+    /// and the report names it"
+    fn upcall(&mut self) -> u32 {
+        if self.first().is_none() || self.running_group().atomic {
+            return 0;
+        }
+        let group = self.running_group();
+        group.atomic = true;
+        group.pending = true;
+        self.running as u32
+    }
+}

@@ -1,0 +1,129 @@
+//! The random scripts: fixed by their seed, and leading where their flavour says.
+
+use judge::counts::Counts;
+use judge::generator::{Flavour, FLAVOURS};
+use judge::random::Random;
+use judge::script;
+
+#[test]
+fn splitmix64_gives_its_known_numbers() {
+    let mut random = Random::new(1_234_567);
+    let drawn: Vec<u64> = (0..5).map(|_| random.draw()).collect();
+    let known = [
+        6_457_827_717_110_365_317,
+        3_203_168_211_198_807_973,
+        9_817_491_932_198_370_423,
+        4_593_380_528_125_082_431,
+        16_408_922_859_458_223_821,
+    ];
+    assert_eq!(drawn, known);
+}
+
+#[test]
+fn a_seed_fixes_every_byte() {
+    for flavour in &FLAVOURS {
+        assert_eq!(flavour.script(7, 500), flavour.script(7, 500));
+        assert_ne!(flavour.script(7, 500), flavour.script(8, 500));
+    }
+}
+
+#[test]
+fn a_script_has_as_many_lines_as_asked_for() {
+    for flavour in &FLAVOURS {
+        for lines in [0, 1, 2, 17, 300] {
+            let mut met = 0;
+            let script = flavour.script(lines, lines);
+            script::run(script.as_slice(), |_, _| {
+                met += 1;
+                Ok(())
+            })
+            .expect("memory is read without error");
+            assert_eq!(met, lines, "{}", flavour.name);
+        }
+    }
+}
+
+/// The flavours' scripts together, or one's.
+fn counts(flavours: &[Flavour]) -> Counts {
+    let mut counts = Counts::default();
+    for flavour in flavours {
+        let script = flavour.script(1, 2000);
+        counts
+            .add_script(script.as_slice())
+            .expect("memory is read without error");
+    }
+    counts
+}
+
+fn named(name: &str) -> &'static Flavour {
+    Flavour::named(name).expect("a flavour of this name")
+}
+
+#[test]
+fn all_flavours_together_meet_every_answer_and_trap() {
+    assert_eq!(counts(&FLAVOURS).missing(), Vec::<String>::new());
+}
+
+/// Each flavour is there for some answers and traps; it meets them alone.
+#[test]
+fn each_flavour_meets_what_it_is_for() {
+    let purposes = [
+        ("uniform", "trap 1, trap 2, trap 3, answer 7"),
+        ("direct", "trap 0, answer 8"),
+        ("arrivals", "answer 3, answer 4, answer 5, answer 6"),
+        ("switches", "answer 14"),
+        ("ticks", "answer 15, trap 3"),
+        ("bad", "answer 2"),
+        ("hogs", "answer 10, trap 3"),
+        ("disposals", "answer 8, answer 9, trap 1, trap 2"),
+        ("launches", "answer 11, answer 12, answer 13"),
+        (
+            "mixed",
+            "answer 2, answer 5, answer 6, trap 1, trap 2, trap 3",
+        ),
+    ];
+    assert_eq!(purposes.len(), FLAVOURS.len());
+    for (name, purpose) in purposes {
+        let missing = counts(std::slice::from_ref(named(name))).missing();
+        for met in purpose.split(", ") {
+            assert!(!missing.contains(&met.to_string()), "{name}: {met}");
+        }
+    }
+}
+
+#[test]
+fn nothing_met_is_all_missing() {
+    let missing = Counts::default().missing();
+    assert_eq!(missing.len(), 14 + 4);
+    assert_eq!(missing[0], "answer 2");
+    assert_eq!(missing[17], "trap 3");
+}
+
+#[test]
+fn bad_scripts_have_over_long_lines_odd_bytes_and_no_last_newline() {
+    let script = named("bad").script(1, 2000);
+    let lines: Vec<&[u8]> = script.split(|&byte| byte == b'\n').collect();
+    for length in [0, 128, 129] {
+        assert!(lines.iter().any(|line| line.len() == length), "{length}");
+    }
+    assert!(lines.iter().any(|line| line.len() > 1000));
+    for byte in [0, b'\r', b' ', 0x80, 0xff] {
+        assert!(script.contains(&byte), "{byte}");
+    }
+    assert_ne!(script.last(), Some(&b'\n'));
+}
+
+#[test]
+fn good_flavours_have_readable_lines_only() {
+    for flavour in FLAVOURS
+        .iter()
+        .filter(|f| !["bad", "mixed"].contains(&f.name))
+    {
+        let missing = counts(std::slice::from_ref(flavour)).missing();
+        assert!(
+            missing.contains(&"answer 2".to_string()),
+            "{}",
+            flavour.name
+        );
+    }
+}

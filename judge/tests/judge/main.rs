@@ -1,0 +1,9 @@
+//! The judge's own tests: every case that the paper gives.
+
+mod cases;
+mod generator;
+mod memory;
+mod private_line;
+mod programs;
+mod readings;
+mod support;

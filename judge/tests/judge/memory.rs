@@ -1,0 +1,470 @@
+//! The node in lent memory: where each number stands, the memory test, and what a step leaves
+//! alone. The numbers of the map stand here a second time, as docs/MEMORY.md has them.
+
+use judge::memory::{self, broken_clause, clauses, head, power_on, step};
+use judge::node::{Node, Operation, Refusal, Report};
+use judge::random::Random;
+use judge::script;
+
+use crate::support;
+use crate::support::{memory_after, random_runs};
+
+const RUNNING: usize = 0;
+const TIMER: usize = 1;
+const QUEUE_COUNT: usize = 2;
+const FREE_COUNT: usize = 3;
+const FREE: usize = 164;
+
+const ATOMIC: usize = 0;
+const PENDING: usize = 1;
+const USED_UP: usize = 2;
+const MESSAGES: usize = 3;
+const LIST_COUNT: usize = 4;
+const DESCRIPTOR_COUNT: usize = 5;
+const DESCRIPTOR: usize = 6;
+const LIST: usize = 14;
+
+fn queue(place: usize) -> usize {
+    4 + 10 * place
+}
+
+fn record(group: usize) -> usize {
+    196 + 46 * (group - 1)
+}
+
+fn frame(frame: usize, place: usize) -> usize {
+    564 + 72 * frame + 9 * place
+}
+
+/// Running group 1 is direct with two messages in the queue and one of group 2 between them, the
+/// timer at 5 and a descriptor of two words; group 3 has 8 buffered messages after 2 used-up
+/// places in the frames 0 and 1.
+fn busy() -> Vec<u32> {
+    memory_after(
+        "A,3,10,11 A,3,20,21 A,3,30,31 A,3,40 A,3,50 A,3,60 A,3,70 A,3,80 A,3,90 A,3,100 S,3 D D \
+         S,1 P,9 P,8 A,1,7 A,2,5,6 A,1,4,4,4 T,5",
+    )
+}
+
+/// Takes the last frame of the free line for a group's list.
+fn take_last_free(memory: &mut [u32], group: usize) -> usize {
+    memory[FREE_COUNT] -= 1;
+    let last = FREE + memory[FREE_COUNT] as usize;
+    let taken = std::mem::take(&mut memory[last]);
+    let end = record(group) + LIST + memory[record(group) + LIST_COUNT] as usize;
+    memory[end] = taken;
+    memory[record(group) + LIST_COUNT] += 1;
+    taken as usize
+}
+
+#[test]
+fn power_on_is_0_but_for_the_free_line() {
+    let mut memory = vec![0xdead_beef; 2868];
+    assert_eq!(power_on(&mut memory), 0);
+    let mut expected = vec![0; 2868];
+    expected[FREE_COUNT] = 32;
+    for place in 0..32 {
+        expected[FREE + place] = place as u32;
+    }
+    assert_eq!(memory, expected);
+    assert_eq!(broken_clause(&memory), None);
+    assert_eq!(memory::read(&memory), Some(Node::power_on()));
+}
+
+#[test]
+fn each_number_stands_where_the_map_says() {
+    let mut expected = vec![0; 2868];
+    let mut put = |at: usize, words: &[u32]| expected[at..at + words.len()].copy_from_slice(words);
+    put(0, &[1, 5, 3, 30]);
+    put(queue(0), &[1, 1, 7]);
+    put(queue(1), &[2, 2, 5, 6]);
+    put(queue(2), &[1, 3, 4, 4, 4]);
+    put(FREE, &(2..32).collect::<Vec<u32>>());
+    put(record(1), &[1, 1, 0, 0, 0, 2, 9, 8]);
+    put(record(3), &[1, 0, 2, 8, 2, 0]);
+    put(record(3) + LIST, &[0, 1]);
+    put(frame(0, 0), &[2, 10, 11]);
+    put(frame(0, 1), &[2, 20, 21]);
+    put(frame(0, 2), &[2, 30, 31]);
+    for place in 3..10 {
+        put(frame(place / 8, place % 8), &[1, 10 * (place as u32 + 1)]);
+    }
+    assert_eq!(busy(), expected);
+}
+
+#[test]
+fn the_last_words_of_the_map_are_met() {
+    let memory = memory_after(&"A,8,1,2,3,4,5,6,7,8 ".repeat(256));
+    assert_eq!(memory[record(8) + MESSAGES], 256);
+    assert_eq!(memory[record(8) + LIST + 31], 31);
+    assert_eq!(memory[frame(31, 7)..], [8, 1, 2, 3, 4, 5, 6, 7, 8]);
+    assert_eq!(memory.len(), frame(31, 7) + 9);
+}
+
+#[test]
+fn freed_words_and_kept_lengths_stay() {
+    let memory = memory_after("A,1,7,8,9 S,1 D");
+    assert_eq!(memory[frame(0, 0)..][..9], [3, 7, 8, 9, 0, 0, 0, 0, 0]);
+    assert_eq!(memory[record(1)..][..6], [1, 0, 0, 0, 0, 0]);
+}
+
+#[test]
+fn a_written_message_clears_the_words_past_its_length() {
+    let script = format!("A,1,7,8,9 S,1 D N S,0 {}", "A,2,1 ".repeat(249));
+    let memory = memory_after(&script);
+    assert_eq!(memory[record(2) + LIST + 31], 0);
+    assert_eq!(memory[frame(0, 0)..][..9], [1, 1, 0, 0, 0, 0, 0, 0, 0]);
+}
+
+#[test]
+fn a_queue_place_that_becomes_unused_is_0_whole() {
+    let memory = memory_after("S,1 B A,1,7,7,7 A,1,8 D");
+    assert_eq!(memory[queue(0)..][..10], [1, 1, 8, 0, 0, 0, 0, 0, 0, 0]);
+    assert_eq!(memory[queue(1)..][..10], [0; 10]);
+}
+
+#[test]
+fn a_frame_is_taken_from_the_front_and_freed_to_the_end() {
+    let memory = memory_after("A,1,1 A,2,2 A,3,3 S,2 D S,1 D S,0 A,4,4");
+    assert_eq!(memory[record(4) + LIST], 3);
+    let line: Vec<u32> = (4..32).chain([1, 0]).collect();
+    assert_eq!(memory[FREE_COUNT], 30);
+    assert_eq!(memory[FREE..][..32], [line.as_slice(), &[0, 0]].concat());
+}
+
+#[test]
+fn a_used_up_frame_is_freed_while_messages_remain() {
+    let script = format!("{}S,1 {}", "A,1,7 ".repeat(9), "D ".repeat(8));
+    let memory = memory_after(&script);
+    assert_eq!(memory[record(1)..][..5], [1, 0, 0, 1, 1]);
+    assert_eq!(memory[record(1) + LIST..][..2], [1, 0]);
+    assert_eq!(memory[FREE + 30], 0);
+    assert_eq!(memory[FREE_COUNT], 31);
+}
+
+/// A change to the words of the busy node that breaks a clause.
+type Break = (&'static str, fn(&mut Vec<u32>));
+
+const BREAKS: &[Break] = &[
+    ("running is 0 to 8", |m| m[RUNNING] = 9),
+    ("running is 0 to 8", |m| m[RUNNING] = u32::MAX),
+    ("counts are within the bounds", |m| m[QUEUE_COUNT] = 17),
+    ("counts are within the bounds", |m| m[FREE_COUNT] = 33),
+    ("counts are within the bounds", |m| {
+        m[record(8) + LIST_COUNT] = 33
+    }),
+    ("counts are within the bounds", |m| {
+        m[record(8) + DESCRIPTOR_COUNT] = 9
+    }),
+    ("counts are within the bounds", |m| {
+        m[QUEUE_COUNT] = u32::MAX
+    }),
+    ("groups are within the bounds", |m| m[queue(1)] = 0),
+    ("groups are within the bounds", |m| m[queue(2)] = 9),
+    ("h is within the bounds", |m| m[record(3) + USED_UP] = 8),
+    ("timer is within the bounds", |m| m[TIMER] = 256),
+    ("each frame stands once", |m| m[FREE] = 3),
+    ("each frame stands once", |m| m[FREE] = 32),
+    ("each frame stands once", |m| m[record(3) + LIST + 1] = 31),
+    ("each frame stands once", |m| m[record(3) + LIST] = 1),
+    ("each frame stands once", |m| {
+        m[FREE_COUNT] = 29;
+        m[FREE + 29] = 0;
+    }),
+    ("each list has its rounded-up length", |m| {
+        take_last_free(m, 2);
+    }),
+    ("each list has its rounded-up length", |m| {
+        m[record(3) + MESSAGES] = 15
+    }),
+    ("each list has its rounded-up length", |m| {
+        m[record(3) + MESSAGES] = 6
+    }),
+    ("each list has its rounded-up length", |m| {
+        m[record(3) + MESSAGES] = u32::MAX
+    }),
+    ("waiting messages' lengths are within the bounds", |m| {
+        m[queue(0) + 1] = 0
+    }),
+    ("waiting messages' lengths are within the bounds", |m| {
+        m[queue(2) + 1] = 9
+    }),
+    ("waiting messages' lengths are within the bounds", |m| {
+        m[frame(0, 2)] = 0
+    }),
+    ("waiting messages' lengths are within the bounds", |m| {
+        m[frame(1, 1)] = 9
+    }),
+    ("flags are 0 or 1", |m| m[record(1) + ATOMIC] = 2),
+    ("flags are 0 or 1", |m| m[record(8) + PENDING] = 2),
+    ("unused places of the queue are 0", |m| m[queue(3)] = 1),
+    ("unused places of the queue are 0", |m| m[queue(3) + 1] = 1),
+    ("unused places of the queue are 0", |m| m[queue(15) + 9] = 1),
+    ("unused places of the free line are 0", |m| m[FREE + 30] = 1),
+    ("unused places of the free line are 0", |m| m[FREE + 31] = 1),
+    ("unused places of the lists are 0", |m| {
+        m[record(3) + LIST + 2] = 1
+    }),
+    ("unused places of the lists are 0", |m| {
+        m[record(8) + LIST + 31] = 1
+    }),
+    ("unused descriptor words are 0", |m| {
+        m[record(1) + DESCRIPTOR + 2] = 1
+    }),
+    ("unused descriptor words are 0", |m| {
+        m[record(8) + DESCRIPTOR + 7] = 1
+    }),
+    ("a waiting message's words past its length are 0", |m| {
+        m[queue(0) + 3] = 1
+    }),
+    ("a waiting message's words past its length are 0", |m| {
+        m[frame(0, 2) + 3] = 1
+    }),
+    ("a waiting message's words past its length are 0", |m| {
+        m[frame(1, 1) + 8] = 1
+    }),
+    ("h is 0 where n is 0", |m| {
+        take_last_free(m, 5);
+        m[record(5) + USED_UP] = 1;
+    }),
+    ("pending only with atomic and a line not empty", |m| {
+        m[record(3)..][..2].copy_from_slice(&[0, 1])
+    }),
+    ("pending only with atomic and a line not empty", |m| {
+        m[record(5)..][..2].copy_from_slice(&[1, 1])
+    }),
+    ("pending only with atomic and a line not empty", |m| {
+        m[record(1) + ATOMIC] = 0
+    }),
+    ("a running group with a line not empty is atomic", |m| {
+        m[record(1)..][..2].copy_from_slice(&[0, 0])
+    }),
+    ("the queue's head is the running group's", |m| {
+        m[RUNNING] = 0
+    }),
+    ("the queue's head is the running group's", |m| {
+        m[RUNNING] = 4
+    }),
+    ("the group of the queue's head is direct", |m| {
+        let taken = take_last_free(m, 1);
+        m[record(1) + MESSAGES] = 1;
+        m[frame(taken, 0)] = 1;
+    }),
+    ("if the queue is empty the timer is 0", |m| {
+        m[QUEUE_COUNT] = 0;
+        m[queue(0)..queue(3)].fill(0);
+        m[record(1) + PENDING] = 0;
+    }),
+];
+
+#[test]
+fn each_clause_broken_is_answered_1_and_memory_untouched() {
+    for (clause, change) in BREAKS {
+        let mut memory = busy();
+        change(&mut memory);
+        expect_no_node(&memory, clause);
+    }
+}
+
+const PLEDGES: &str = "pledges sum to at most 32";
+
+#[test]
+fn pledges_above_the_frames_are_answered_1() {
+    let mut memory = memory_after(&format!("{}S,1 A,1,7", "A,2,7 ".repeat(248)));
+    assert_eq!(broken_clause(&memory), None);
+    let taken = take_last_free(&mut memory, 2);
+    memory[record(2) + MESSAGES] = 249;
+    memory[frame(taken, 0)] = 1;
+    expect_no_node(&memory, PLEDGES);
+}
+
+/// Every operation is answered 1, an unknown one too, and the head is an empty part.
+fn expect_no_node(memory: &[u32], clause: &str) {
+    assert_eq!(broken_clause(memory), Some(clause));
+    assert_eq!(memory::read(memory), None);
+    assert!(head(memory).is_empty(), "{clause}");
+    for line in [
+        "A,1,7", "S,2", "T,1", "M", "E,0", "D", "B", "N", "P,1", "L,0", "?", "S,9",
+    ] {
+        let mut after = memory.to_vec();
+        let report = step(&mut after, &script::read(line.as_bytes()));
+        assert_eq!(
+            report,
+            Report::refused(Refusal::NotANode),
+            "{clause}: {line}"
+        );
+        assert_eq!(after, memory, "{clause}: {line}");
+    }
+}
+
+/// The clause on pledges is broken by a node of its own.
+#[test]
+fn every_clause_has_its_break() {
+    let broken: Vec<&str> = BREAKS.iter().map(|(clause, _)| *clause).collect();
+    for clause in clauses().filter(|clause| *clause != PLEDGES) {
+        assert!(broken.contains(&clause), "{clause}");
+    }
+}
+
+#[test]
+fn power_on_makes_a_node_of_what_is_none() {
+    for (_, change) in BREAKS {
+        let mut memory = busy();
+        change(&mut memory);
+        assert_eq!(power_on(&mut memory), 0);
+        assert_eq!(memory, support::power_on());
+    }
+}
+
+#[test]
+fn memory_too_short_is_answered_1_and_untouched() {
+    for size in [0, 1, 564, 2867] {
+        let mut memory = busy()[..size].to_vec();
+        assert_eq!(power_on(&mut memory), 1);
+        expect_no_node(&memory, "memory too short");
+        assert_eq!(memory, busy()[..size]);
+    }
+}
+
+#[test]
+fn memory_past_the_nodes_size_is_neither_looked_at_nor_touched() {
+    let rest = [0xdead_beef, 1, 2, 3];
+    let mut memory = [vec![7; 2868], rest.to_vec()].concat();
+    assert_eq!(power_on(&mut memory), 0);
+    let mut node = Node::power_on();
+    for operation in random_runs(1, 60).flatten() {
+        assert_eq!(step(&mut memory, &operation), node.step(&operation));
+        assert_eq!(memory[2868..], rest);
+    }
+}
+
+#[test]
+fn an_unread_place_of_a_frame_may_hold_anything() {
+    let mut memory = busy();
+    let waiting = 2..10;
+    for place in (0..256).filter(|place| !waiting.contains(place)) {
+        memory[frame(place / 8, place % 8)..][..9].fill(u32::MAX);
+    }
+    assert_eq!(broken_clause(&memory), None);
+    let report = step(&mut memory, &Operation::Dispose);
+    assert!(report.accepted());
+    // The message of group 2 settled into frame 2; the place after it was left alone.
+    assert_eq!(memory[frame(2, 0)..][..9], [2, 5, 6, 0, 0, 0, 0, 0, 0]);
+    assert_eq!(memory[frame(2, 1)..][..9], [u32::MAX; 9]);
+    assert_eq!(memory[frame(0, 0)..][..9], [u32::MAX; 9]);
+}
+
+#[test]
+fn flags_of_groups_that_do_not_run_are_free_where_the_rules_leave_them() {
+    let mut memory = busy();
+    memory[record(3) + PENDING] = 1;
+    memory[record(5) + ATOMIC] = 1;
+    // Group 2 has a message in the queue only: that is a line not empty.
+    memory[record(2)..][..2].copy_from_slice(&[1, 1]);
+    assert_eq!(broken_clause(&memory), None);
+}
+
+#[test]
+fn an_older_copy_passes() {
+    let older = busy();
+    let mut memory = older.clone();
+    assert!(step(&mut memory, &Operation::Dispose).accepted());
+    assert_ne!(memory, older);
+    assert_eq!(broken_clause(&older), None);
+}
+
+#[test]
+fn steps_on_memory_agree_with_the_records() {
+    for run in random_runs(3, 1000) {
+        let mut memory = support::power_on();
+        let mut node = Node::power_on();
+        for operation in run {
+            let before = memory.clone();
+            let report = step(&mut memory, &operation);
+            assert_eq!(report, node.step(&operation));
+            assert_eq!(broken_clause(&memory), None, "after {operation:?}");
+            assert_eq!(memory::read(&memory).as_ref(), Some(&node));
+            if !report.accepted() {
+                assert_eq!(memory, before, "refused {operation:?}");
+            }
+            let first = node.line(node.running).next().unwrap_or(&[]);
+            assert_eq!(head(&memory), first);
+        }
+    }
+}
+
+#[test]
+fn a_refused_step_leaves_memory_as_it_was() {
+    let mut memory = busy();
+    let refused = [
+        ("?", 2),
+        ("A,0,1", 3),
+        ("A,1", 4),
+        ("E,1", 9),
+        ("N", 10),
+        ("L,64", 13),
+        ("S,9", 14),
+        ("T,0", 15),
+    ];
+    for (line, answer) in refused {
+        let report = step(&mut memory, &script::read(line.as_bytes()));
+        assert_eq!(report.answer, answer, "{line}");
+        assert_eq!(memory, busy(), "{line}");
+    }
+}
+
+/// Words changed at random: a step answers 1 or acts on a node, and never runs astray.
+#[test]
+fn spoiled_memory_is_refused_or_a_node() {
+    let mut random = Random::new(1);
+    let operations: Vec<Operation> = random_runs(1, 20).flatten().collect();
+    let mut refused = 0;
+    for operation in operations.iter().cycle().take(20_000) {
+        let mut memory = busy();
+        for _ in 0..random.between(1, 2) {
+            let at = random.between(0, 2867) as usize;
+            let at = if random.one_in(2) { at } else { at % 564 };
+            let near = random.between(0, 40) as u32;
+            memory[at] = random.pick(&[near, near, near, 256, u32::MAX]);
+        }
+        let before = memory.clone();
+        let report = step(&mut memory, operation);
+        if report.answer == 1 {
+            refused += 1;
+            assert_eq!(memory, before);
+        } else {
+            assert_eq!(broken_clause(&memory), None);
+        }
+    }
+    assert!((5_000..19_000).contains(&refused), "{refused}");
+}
+
+#[test]
+fn head_is_a_part_of_the_memory() {
+    let queued = busy();
+    assert_eq!(head(&queued), [7]);
+    assert_eq!(head(&queued).as_ptr(), queued[queue(0) + 2..].as_ptr());
+
+    let buffered = memory_after("A,2,1 A,3,10,11 A,3,20,21,22 S,3 D");
+    assert_eq!(head(&buffered), [20, 21, 22]);
+    assert_eq!(
+        head(&buffered).as_ptr(),
+        buffered[frame(1, 1) + 1..].as_ptr()
+    );
+}
+
+#[test]
+fn head_is_empty_without_a_message() {
+    assert!(head(&support::power_on()).is_empty());
+    assert!(head(&memory_after("A,1,7")).is_empty());
+    assert!(head(&memory_after("A,1,7 S,2")).is_empty());
+    assert!(head(&[]).is_empty());
+}
+
+#[test]
+fn head_crosses_to_the_second_frame() {
+    let script: String = (0..12).map(|word| format!("A,1,{word} ")).collect();
+    let memory = memory_after(&format!("{script}S,1 {}", "D ".repeat(9)));
+    assert_eq!(head(&memory), [9]);
+    assert_eq!(head(&memory).as_ptr(), memory[frame(1, 1) + 1..].as_ptr());
+}

@@ -1,0 +1,174 @@
+//! The two programs as they are called: streams, arguments and exit codes.
+
+use std::io::Write;
+use std::process::{Command, Output, Stdio};
+
+use crate::support::listing;
+
+fn judge() -> Command {
+    Command::new(env!("CARGO_BIN_EXE_judge"))
+}
+
+fn scripts(arguments: &str) -> Output {
+    Command::new(env!("CARGO_BIN_EXE_scripts"))
+        .args(arguments.split_whitespace())
+        .output()
+        .expect("the program runs")
+}
+
+/// Runs the judge on a script that comes through a pipe.
+fn judged(script: &[u8]) -> Output {
+    let mut child = judge()
+        .stdin(Stdio::piped())
+        .stdout(Stdio::piped())
+        .stderr(Stdio::piped())
+        .spawn()
+        .expect("the program runs");
+    let mut input = child.stdin.take().expect("a pipe");
+    std::thread::scope(|scope| {
+        scope.spawn(move || input.write_all(script).expect("the judge reads to the end"));
+        child.wait_with_output().expect("the program ends")
+    })
+}
+
+fn text(bytes: &[u8]) -> &str {
+    std::str::from_utf8(bytes).expect("text")
+}
+
+#[test]
+fn judge_turns_a_script_into_its_listing() {
+    for script in ["", "S,1\nA,1,7\nD\n", "S,1\nM", "\n"] {
+        let output = judged(script.as_bytes());
+        assert!(output.status.success());
+        assert_eq!(text(&output.stdout), listing(script.as_bytes()));
+        assert!(output.stderr.is_empty());
+    }
+}
+
+#[test]
+fn judge_reads_big_inputs_and_lines_of_any_length() {
+    let mut script = b"S,1\n".repeat(200_000);
+    script.extend(b"A,1,".repeat(5_000_000));
+    script.extend(b"\nS,2");
+    let output = judged(&script);
+    assert!(output.status.success());
+    let listed = text(&output.stdout);
+    assert_eq!(listed.lines().count(), 1 + 200_002);
+    assert!(listed.ends_with("\n200001,2,0,0,0,0\n200002,0,0,0,0,0\n"));
+}
+
+#[test]
+fn judge_ends_quietly_when_its_reader_goes_away() {
+    let mut child = judge()
+        .stdin(Stdio::piped())
+        .stdout(Stdio::piped())
+        .stderr(Stdio::piped())
+        .spawn()
+        .expect("the program runs");
+    drop(child.stdout.take());
+    let mut input = child.stdin.take().expect("a pipe");
+    // The judge may be gone before all is written.
+    let _ = input.write_all(&b"S,1\n".repeat(100_000));
+    drop(input);
+    let output = child.wait_with_output().expect("the program ends");
+    assert!(output.status.success());
+    assert!(output.stderr.is_empty());
+}
+
+#[test]
+fn judge_tells_errors_of_input_and_output() {
+    let directory = std::fs::File::open(env!("CARGO_MANIFEST_DIR")).expect("a directory");
+    let unread = judge().stdin(directory).output().expect("the program runs");
+    assert_eq!(unread.status.code(), Some(1));
+    assert!(text(&unread.stderr).starts_with("judge: "));
+
+    if let Ok(full) = std::fs::File::create("/dev/full") {
+        let unwritten = judge()
+            .stdin(Stdio::null())
+            .stdout(full)
+            .output()
+            .expect("the program runs");
+        assert_eq!(unwritten.status.code(), Some(1));
+        assert!(text(&unwritten.stderr).starts_with("judge: "));
+    }
+}
+
+#[test]
+fn judge_takes_no_arguments_but_help() {
+    let help = judge().arg("--help").output().expect("the program runs");
+    assert!(help.status.success());
+    assert!(text(&help.stdout).starts_with("usage: judge"));
+
+    let misused = judge().arg("file").output().expect("the program runs");
+    assert_eq!(misused.status.code(), Some(2));
+    assert!(misused.stdout.is_empty());
+    assert!(text(&misused.stderr).contains("usage: judge"));
+}
+
+#[test]
+fn scripts_writes_the_same_bytes_for_the_same_seed() {
+    let (once, again) = (scripts("5 300 mixed"), scripts("5 300 mixed"));
+    assert!(once.status.success());
+    assert_eq!(once.stdout, again.stdout);
+    assert_eq!(
+        once.stdout.iter().filter(|&&byte| byte == b'\n').count(),
+        300
+    );
+}
+
+#[test]
+fn scripts_lists_its_flavours() {
+    let list = scripts("--list");
+    assert!(list.status.success());
+    let named: Vec<&str> = text(&list.stdout)
+        .lines()
+        .filter_map(|line| line.split(' ').next())
+        .collect();
+    for name in "uniform arrivals switches ticks bad hogs disposals launches mixed".split(' ') {
+        assert!(named.contains(&name), "{name}");
+    }
+}
+
+#[test]
+fn scripts_counts_and_names_what_is_missing() {
+    let enough = scripts("--counts 1 2000");
+    assert!(enough.status.success(), "{}", text(&enough.stderr));
+    assert!(text(&enough.stdout).starts_with("answer"));
+    assert_eq!(text(&enough.stdout).lines().count(), 1 + 11 + 1);
+
+    let few = scripts("--counts 1 1");
+    assert_eq!(few.status.code(), Some(1));
+    assert!(text(&few.stderr).contains("answer 5, answer 6"));
+
+    let one = scripts("--counts 1 100 launches");
+    assert!(one.status.success());
+}
+
+#[test]
+fn scripts_tells_how_it_is_used() {
+    let help = scripts("--help");
+    assert!(help.status.success());
+    assert!(text(&help.stdout).starts_with("usage: scripts"));
+    for arguments in [
+        "",
+        "1",
+        "1 2",
+        "x 2 mixed",
+        "1 -2 mixed",
+        "1 2 no-such",
+        "1 2 mixed 3",
+        "--counts",
+        "--counts 1",
+        "--counts 1 x",
+        "--counts 1 2 no-such",
+        "--what",
+    ] {
+        let misused = scripts(arguments);
+        assert_eq!(misused.status.code(), Some(2), "{arguments}");
+        assert!(misused.stdout.is_empty(), "{arguments}");
+        assert!(
+            text(&misused.stderr).contains("usage: scripts"),
+            "{arguments}"
+        );
+    }
+}

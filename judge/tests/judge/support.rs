@@ -1,0 +1,87 @@
+//! What the tests share.
+
+use judge::generator::FLAVOURS;
+use judge::memory;
+use judge::node::Operation;
+use judge::script;
+
+/// The rest of the listing's line for an accepted step of which nothing is to be told.
+pub const ACCEPTED: &str = "0,0,0,0,0";
+
+/// A script and the listing that it must have, written line by line.
+pub struct Case {
+    script: String,
+    listing: String,
+    lines: usize,
+}
+
+impl Case {
+    pub fn new() -> Self {
+        Case {
+            script: String::new(),
+            listing: format!("{}\n", script::HEADER),
+            lines: 0,
+        }
+    }
+
+    /// A script line, and its listing line without the number.
+    pub fn line(mut self, line: &str, report: &str) -> Self {
+        self.lines += 1;
+        self.script += &format!("{line}\n");
+        self.listing += &format!("{},{report}\n", self.lines);
+        self
+    }
+
+    pub fn times(self, count: usize, line: &str, report: &str) -> Self {
+        (0..count).fold(self, |case, _| case.line(line, report))
+    }
+
+    /// Accepted lines, parted by blanks, of which nothing is to be told.
+    pub fn quiet(self, lines: &str) -> Self {
+        lines
+            .split(' ')
+            .fold(self, |case, line| case.line(line, ACCEPTED))
+    }
+
+    pub fn check(self) {
+        assert_eq!(listing(self.script.as_bytes()), self.listing);
+    }
+}
+
+/// The listing of a script, as text.
+pub fn listing(script: &[u8]) -> String {
+    String::from_utf8(script::listing(script)).expect("a listing is text")
+}
+
+/// The operations that the lines of a script ask for.
+pub fn operations(script: &[u8]) -> Vec<Operation> {
+    let script = script.strip_suffix(b"\n").unwrap_or(script);
+    script
+        .split(|&byte| byte == b'\n')
+        .map(script::read)
+        .collect()
+}
+
+/// The operations of random scripts: some seeds of each flavour.
+pub fn random_runs(seeds: u64, lines: u64) -> impl Iterator<Item = Vec<Operation>> {
+    FLAVOURS.iter().flat_map(move |flavour| {
+        (1..=seeds).map(move |seed| operations(&flavour.script(seed, lines)))
+    })
+}
+
+/// The memory of a node at power-on.
+pub fn power_on() -> Vec<u32> {
+    let mut memory = vec![0; memory::SIZE];
+    assert_eq!(memory::power_on(&mut memory), 0);
+    memory
+}
+
+/// The memory after the lines of a script, parted by blanks and all accepted.
+pub fn memory_after(script: &str) -> Vec<u32> {
+    let mut memory = power_on();
+    for line in script.split_whitespace() {
+        let report = memory::step(&mut memory, &script::read(line.as_bytes()));
+        assert!(report.accepted(), "{line}: {report:?}");
+    }
+    memory
+}

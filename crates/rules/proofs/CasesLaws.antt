@@ -11,14 +11,14 @@ use Rattle.rules.specs.Valid.{frameNumber}
 use Rattle.rules.specs.Memory.{groupAddress, frameAddress, flagWord, messageWords, queueWords, lineWords, groupWords, placeWords, framesFrom, framesOf, placesOf, allFrames, frameWords, words}
 use Rattle.rules.specs.Run.{asked, play, run}
 use Rattle.rules.specs.Cases.{wordsAfter, queueHeadFirst, freeFrontFirst, listHeadFirst, keptWords, memoryCases}
-use Rattle.rules.specs.Cases.{CasesHold, cases, k1, k2, k3, k4, k5, k6, k7, k8, fullFrames, limits, arrivalOrder, times, lineBytes, scriptOf, numbered, listingOf}
+use Rattle.rules.specs.Cases.{CasesHold, cases, k1, k2, k3, k4, k5, k6, k7, k8, fullFrames, limits, arrivalOrder, olderBuffered, sectionGoesOn, timerGoesOn, queuedPledged, times, lineBytes, scriptOf, numbered, listingOf}
 
 pub cases-hold : CasesHold
 unfolding
     frameNumber groupAddress frameAddress flagWord messageWords queueWords lineWords groupWords placeWords framesFrom framesOf placesOf allFrames frameWords words
     asked play run
     wordsAfter queueHeadFirst freeFrontFirst listHeadFirst keptWords memoryCases
-    cases k1 k2 k3 k4 k5 k6 k7 k8 fullFrames limits arrivalOrder times lineBytes scriptOf numbered listingOf
+    cases k1 k2 k3 k4 k5 k6 k7 k8 fullFrames limits arrivalOrder olderBuffered sectionGoesOn timerGoesOn queuedPledged times lineBytes scriptOf numbered listingOf
     extendFirst split isDigit valueFrom decimalBefore decimal row
     emptyFrame powerOn groupOf withRunning withTimer withQueue withFree withGroup withFlags withBuffer withDescriptor buffered placeOf messageOf waiting inBuffer isOf inQueue line
     ceilDiv extended takeFrame withRoom appended withStock store firstFrame freeFirst useUp removeFirst pledge pledges

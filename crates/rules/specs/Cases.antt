@@ -1,5 +1,5 @@
--- "Edges of queue, frame and timer": the paper's K cases, and the other cases of that section, as one table of scripts with what must come
--- out, and a few scripts with what must stand in memory after them. Assumes nothing.
+-- "Edges of queue, frame and timer": the paper's K cases, the other cases of that section and one for each misreading, as one table of
+-- scripts with what must come out, and a few scripts with what must stand in memory after them. Assumes nothing.
 use Prim.Native.Nat.{ℕ, zero, suc}
 use Prim.Native.String.{String}
 use Prim.Native.Char.{code}
@@ -149,9 +149,66 @@ arrivalOrder =
           ∷ times 240 ("0,0,0,0,1" ∷ []) ++ (times 18 ("0,0,0,0,0" ∷ []) ++ ("3,0,0,0,0" ∷ "4,0,0,0,0" ∷ "5,0,0,0,0" ∷ []));
     }
 
--- "The K cases are proved from the definitions as one collected table"
+-- "Going back to direct while older messages are still buffered": what arrives for a buffered runner is buffered too
+unfoldable pub olderBuffered : Case
+olderBuffered =
+    record {
+      script = "A,1,1" ∷ "S,1" ∷ "A,1,2" ∷ "D" ∷ "E,0" ∷ "D" ∷ "A,1,3" ∷ [];
+      reports = "0,0,0,0,1" ∷ "0,0,0,1,0" ∷ "0,0,0,0,1" ∷ "0,0,1,0,0" ∷ "0,2,0,0,0" ∷ "0,0,1,0,0" ∷ "0,0,0,0,0" ∷ [];
+    }
+
+-- "Ending the atomic section at a timeout. Only its hold on the hardware ends."
+unfoldable pub sectionGoesOn : Case
+sectionGoesOn =
+    record {
+      script = "S,1" ∷ "B" ∷ "A,1,7" ∷ "T,256" ∷ "A,1,8" ∷ "N" ∷ [];
+      reports = "0,0,0,0,0" ∷ "0,0,0,0,0" ∷ "0,0,0,0,0" ∷ "0,0,3,0,1" ∷ "0,0,0,0,1" ∷ "0,0,2,1,0" ∷ [];
+    }
+
+-- "Setting the timer back on N or B: a hog could then hold the queue for ever."
+unfoldable pub timerGoesOn : Case
+timerGoesOn =
+    record {
+      script = "S,1" ∷ "B" ∷ "A,1,7" ∷ "T,254" ∷ "B" ∷ "T,1" ∷ "N" ∷ "T,1" ∷ [];
+      reports =
+          "0,0,0,0,0"
+          ∷ "0,0,0,0,0"
+          ∷ "0,0,0,0,0"
+          ∷ "0,0,0,0,0"
+          ∷ "0,0,0,0,0"
+          ∷ "0,0,0,0,0"
+          ∷ "0,0,0,1,0"
+          ∷ "0,0,3,0,1"
+          ∷ [];
+    }
+
+-- "Counting frames only for what is buffered already: a later drain finds none.": one queued message takes the last frame's pledge
+unfoldable pub queuedPledged : Case
+queuedPledged =
+    record {
+      script = times 248 ("A,2,7" ∷ []) ++ ("S,1" ∷ "B" ∷ "A,1,7" ∷ "A,3,7" ∷ "S,0" ∷ []);
+      reports = times 248 ("0,0,0,0,1" ∷ []) ++ ("0,0,0,0,0" ∷ "0,0,0,0,0" ∷ "0,0,0,0,0" ∷ "6,0,0,0,0" ∷ "0,0,0,0,1" ∷ []);
+    }
+
+-- "The K cases are proved from the definitions as one collected table"; behind them the other cases of that section, and the misreadings'
 unfoldable pub cases : List Case
-cases = k1 ∷ k2 ∷ k3 ∷ k4 ∷ k5 ∷ k6 ∷ k7 ∷ k8 ∷ fullFrames ∷ limits ∷ arrivalOrder ∷ []
+cases =
+    k1
+    ∷ k2
+    ∷ k3
+    ∷ k4
+    ∷ k5
+    ∷ k6
+    ∷ k7
+    ∷ k8
+    ∷ fullFrames
+    ∷ limits
+    ∷ arrivalOrder
+    ∷ olderBuffered
+    ∷ sectionGoesOn
+    ∷ timerGoesOn
+    ∷ queuedPledged
+    ∷ []
 
 -- a script, and what stands in memory after it from an address on
 pub record MemoryCase : Type 0 where

@@ -1,12 +1,12 @@
 -- How a buffer takes and frees frames, and what a group's messages need of them. Assumes nothing.
 use Prim.Native.Nat.{ℕ, _+_, _-_, _/_}
-use mathlib.Core.Bool.{Bool, cond, _||_}
+use mathlib.Core.Bool.{cond, _||_}
 use mathlib.Core.List.{List, [], _∷_, _++_, map}
 use lib.Dec.{ltb, eqb}
 use lib.ListN.{length, take, drop, getD, set}
 use Rattle.rules.specs.Lists.{sum, upFrom}
 use Rattle.rules.specs.Build.{Build, groupCount}
-use Rattle.rules.specs.Node.{Message, Place, Frame, Buffer, Group, Node, groupOf, withFree, withGroup, withBuffer, placeOf, inQueue}
+use Rattle.rules.specs.Node.{Message, Frame, Buffer, Node, groupOf, withFree, withGroup, withBuffer, placeOf, inQueue}
 
 -- a / d rounded up
 unfoldable pub ceilDiv : ℕ → ℕ → ℕ

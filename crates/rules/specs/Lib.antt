@@ -15,3 +15,5 @@ pub mod Script
 pub mod Private
 pub mod Run
 pub mod Cases
+pub mod DemandOne
+pub mod DemandThree

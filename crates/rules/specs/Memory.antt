@@ -6,7 +6,7 @@ use mathlib.Core.List.{List, [], _∷_, _++_, map}
 use lib.Dec.{eqb}
 use lib.ListN.{length, take, drop, getD}
 use Rattle.rules.specs.Lists.{concatMap, upFrom, pad}
-use Rattle.rules.specs.Build.{Build, paper01, groupCount, wordLimit}
+use Rattle.rules.specs.Build.{paper01, groupCount, wordLimit}
 use Rattle.rules.specs.Node.{Message, Place, Frame, Buffer, Group, Node}
 use Rattle.rules.specs.Valid.{frameNumber}
 

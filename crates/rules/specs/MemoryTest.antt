@@ -1,8 +1,8 @@
 -- "Memory is a node when", on words; and the steps on memory. Assumes nothing.
-use Prim.Native.Nat.{ℕ, zero, suc, _+_, _*_, _-_}
+use Prim.Native.Nat.{ℕ, _+_, _*_, _-_}
 use mathlib.Core.Bool.{Bool, true, false, cond, _&&_, _||_}
-use mathlib.Core.List.{List, [], _∷_, _++_, map}
-use lib.Dec.{eqb, leb, ltb}
+use mathlib.Core.List.{List, [], _∷_, _++_}
+use lib.Dec.{eqb, leb}
 use lib.ListN.{length, take, drop}
 use Rattle.rules.specs.Lists.{all, passes, isEmpty, upFrom}
 use Rattle.rules.specs.Build.{paper01, groupCount, wordLimit}
@@ -10,7 +10,7 @@ use Rattle.rules.specs.Node.{Node, powerOn, buffered, line}
 use Rattle.rules.specs.Operation.{Operation, Report, accepted, notNode, refused}
 use Rattle.rules.specs.Valid.{isNode}
 use Rattle.rules.specs.Step.{step}
-use Rattle.rules.specs.Memory.{runningAt, queuedAt, freeCountAt, queueAt, queueStride, freeAt, atomicOffset, pendingOffset, usedOffset, heldOffset, describedOffset, descriptorOffset, listOffset, placeStride, size}
+use Rattle.rules.specs.Memory.{queuedAt, freeCountAt, queueAt, queueStride, freeAt, atomicOffset, pendingOffset, usedOffset, heldOffset, describedOffset, descriptorOffset, listOffset, placeStride, size}
 use Rattle.rules.specs.Memory.{words, word, wordsAt, frameAddress, groupAddress, nodeAt}
 
 -- the k words from address a on are 0

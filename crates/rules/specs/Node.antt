@@ -1,8 +1,8 @@
 -- The node as records and lists. A frame carries its contents: taking one moves them from the free line into a buffer, freeing one moves
 -- them back, so no two parts of a node name the same storage. Assumes nothing.
-use Prim.Native.Nat.{ℕ, pred, _+_}
+use Prim.Native.Nat.{ℕ, pred}
 use mathlib.Core.Bool.{Bool, false}
-use mathlib.Core.List.{List, [], _∷_, _++_, map}
+use mathlib.Core.List.{List, [], _++_, map}
 use lib.Dec.{ltb, eqb}
 use lib.ListN.{length, take, drop, getD, set, replicate}
 use Rattle.rules.specs.Lists.{filter, upFrom, pad}

@@ -1,9 +1,9 @@
 -- "Who can cause a refusal": for each operation the number it is refused with, decided in the paper's order, or 0. Assumes nothing.
-use Prim.Native.Nat.{ℕ, _≤_}
+use Prim.Native.Nat.{ℕ}
 use mathlib.Core.Bool.{Bool, cond, _||_}
 use mathlib.Core.List.{List, [], _∷_, _++_}
 use lib.Dec.{ltb, leb, eqb}
-use lib.ListN.{length, getD}
+use lib.ListN.{length}
 use Rattle.rules.specs.Lists.{isEmpty}
 use Rattle.rules.specs.Build.{Build, groupCount, wordLimit, lastNode, tickLimit}
 use Rattle.rules.specs.Node.{Message, Node, groupOf, withQueue, line}

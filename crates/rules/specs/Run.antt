@@ -1,18 +1,18 @@
 -- "A run is any list of steps, the empty list too": how one is played, and what is counted of it. Assumes nothing.
 use Prim.Native.Nat.{ℕ, _+_}
-use mathlib.Core.Bool.{Bool, true, false, cond, _&&_}
+use mathlib.Core.Bool.{Bool, cond, _&&_}
 use mathlib.Core.List.{List, [], _∷_, _++_, map}
 use lib.Dec.{eqb}
 use Rattle.rules.specs.Lists.{concatMap, sum}
 use Rattle.rules.specs.Build.{Build}
 use Rattle.rules.specs.Node.{Message, Node, powerOn}
-use Rattle.rules.specs.Operation.{Request, poll, peek, dispose, beginAtomic, endAtomic, describe, launch}
+use Rattle.rules.specs.Operation.{poll, peek, dispose, beginAtomic, endAtomic, describe, launch}
 use Rattle.rules.specs.Operation.{Operation, arrive, schedule, tick, user, unknown, Report, accepted, noTrap}
 use Rattle.rules.specs.Step.{step}
 use Rattle.rules.specs.Memory.{word, runningAt}
 use Rattle.rules.specs.MemoryTest.{stepMemory, powerOnMemory}
 use Rattle.rules.specs.Script.{readLine}
-use Rattle.rules.specs.Private.{PrivateLine, atFirst, Answer, Heard, told, hear}
+use Rattle.rules.specs.Private.{PrivateLine, atFirst, Answer, told, hear}
 
 -- a step of a run: "an operation of the table .. , an unknown one or a script line"
 pub data Input : Type 0 where

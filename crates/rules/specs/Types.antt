@@ -1,6 +1,6 @@
 -- The Rattle types that contracts speak of, and what each of their values stands for. Assumes nothing.
 use Prim.Native.Nat.{ℕ, _-_}
-use mathlib.Core.List.{List, [], _∷_}
+use mathlib.Core.List.{List}
 use lib.ListN.{length, drop, getD}
 use Rattle.rules.specs.Lists.{pad}
 use Rattle.rules.specs.Build.{Build, wordLimit}

@@ -2,13 +2,13 @@
 -- that speaks of words alone is in MemoryTest. Assumes nothing.
 use Prim.Native.Nat.{ℕ, _+_, _*_, _≤_, _<_}
 use mathlib.Core.Path.{_≡_}
-use mathlib.Core.Bool.{Bool, true, false, cond, not, _&&_, _||_}
+use mathlib.Core.Bool.{Bool, true, false, not, _&&_, _||_}
 use mathlib.Core.List.{List, [], _∷_, _++_, map}
 use lib.Dec.{eqb, leb, ltb}
 use lib.ListN.{length, drop}
 use Rattle.rules.specs.Lists.{Every, all, passes, isEmpty, concatMap, countOf, upFrom}
 use Rattle.rules.specs.Build.{Build, groupCount, wordLimit}
-use Rattle.rules.specs.Node.{Message, Place, Frame, Buffer, Group, Node, groupOf, buffered, waiting, line}
+use Rattle.rules.specs.Node.{Message, Place, Frame, Buffer, Group, Node, groupOf, waiting, line}
 use Rattle.rules.specs.Frames.{ceilDiv, pledges}
 use Rattle.rules.specs.Settling.{mayStay}
 

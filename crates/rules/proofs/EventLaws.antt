@@ -1,0 +1,48 @@
+-- What is counted of a refused step is nothing. Assumes nothing.
+use Prim.Native.Nat.{ℕ, suc}
+use native.Mathlib.Omega.{arith}
+use mathlib.Core.Path.{_≡_, refl}
+use mathlib.Core.Bool.{false}
+use mathlib.Core.List.{[]}
+use borrow.Author.Tests.{ne-eqb}
+use lib.Dec.{eqb}
+use Rattle.rules.specs.Operation.{poll, peek, dispose, beginAtomic, endAtomic, describe, launch}
+use Rattle.rules.specs.Operation.{Operation, arrive, schedule, tick, user, unknown, accepted}
+use Rattle.rules.specs.Run.{arrivedBy, disposedBy, tickedBy}
+
+-- a refusal's number is not that of an accepted step
+pub refusal-answer : (r : ℕ) → eqb (suc r) accepted ≡ false
+refusal-answer r = ne-eqb (suc r) 0 (λ h. omega arith)
+
+-- an operation that is not an accepted D disposes of nothing
+pub disposed-none : (op : Operation) → disposedBy op false ≡ 0
+unfolding disposedBy
+disposed-none (arrive g ws) = refl
+disposed-none (schedule g) = refl
+disposed-none (tick k) = refl
+disposed-none (user poll) = refl
+disposed-none (user (peek i)) = refl
+disposed-none (user dispose) = refl
+disposed-none (user beginAtomic) = refl
+disposed-none (user endAtomic) = refl
+disposed-none (user (describe w)) = refl
+disposed-none (user (launch k)) = refl
+disposed-none unknown = refl
+
+-- and one that is not an accepted A brings nothing
+pub arrived-none : (op : Operation) → arrivedBy op false ≡ []
+unfolding arrivedBy
+arrived-none (arrive g ws) = refl
+arrived-none (schedule g) = refl
+arrived-none (tick k) = refl
+arrived-none (user q) = refl
+arrived-none unknown = refl
+
+-- an operation that is not an accepted T has no ticks
+pub ticked-none : (op : Operation) → tickedBy op false ≡ 0
+unfolding tickedBy
+ticked-none (arrive g ws) = refl
+ticked-none (schedule g) = refl
+ticked-none (tick k) = refl
+ticked-none (user q) = refl
+ticked-none unknown = refl

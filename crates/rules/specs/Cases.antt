@@ -27,6 +27,7 @@ times (suc k) ls = ls ++ times k ls
 unfoldable pub lineBytes : String → List ℕ
 lineBytes l = bytes l ++ (newline ∷ [])
 
+-- a case's script
 unfoldable pub scriptOf : Case → List ℕ
 scriptOf c = concatMap lineBytes (c .script)
 
@@ -35,6 +36,7 @@ unfoldable pub numbered : ℕ → List String → List ℕ
 numbered i [] = []
 numbered i (r ∷ rs) = decimal i ++ (code "," ∷ lineBytes r) ++ numbered (suc i) rs
 
+-- a case's listing
 unfoldable pub listingOf : Case → List ℕ
 listingOf c = header ++ numbered 1 (c .reports)
 
@@ -216,6 +218,7 @@ pub record MemoryCase : Type 0 where
   pub start : ℕ
   pub stands : List ℕ
 
+-- what stands there
 unfoldable pub wordsAfter : MemoryCase → List ℕ
 wordsAfter c =
     take (length (c .stands)) (drop (c .start) (words (run paper01 (map (λ l. scriptLine (bytes l)) (c .script)) .node)))
@@ -261,6 +264,7 @@ keptWords =
       stands = 2 ∷ 5 ∷ 6 ∷ replicate 69 0;
     }
 
+-- the table of memories
 unfoldable pub memoryCases : List MemoryCase
 memoryCases = queueHeadFirst ∷ freeFrontFirst ∷ listHeadFirst ∷ keptWords ∷ []
 

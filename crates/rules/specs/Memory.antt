@@ -10,16 +10,19 @@ use Rattle.rules.specs.Build.{paper01, groupCount, wordLimit}
 use Rattle.rules.specs.Node.{Message, Place, Frame, Buffer, Group, Node}
 use Rattle.rules.specs.Valid.{frameNumber}
 
--- single numbers
+-- the running group
 abbrev pub runningAt : ℕ
 runningAt = 0
 
+-- the timer
 abbrev pub timerAt : ℕ
 timerAt = 1
 
+-- how many messages are in the hardware queue
 abbrev pub queuedAt : ℕ
 queuedAt = 2
 
+-- how many frames are in the free line
 abbrev pub freeCountAt : ℕ
 freeCountAt = 3
 
@@ -27,6 +30,7 @@ freeCountAt = 3
 abbrev pub queueAt : ℕ
 queueAt = 4
 
+-- the words of one place
 abbrev pub queueStride : ℕ
 queueStride = 10
 
@@ -38,30 +42,39 @@ freeAt = 164
 abbrev pub groupsAt : ℕ
 groupsAt = 196
 
+-- the words of one record
 abbrev pub groupStride : ℕ
 groupStride = 46
 
+-- the flag atomic
 abbrev pub atomicOffset : ℕ
 atomicOffset = 0
 
+-- the flag pending
 abbrev pub pendingOffset : ℕ
 pendingOffset = 1
 
+-- h
 abbrev pub usedOffset : ℕ
 usedOffset = 2
 
+-- n
 abbrev pub countOffset : ℕ
 countOffset = 3
 
+-- how many frames are in the list
 abbrev pub heldOffset : ℕ
 heldOffset = 4
 
+-- how many words are in the descriptor
 abbrev pub describedOffset : ℕ
 describedOffset = 5
 
+-- the descriptor's eight words
 abbrev pub descriptorOffset : ℕ
 descriptorOffset = 6
 
+-- the list's 32 frame numbers
 abbrev pub listOffset : ℕ
 listOffset = 14
 
@@ -69,9 +82,11 @@ listOffset = 14
 abbrev pub framesAt : ℕ
 framesAt = 564
 
+-- the words of one place
 abbrev pub placeStride : ℕ
 placeStride = 9
 
+-- the words of one frame
 abbrev pub frameStride : ℕ
 frameStride = 72
 
@@ -79,19 +94,22 @@ frameStride = 72
 abbrev pub size : ℕ
 size = 2868
 
--- where frame f stands, and the record of group g
+-- where frame f stands
 unfoldable pub frameAddress : ℕ → ℕ
 frameAddress f = framesAt + frameStride * f
 
+-- where the record of group g stands
 unfoldable pub groupAddress : ℕ → ℕ
 groupAddress g = groupsAt + groupStride * (g - 1)
 
 -- From a node to words.
 
+-- a flag
 unfoldable pub flagWord : Bool → ℕ
 flagWord true = 1
 flagWord false = 0
 
+-- a message in the queue: its group, its length, its words, 0 past them
 unfoldable pub messageWords : Message → List ℕ
 messageWords m = m .group ∷ length (m .words) ∷ pad wordLimit (m .words)
 
@@ -99,9 +117,11 @@ messageWords m = m .group ∷ length (m .words) ∷ pad wordLimit (m .words)
 unfoldable pub queueWords : List Message → List ℕ
 queueWords q = pad (paper01 .places * queueStride) (concatMap messageWords q)
 
+-- a line or list of frame numbers
 unfoldable pub lineWords : List ℕ → List ℕ
 lineWords fs = pad (paper01 .frames) fs
 
+-- a group's record
 unfoldable pub groupWords : Group → List ℕ
 groupWords G =
     flagWord (G .atomic)
@@ -112,6 +132,7 @@ groupWords G =
     ∷ length (G .descriptor)
     ∷ pad wordLimit (G .descriptor) ++ lineWords (G .buffer .frames)
 
+-- a place of a frame
 unfoldable pub placeWords : Place → List ℕ
 placeWords p = p .len ∷ p .words
 
@@ -121,6 +142,7 @@ framesFrom [] ps = []
 framesFrom (f ∷ fs) ps =
     record { number = f; places = take (paper01 .perFrame) ps } ∷ framesFrom fs (drop (paper01 .perFrame) ps)
 
+-- the frames of a group
 unfoldable pub framesOf : Group → List Frame
 framesOf G = framesFrom (G .buffer .frames) (G .buffer .places)
 
@@ -129,9 +151,11 @@ unfoldable pub placesOf : ℕ → List Frame → List Place
 placesOf f [] = []
 placesOf f (x ∷ xs) = elim (eqb (x .number) f) [ true ↦ x .places | false ↦ placesOf f xs ]
 
+-- all frames, the free ones first
 unfoldable pub allFrames : Node → List Frame
 allFrames n = n .free ++ concatMap framesOf (n .groups)
 
+-- the words of the frame with number f
 unfoldable pub frameWords : List Frame → ℕ → List ℕ
 frameWords xs f = concatMap placeWords (placesOf f xs)
 
@@ -147,26 +171,29 @@ words n =
 
 -- From words to a node.
 
--- the word at an address, and k words from it on
+-- the word at an address
 unfoldable pub word : List ℕ → ℕ → ℕ
 word m a = getD m a 0
 
+-- k words from an address on
 unfoldable pub wordsAt : List ℕ → ℕ → ℕ → List ℕ
 wordsAt m a zero = []
 wordsAt m a (suc k) = word m a ∷ wordsAt m (a + 1) k
 
--- k queue places from address a on
+-- the message in the queue place at address a
 unfoldable pub messageAt : List ℕ → ℕ → Message
 messageAt m a = record { group = word m a; words = take (word m (a + 1)) (wordsAt m (a + 2) wordLimit) }
 
+-- k queue places from address a on
 unfoldable pub messagesAt : List ℕ → ℕ → ℕ → List Message
 messagesAt m a zero = []
 messagesAt m a (suc k) = messageAt m a ∷ messagesAt m (a + queueStride) k
 
--- k places of a frame from address a on
+-- the place of a frame at address a
 unfoldable pub placeAt : List ℕ → ℕ → Place
 placeAt m a = record { len = word m a; words = wordsAt m (a + 1) wordLimit }
 
+-- k places of a frame from address a on
 unfoldable pub placesAt : List ℕ → ℕ → ℕ → List Place
 placesAt m a zero = []
 placesAt m a (suc k) = placeAt m a ∷ placesAt m (a + placeStride) k
@@ -175,16 +202,21 @@ placesAt m a (suc k) = placeAt m a ∷ placesAt m (a + placeStride) k
 unfoldable pub framePlaces : List ℕ → ℕ → List Place
 framePlaces m f = placesAt m (frameAddress f) (paper01 .perFrame)
 
+-- frame f with its contents
 unfoldable pub frameAt : List ℕ → ℕ → Frame
 frameAt m f = record { number = f; places = framePlaces m f }
 
--- the record of a group from address a on
+-- From here to groupAt, a is the address of a group's record.
+
+-- a flag
 unfoldable pub flagAt : List ℕ → ℕ → Bool
 flagAt m a = eqb (word m a) 1
 
+-- a buffer's list
 unfoldable pub listAt : List ℕ → ℕ → List ℕ
 listAt m a = wordsAt m (a + listOffset) (word m (a + heldOffset))
 
+-- a buffer, with the contents of its frames
 unfoldable pub bufferAt : List ℕ → ℕ → Buffer
 bufferAt m a =
     record {
@@ -194,6 +226,7 @@ bufferAt m a =
       places = concatMap (framePlaces m) (listAt m a);
     }
 
+-- a group
 unfoldable pub groupAt : List ℕ → ℕ → Group
 groupAt m a =
     record {
@@ -203,6 +236,7 @@ groupAt m a =
       descriptor = wordsAt m (a + descriptorOffset) (word m (a + describedOffset));
     }
 
+-- k groups from address a on
 unfoldable pub groupsFrom : List ℕ → ℕ → ℕ → List Group
 groupsFrom m a zero = []
 groupsFrom m a (suc k) = groupAt m a ∷ groupsFrom m (a + groupStride) k

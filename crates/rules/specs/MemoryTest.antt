@@ -21,10 +21,12 @@ zeroAt m a k = all (eqb 0) (wordsAt m a k)
 unfoldable pub lengthInBounds : List ℕ → ℕ → Bool
 lengthInBounds m i = leb (word m (queueAt + queueStride * i + 1)) wordLimit
 
+-- of a group: its list's and its descriptor's
 unfoldable pub groupCounts : List ℕ → ℕ → Bool
 groupCounts m g =
     leb (word m (groupAddress g + heldOffset)) (paper01 .frames) && leb (word m (groupAddress g + describedOffset)) wordLimit
 
+-- all counts
 unfoldable pub countsInBounds : List ℕ → Bool
 countsInBounds m =
     leb (word m queuedAt) (paper01 .places)
@@ -35,6 +37,7 @@ countsInBounds m =
 unfoldable pub groupFlags : List ℕ → ℕ → Bool
 groupFlags m g = leb (word m (groupAddress g + atomicOffset)) 1 && leb (word m (groupAddress g + pendingOffset)) 1
 
+-- all flags
 unfoldable pub flagsAreFlags : List ℕ → Bool
 flagsAreFlags m = all (groupFlags m) (upFrom 1 groupCount)
 
@@ -45,11 +48,13 @@ queueUnused m =
     let k = word m queuedAt in
     zeroAt m (queueAt + queueStride * k) (queueStride * (paper01 .places - k))
 
+-- of the free line
 unfoldable pub freeUnused : List ℕ → Bool
 freeUnused m =
     let k = word m freeCountAt in
     zeroAt m (freeAt + k) (paper01 .frames - k)
 
+-- of a group's list and descriptor
 unfoldable pub groupUnused : List ℕ → ℕ → Bool
 groupUnused m g =
     let held = word m (groupAddress g + heldOffset) in
@@ -57,11 +62,13 @@ groupUnused m g =
     zeroAt m (groupAddress g + listOffset + held) (paper01 .frames - held)
     && zeroAt m (groupAddress g + descriptorOffset + described) (wordLimit - described)
 
+-- of a queued message's words
 unfoldable pub messageUnused : List ℕ → ℕ → Bool
 messageUnused m i =
     let len = word m (queueAt + queueStride * i + 1) in
     zeroAt m (queueAt + queueStride * i + 2 + len) (wordLimit - len)
 
+-- all of them
 unfoldable pub unusedAreZero : List ℕ → Bool
 unusedAreZero m =
     queueUnused m
@@ -77,6 +84,7 @@ memoryTests =
     ∷ (λ m. isNode paper01 (nodeAt m))
     ∷ []
 
+-- "Memory is a node when"
 unfoldable pub isMemory : List ℕ → Bool
 isMemory m = passes memoryTests m
 
@@ -112,6 +120,7 @@ pub record Part : Type 0 where
   pub start : ℕ
   pub len : ℕ
 
+-- no words
 abbrev pub emptyPart : Part
 emptyPart = record { start = 0; len = 0 }
 
@@ -120,12 +129,15 @@ unfoldable pub firstPlace : List ℕ → ℕ → ℕ
 firstPlace m g =
     frameAddress (word m (groupAddress g + listOffset)) + placeStride * word m (groupAddress g + usedOffset)
 
+-- where it is buffered
 unfoldable pub bufferPart : List ℕ → ℕ → Part
 bufferPart m g = record { start = firstPlace m g + 1; len = word m (firstPlace m g) }
 
+-- where it is direct
 unfoldable pub queuePart : List ℕ → Part
 queuePart m = record { start = queueAt + 2; len = word m (queueAt + 1) }
 
+-- the running group's first message
 unfoldable pub runnerPart : List ℕ → Node → Part
 runnerPart m n =
     cond (eqb (n .running) 0 || isEmpty (line n (n .running))) emptyPart
@@ -136,5 +148,6 @@ runnerPart m n =
 unfoldable pub headPart : List ℕ → Part
 headPart m = elim (isMemory m) [ true ↦ runnerPart m (nodeAt m) | false ↦ emptyPart ]
 
+-- its words
 unfoldable pub headWords : List ℕ → List ℕ
 headWords m = take (headPart m .len) (drop (headPart m .start) m)

@@ -49,16 +49,19 @@ pub record Node : Type 0 where
   pub free : List Frame
   pub groups : List Group
 
--- "every queue, buffer, flag and descriptor is empty or off, all message words are 0"
+-- "every queue, buffer, flag and descriptor is empty or off, all message words are 0": an empty place
 abbrev pub emptyPlace : Place
 emptyPlace = record { len = 0; words = pad wordLimit [] }
 
+-- a frame of empty places
 unfoldable pub emptyFrame : Build → ℕ → Frame
 emptyFrame b f = record { number = f; places = replicate (b .perFrame) emptyPlace }
 
+-- a buffer with no message and no frame
 abbrev pub emptyBuffer : Buffer
 emptyBuffer = record { used = 0; count = 0; frames = []; places = [] }
 
+-- a group with nothing waiting, its flags off and its descriptor empty
 abbrev pub emptyGroup : Group
 emptyGroup = record { atomic = false; pending = false; buffer = emptyBuffer; descriptor = [] }
 
@@ -77,30 +80,36 @@ powerOn b =
 unfoldable pub groupOf : Node → ℕ → Group
 groupOf n g = getD (n .groups) (pred g) emptyGroup
 
--- the node with one part changed
+-- the node with this running group
 unfoldable pub withRunning : ℕ → Node → Node
 withRunning g n = record { running = g; timer = n .timer; queue = n .queue; free = n .free; groups = n .groups }
 
+-- with this timer
 unfoldable pub withTimer : ℕ → Node → Node
 withTimer t n = record { running = n .running; timer = t; queue = n .queue; free = n .free; groups = n .groups }
 
+-- with this hardware queue
 unfoldable pub withQueue : List Message → Node → Node
 withQueue q n = record { running = n .running; timer = n .timer; queue = q; free = n .free; groups = n .groups }
 
+-- with this free line
 unfoldable pub withFree : List Frame → Node → Node
 withFree fs n = record { running = n .running; timer = n .timer; queue = n .queue; free = fs; groups = n .groups }
 
+-- with this group under number g
 unfoldable pub withGroup : ℕ → Group → Node → Node
 withGroup g G n =
     record { running = n .running; timer = n .timer; queue = n .queue; free = n .free; groups = set (n .groups) (pred g) G }
 
--- the group with one part changed
+-- the group with these flags
 unfoldable pub withFlags : Bool → Bool → Group → Group
 withFlags a p G = record { atomic = a; pending = p; buffer = G .buffer; descriptor = G .descriptor }
 
+-- with this buffer
 unfoldable pub withBuffer : Buffer → Group → Group
 withBuffer v G = record { atomic = G .atomic; pending = G .pending; buffer = v; descriptor = G .descriptor }
 
+-- with this descriptor
 unfoldable pub withDescriptor : List ℕ → Group → Group
 withDescriptor d G = record { atomic = G .atomic; pending = G .pending; buffer = G .buffer; descriptor = d }
 
@@ -120,13 +129,15 @@ messageOf g p = record { group = g; words = take (p .len) (p .words) }
 unfoldable pub waiting : Buffer → List Place
 waiting v = take (v .count) (drop (v .used) (v .places))
 
--- the messages of group g in its buffer, and in the hardware queue
+-- the messages of group g in its buffer
 unfoldable pub inBuffer : Node → ℕ → List Message
 inBuffer n g = map (messageOf g) (waiting (groupOf n g .buffer))
 
+-- the message is of group g
 unfoldable pub isOf : ℕ → Message → Bool
 isOf g m = eqb (m .group) g
 
+-- "its messages in the hardware queue"
 unfoldable pub inQueue : Node → ℕ → List Message
 inQueue n g = filter (isOf g) (n .queue)
 

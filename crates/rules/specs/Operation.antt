@@ -98,12 +98,15 @@ badTicks = 15
 abbrev pub noTrap : ℕ
 noTrap = 0
 
+-- "1 dispose-extend, on D begun while buffered"
 abbrev pub disposeExtend : ℕ
 disposeExtend = 1
 
+-- "2 atomicity-extend, on N begun while buffered"
 abbrev pub atomicityExtend : ℕ
 atomicityExtend = 2
 
+-- "3 timeout, on T"
 abbrev pub timeoutTrap : ℕ
 timeoutTrap = 3
 

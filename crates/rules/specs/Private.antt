@@ -53,6 +53,7 @@ pub record Answer : Type 0 where
 unfoldable pub says : ℕ → Answer
 says x = record { number = accepted; value = x; sent = [] }
 
+-- a refusal
 unfoldable pub refuses : ℕ → Answer
 refuses a = record { number = a; value = 0; sent = [] }
 
@@ -61,6 +62,7 @@ pub record Served : Type 0 where
   pub answer : Answer
   pub line : PrivateLine
 
+-- an answer that changes nothing
 unfoldable pub unchanged : Answer → PrivateLine → Served
 unchanged a p = record { answer = a; line = p }
 
@@ -83,9 +85,11 @@ ownDispose (m ∷ ms) p =
       line = record { has = p .has; atomic = p .atomic; pending = false; messages = ms; descriptor = p .descriptor };
     }
 
+-- the line with this flag
 unfoldable pub withAtomic : Bool → PrivateLine → PrivateLine
 withAtomic a p = record { has = p .has; atomic = a; pending = p .pending; messages = p .messages; descriptor = p .descriptor }
 
+-- the line with this descriptor
 unfoldable pub withOwnDescriptor : List ℕ → PrivateLine → PrivateLine
 withOwnDescriptor d p = record { has = p .has; atomic = p .atomic; pending = p .pending; messages = p .messages; descriptor = d }
 
@@ -111,6 +115,7 @@ ownLaunch g (w ∷ d) p k =
       line = withOwnDescriptor [] p;
     })
 
+-- M to L
 unfoldable pub own : ℕ → PrivateLine → Request → Served
 own g p poll = unchanged (ownPoll (p .messages)) p
 own g p (peek i) = unchanged (ownPeek (p .messages) i) p
@@ -130,6 +135,7 @@ pub record Heard : Type 0 where
 unfoldable pub isCalled : PrivateLine → Bool
 isCalled p = p .has && (not (p .atomic) && not (isEmpty (p .messages)))
 
+-- the line after the upcall rule
 unfoldable pub called : PrivateLine → PrivateLine
 called p =
     cond (isCalled p)

@@ -19,6 +19,7 @@ pub data Input : Type 0 where
   operation : Operation → Input
   scriptLine : List ℕ → Input
 
+-- what a step asks
 unfoldable pub asked : Input → Operation
 asked (operation op) = op
 asked (scriptLine l) = readLine l
@@ -51,6 +52,7 @@ pub record PlayedMemory : Type 0 where
   pub events : List Event
   pub memory : List ℕ
 
+-- a run over memory, from a memory on
 unfoldable pub playMemory : List ℕ → List Input → PlayedMemory
 playMemory m [] = record { events = []; memory = m }
 playMemory m (i ∷ is) =
@@ -61,6 +63,7 @@ playMemory m (i ∷ is) =
       memory = rest .memory;
     }
 
+-- from power-on on lent memory
 unfoldable pub runMemory : List ℕ → List Input → PlayedMemory
 runMemory m is = playMemory (powerOnMemory m .memory) is
 
@@ -76,9 +79,11 @@ arrivedBy (tick k) ok = []
 arrivedBy (user r) ok = []
 arrivedBy unknown ok = []
 
+-- the message accepted by a step, none or one
 unfoldable pub arrived : Event → List Message
 arrived e = arrivedBy (e .operation) (wasAccepted e)
 
+-- those of all steps
 unfoldable pub arrivals : List Event → List Message
 arrivals es = concatMap arrived es
 
@@ -86,6 +91,7 @@ arrivals es = concatMap arrived es
 unfoldable pub answerOf : Report → Answer
 answerOf r = record { number = r .answer; value = r .value; sent = r .sent }
 
+-- the answer that a step gives a group, where the group runs
 unfoldable pub answerTo : Operation → Bool → Report → List Answer
 answerTo (arrive g ws) runs r = []
 answerTo (schedule g) runs r = []
@@ -93,6 +99,7 @@ answerTo (tick k) runs r = []
 answerTo (user q) runs r = cond runs (answerOf r ∷ []) []
 answerTo unknown runs r = []
 
+-- a group's answers in order
 unfoldable pub answersOf : ℕ → List Event → List Answer
 answersOf g es = concatMap (λ e. answerTo (e .operation) (eqb (e .runner) g) (e .report)) es
 
@@ -122,6 +129,7 @@ disposals g es = sum (map (λ e. disposedBy (e .operation) (wasAccepted e && eqb
 unfoldable pub leftBy : Event → ℕ
 leftBy e = e .report .moved + disposedBy (e .operation) (wasAccepted e && eqb (e .report .trap) noTrap)
 
+-- over the steps so far
 unfoldable pub left : List Event → ℕ
 left es = sum (map leftBy es)
 
@@ -133,6 +141,7 @@ tickedBy (tick k) ok = cond ok k 0
 tickedBy (user r) ok = 0
 tickedBy unknown ok = 0
 
+-- over all steps
 unfoldable pub ticked : List Event → ℕ
 ticked es = sum (map (λ e. tickedBy (e .operation) (wasAccepted e)) es)
 
@@ -142,6 +151,7 @@ pub record Listened : Type 0 where
   pub upcalls : List Bool
   pub line : PrivateLine
 
+-- from a private line on
 unfoldable pub listenFrom : ℕ → PrivateLine → List Event → Listened
 listenFrom g p [] = record { answers = []; upcalls = []; line = p }
 listenFrom g p (e ∷ es) =
@@ -149,5 +159,6 @@ listenFrom g p (e ∷ es) =
     let rest = listenFrom g (h .line) es in
     record { answers = h .answers ++ rest .answers; upcalls = h .upcall ∷ rest .upcalls; line = rest .line }
 
+-- from its beginning on
 unfoldable pub listen : ℕ → List Event → Listened
 listen g es = listenFrom g atFirst es

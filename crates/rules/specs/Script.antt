@@ -30,6 +30,7 @@ largest = 4_294_967_295
 unfoldable pub isNumber : List ℕ → Bool
 isNumber cs = not (isEmpty cs) && (leb (length cs) 10 && (all isDigit cs && leb (valueFrom 0 cs) largest))
 
+-- the number that a field writes, none where it is bad
 unfoldable pub number : List ℕ → Option ℕ
 number cs = cond (isNumber cs) (some (valueFrom 0 cs)) none
 
@@ -39,6 +40,7 @@ andNumber none ns = none
 andNumber (some n) none = none
 andNumber (some n) (some ns) = some (n ∷ ns)
 
+-- the numbers of all fields, none where one is bad
 unfoldable pub numbers : List (List ℕ) → Option (List ℕ)
 numbers [] = some []
 numbers (f ∷ fs) = andNumber (number f) (numbers fs)
@@ -54,6 +56,7 @@ oneField f [] = unknown
 oneField f (x ∷ []) = f x
 oneField f (x ∷ y ∷ ns) = unknown
 
+-- an operation with no field
 unfoldable pub noField : Operation → List ℕ → Operation
 noField op [] = op
 noField op (x ∷ ns) = unknown
@@ -63,6 +66,7 @@ pub record Letter : Type 0 where
   pub letter : ℕ
   pub fields : List ℕ → Operation
 
+-- the table of operations
 unfoldable pub letters : List Letter
 letters =
     record { letter = code "A"; fields = groupAndWords }
@@ -88,6 +92,7 @@ onlyByte [] = 0
 onlyByte (c ∷ []) = c
 onlyByte (c ∷ d ∷ cs) = 0
 
+-- "one with a bad number .. is unreadable"
 unfoldable pub operationOf : ℕ → Option (List ℕ) → Operation
 operationOf c none = unknown
 operationOf c (some ns) = lettered c letters ns
@@ -107,6 +112,7 @@ ended [] = []
 ended (l ∷ []) = cond (isEmpty l) [] (l ∷ [])
 ended (l ∷ m ∷ ls) = l ∷ ended (m ∷ ls)
 
+-- a script's lines
 unfoldable pub scriptLines : List ℕ → List (List ℕ)
 scriptLines s = ended (split newline s)
 

@@ -12,6 +12,7 @@ pub record Moved : Type 0 where
   pub node : Node
   pub moved : ℕ
 
+-- the same, with one message more
 unfoldable pub oneMore : Moved → Moved
 oneMore s = record { node = s .node; moved = suc (s .moved) }
 
@@ -32,6 +33,7 @@ pass (m ∷ q) n =
 unfoldable pub restTimer : Node → Node
 restTimer n = cond (isEmpty (n .queue)) (withTimer 0 n) n
 
+-- "while the hardware queue has a head that is not the running group's, or whose group is buffered"
 unfoldable pub settle : Node → Moved
 settle n =
     let s = pass (n .queue) n in

@@ -40,6 +40,7 @@ timedOut e =
       sent = e .sent;
     }
 
+-- "A tick adds 1 to the timer"
 unfoldable pub counted : Effect → Effect
 counted e =
     record {

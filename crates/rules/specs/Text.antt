@@ -39,6 +39,7 @@ decimalBefore (suc d) n rest =
       | false ↦ decimalBefore d (n / 10) ((code "0" + n % 10) ∷ rest)
     ]
 
+-- the decimal digits of n
 unfoldable pub decimal : ℕ → List ℕ
 decimal n = decimalBefore (suc n) n []
 

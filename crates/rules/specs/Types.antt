@@ -30,6 +30,7 @@ operationOf Unknown ws = unknown
 abbrev pub sentOf : List ℕ → Sent·rt
 sentOf s = record { node = getD s 0 0; group = getD s 1 0; len = length s - 2; words = pad wordLimit (drop 2 s) }
 
+-- a step's report
 abbrev pub reportOf : Report → Report·rt
 reportOf r =
     record {
@@ -41,5 +42,6 @@ reportOf r =
       sent = sentOf (r .sent);
     }
 
+-- a build
 abbrev pub buildOf : Build → Build·rt
 buildOf b = record { frames = b .frames; «per_frame» = b .perFrame; places = b .places; timeout = b .timeout }

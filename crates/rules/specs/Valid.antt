@@ -16,9 +16,11 @@ use Rattle.rules.specs.Settling.{mayStay}
 unfoldable pub frameList : Group → List ℕ
 frameList G = G .buffer .frames
 
+-- a frame's number
 unfoldable pub frameNumber : Frame → ℕ
 frameNumber f = f .number
 
+-- all of them
 unfoldable pub frameNumbers : Node → List ℕ
 frameNumbers n = map frameNumber (n .free) ++ concatMap frameList (n .groups)
 
@@ -56,6 +58,7 @@ pub record GoodBuffer (b : Build) (v : Buffer) : Type 0 where
   pub places : Every GoodPlace (v .places)
   pub waiting-good : Every GoodWaiting (waiting v)
 
+-- a group: its buffer, "a descriptor of 0 to 8 words", and "pending only with atomic"
 pub record GoodGroup (b : Build) (G : Group) : Type 0 where
   pub buffer : GoodBuffer b (G .buffer)
   pub descriptor : length (G .descriptor) ≤ wordLimit
@@ -88,18 +91,23 @@ pub record Valid (b : Build) (n : Node) : Type 0 where
 
 -- The same as tests.
 
+-- GoodMessage
 unfoldable pub isMessage : Message → Bool
 isMessage m = leb 1 (m .group) && (leb (m .group) groupCount && (leb 1 (length (m .words)) && leb (length (m .words)) wordLimit))
 
+-- GoodPlace
 unfoldable pub isPlace : Place → Bool
 isPlace p = eqb (length (p .words)) wordLimit
 
+-- GoodWaiting
 unfoldable pub isWaiting : Place → Bool
 isWaiting p = leb 1 (p .len) && (leb (p .len) wordLimit && all (eqb 0) (drop (p .len) (p .words)))
 
+-- GoodFrame
 unfoldable pub isFrame : Build → Frame → Bool
 isFrame b f = eqb (length (f .places)) (b .perFrame) && all isPlace (f .places)
 
+-- GoodBuffer
 unfoldable pub isBuffer : Build → Buffer → Bool
 isBuffer b v =
     ltb (v .used) (b .perFrame)
@@ -107,19 +115,24 @@ isBuffer b v =
     && (eqb (length (v .frames)) (ceilDiv (v .used + v .count) (b .perFrame))
     && (eqb (length (v .places)) (length (v .frames) * b .perFrame) && (all isPlace (v .places) && all isWaiting (waiting v)))))
 
+-- GoodGroup
 unfoldable pub isGroup : Build → Group → Bool
 isGroup b G = isBuffer b (G .buffer) && (leb (length (G .descriptor)) wordLimit && (not (G .pending) || G .atomic))
 
+-- "pending only with .. a line not empty"
 unfoldable pub pendingHasLine : Node → ℕ → Bool
 pendingHasLine n g = not (groupOf n g .pending) || not (isEmpty (line n g))
 
+-- "a running group with a line not empty is atomic"
 unfoldable pub runnerAtomic : Node → Bool
 runnerAtomic n = eqb (n .running) 0 || (isEmpty (line n (n .running)) || groupOf n (n .running) .atomic)
 
+-- "its head is the running group's, and that group is direct; if it is empty the timer is 0"
 unfoldable pub headStays : List Message → Node → Bool
 headStays [] n = eqb (n .timer) 0
 headStays (m ∷ q) n = mayStay n m
 
+-- "each frame stands once"
 unfoldable pub standsOnce : List ℕ → ℕ → Bool
 standsOnce fs f = eqb (countOf f fs) 1
 
@@ -141,5 +154,6 @@ nodeTests b =
     ∷ (λ n. headStays (n .queue) n)
     ∷ []
 
+-- a node passes them all
 unfoldable pub isNode : Build → Node → Bool
 isNode b n = passes (nodeTests b) n

@@ -1,6 +1,6 @@
 -- Demand 1 holds. On memory that fails the test nothing is done; memory that passes it is the map of a node followed by the rest, and a
 -- refused step writes the same node back. Assumes nothing.
-use Prim.Native.Nat.{ℕ, zero, suc, _+_, _≤_}
+use Prim.Native.Nat.{ℕ, suc, _+_, _≤_}
 use native.Mathlib.Omega.{arith}
 use mathlib.Core.Path.{_≡_, refl, sym, ap, _∙_, subst}
 use mathlib.Core.Logic.{_≢_}
@@ -22,7 +22,7 @@ use Rattle.rules.specs.Memory.{size, words, nodeAt}
 use Rattle.rules.specs.MemoryTest.{isMemory, MemoryStep, replaced, stepMemory, powerOnMemory}
 use Rattle.rules.specs.Valid.{Valid}
 use Rattle.rules.specs.DemandOne.{AnyStep, DemandOne}
-use Rattle.rules.proofs.StepLaws.{power-on-valid, step-accepted, step-refused, step-valid}
+use Rattle.rules.proofs.StepLaws.{power-on-valid, step-cases, step-valid}
 use Rattle.rules.proofs.MapRead.{words-length}
 use Rattle.rules.proofs.MapLaws.{test-valid, test-words, test-written}
 use Rattle.rules.proofs.RunMemory.{paper-sensible, rest-of, step-tested, power-on-tested}
@@ -77,11 +77,7 @@ refusal-numbered b n unknown = omega arith
 -- a step's answer is its operation's refusal
 step-answer : (b : Build) (n : Node) (op : Operation) → step b n op .report .answer ≡ refusal b n op
 unfolding finish
-step-answer b n op = go (refusal b n op) refl
-  where
-    go : (r : ℕ) → refusal b n op ≡ r → step b n op .report .answer ≡ refusal b n op
-    go zero e = ap (λ (s : Stepped). s .report .answer) (step-accepted b n op e) ∙ sym e
-    go (suc r) e = ap (λ (s : Stepped). s .report .answer) (step-refused b n op r e) ∙ sym e
+step-answer b n op = step-cases b n op (λ s. s .report .answer ≡ refusal b n op) sym (λ r e. sym e)
 
 -- a step on memory that is no node
 step-untested : (m : List ℕ) (op : Operation) → isMemory m ≡ false → stepMemory m op ≡ record { report = refused notNode; memory = m }
@@ -105,18 +101,15 @@ rewritten : (m : List ℕ) (op : Operation) → isMemory m ≡ true
     → _≡_ {A = MemoryStep}
     (record { report = step paper01 (nodeAt m) op .report; memory = words (step paper01 (nodeAt m) op .node) ++ drop size m })
     (record { report = refused (step paper01 (nodeAt m) op .report .answer); memory = m })
-rewritten m op e = go (refusal paper01 (nodeAt m) op) refl
+unfolding finish
+rewritten m op e =
+    step-cases paper01 (nodeAt m) op Goal (λ z not. absurd (not refl)) (λ r z not i. record { report = refused (suc r); memory = test-words m e i })
   where
     Goal : Stepped → Type 0
     Goal s =
         s .report .answer ≢ accepted
         → _≡_ {A = MemoryStep} (record { report = s .report; memory = words (s .node) ++ drop size m })
         (record { report = refused (s .report .answer); memory = m })
-
-    go : (r : ℕ) → refusal paper01 (nodeAt m) op ≡ r → Goal (step paper01 (nodeAt m) op)
-    go zero z not = absurd (not (step-answer paper01 (nodeAt m) op ∙ z))
-    go (suc r) z not =
-        subst Goal (sym (step-refused paper01 (nodeAt m) op r z)) (λ not′ i. record { report = refused (suc r); memory = test-words m e i }) not
 
 -- a step on the memory of a node
 fit : (m : List ℕ) (op : Operation) → isMemory m ≡ true → AnyStep m op

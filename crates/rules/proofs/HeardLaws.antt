@@ -1,6 +1,6 @@
 -- One step: what the private line of a group makes of what it is told is what the node's step shows and leaves of that group. The private
 -- line stands at the view of the node before the step, and comes to stand at the view of the node after it. Assumes nothing.
-use Prim.Native.Nat.{ℕ, zero, suc, _+_, _≤_}
+use Prim.Native.Nat.{ℕ, suc, _+_, _≤_}
 use native.Mathlib.Omega.{arith}
 use mathlib.Core.Path.{_≡_, refl, sym, ap, _∙_, subst}
 use mathlib.Core.Logic.{_≢_}
@@ -21,7 +21,7 @@ use Rattle.rules.proofs.Sound.{Sound, valid-sound}
 use Rattle.rules.proofs.SettlingLaws.{settle-sound, drain-line, drain-flags, drain-running}
 use Rattle.rules.proofs.LineLaws.{arrive-line}
 use Rattle.rules.proofs.TickLaws.{Ticked, idle, counting, timeout, ticked-by}
-use Rattle.rules.proofs.StepLaws.{act-sound, step-accepted, step-refused}
+use Rattle.rules.proofs.StepLaws.{act-sound, step-cases}
 use Rattle.rules.proofs.EventLaws.{refusal-answer}
 use Rattle.rules.proofs.ViewLaws.{view, view-same, settle-view, valid-quiet, upcall-named, upcall-view}
 use Rattle.rules.proofs.RequestLaws.{suc-zero}
@@ -236,9 +236,5 @@ accepted-agrees {b} {n} v unknown e g lo hi = suc-zero e
 
 -- what a step shows and leaves of a group is what its private line makes of what it is told
 pub step-agrees : {b : Build} {n : Node} → Valid b n → (op : Operation) (g : ℕ) → 1 ≤ g → g ≤ groupCount → Agrees g n op (step b n op)
-unfolding step
-step-agrees {b} {n} v op g lo hi = go (refusal b n op) refl
-  where
-    go : (r : ℕ) → refusal b n op ≡ r → Agrees g n op (step b n op)
-    go zero e = subst (Agrees g n op) (sym (step-accepted b n op e)) (accepted-agrees v op e g lo hi)
-    go (suc r) e = subst (Agrees g n op) (sym (step-refused b n op r e)) (refused-agrees b n op r e g lo)
+step-agrees {b} {n} v op g lo hi =
+    step-cases b n op (Agrees g n op) (λ e. accepted-agrees v op e g lo hi) (λ r e. refused-agrees b n op r e g lo)

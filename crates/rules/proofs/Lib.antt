@@ -1,4 +1,6 @@
+-- The table of cases.
 pub mod CasesLaws
+-- A node stays a node: lists, then buffers and frames, settling, lines, ticks, each operation, a step.
 pub mod EveryLaws
 pub mod ListLaws
 pub mod Sound
@@ -10,17 +12,20 @@ pub mod LineLaws
 pub mod TickLaws
 pub mod ActLaws
 pub mod StepLaws
+-- A step is to a group what its private line makes of it.
 pub mod ViewLaws
 pub mod RequestLaws
 pub mod ServeLaws
 pub mod EventLaws
 pub mod HeardLaws
+-- A run: what a group sees of it, its line, the hardware queue, the timer, how long a message waits.
 pub mod RunLaws
 pub mod FlowLaws
 pub mod RunLine
 pub mod RunQueue
 pub mod RunTimer
 pub mod RunWaits
+-- The memory map and the memory test.
 pub mod TestLaws
 pub mod MapWords
 pub mod MapParts
@@ -30,5 +35,6 @@ pub mod MapRead
 pub mod MapLaws
 pub mod MapHead
 pub mod RunMemory
+-- The demands.
 pub mod DemandOneLaws
 pub mod DemandThreeLaws

@@ -1,5 +1,5 @@
 -- A group's line over a run: what it had and was sent, less as many from the front as it disposed of. Assumes nothing.
-use Prim.Native.Nat.{ℕ, zero, suc, _+_, _≤_}
+use Prim.Native.Nat.{ℕ, _+_, _≤_}
 use native.Mathlib.Omega.{arith}
 use mathlib.Core.Path.{_≡_, refl, sym, ap, _∙_, subst}
 use mathlib.Core.Bool.{Bool, true, false, cond, _&&_}
@@ -18,7 +18,7 @@ use Rattle.rules.specs.Run.{Input, asked, Event, play, wasAccepted, arri
 use Rattle.rules.specs.Valid.{Valid}
 use Rattle.rules.proofs.ListLaws.{filter-append}
 use Rattle.rules.proofs.FlowLaws.{Flow, flow-kept, flow-join}
-use Rattle.rules.proofs.StepLaws.{act-sound, step-accepted, step-refused, step-valid}
+use Rattle.rules.proofs.StepLaws.{act-sound, step-cases, step-valid}
 use Rattle.rules.proofs.EventLaws.{refusal-answer, disposed-none, arrived-none}
 use Rattle.rules.proofs.LineLaws.{arrive-line}
 use Rattle.rules.proofs.ViewLaws.{view}
@@ -74,18 +74,19 @@ pub step-line : {b : Build} {n : Node} → Valid b n → (op : Operation) (g : �
     → Flow (line n g) (line (step b n op .node) g) (filter (isOf g) (arrivedBy op (eqb (step b n op .report .answer) accepted)))
     (disposedBy op (eqb (step b n op .report .answer) accepted && eqb (n .running) g))
 unfolding finish
-step-line {b} {n} v op g lo hi = go (refusal b n op) refl
+step-line {b} {n} v op g lo hi =
+    step-cases b n op Goal finished (λ r e. rw (refusal-answer r, arrived-none op, disposed-none op) (flow-kept refl))
   where
     Goal : Stepped → Type 0
     Goal s =
         Flow (line n g) (line (s .node) g) (filter (isOf g) (arrivedBy op (eqb (s .report .answer) accepted)))
         (disposedBy op (eqb (s .report .answer) accepted && eqb (n .running) g))
 
-    go : (r : ℕ) → refusal b n op ≡ r → Goal (step b n op)
-    go zero e = subst Goal (sym (step-accepted b n op e))
-        (let l : Flow (line n g) (line (act b n op .node) g) (filter (isOf g) (arrivedBy op true)) (disposedBy op (eqb (n .running) g)) = act-line v op e g lo hi in
-        record { same = finish-line v op e g lo hi ∙ l .same; enough = l .enough })
-    go (suc r) e = subst Goal (sym (step-refused b n op r e)) (rw (refusal-answer r, arrived-none op, disposed-none op) (flow-kept refl))
+    finished : refusal b n op ≡ 0 → Goal (finish (act b n op))
+    finished e =
+        let l : Flow (line n g) (line (act b n op .node) g) (filter (isOf g) (arrivedBy op true)) (disposedBy op (eqb (n .running) g)) =
+        act-line v op e g lo hi in
+        record { same = finish-line v op e g lo hi ∙ l .same; enough = l .enough }
 
 -- a run
 pub play-line : {b : Build} {n : Node} → Valid b n → (g : ℕ) → 1 ≤ g → g ≤ groupCount → (is : List Input)

@@ -1,5 +1,5 @@
 -- The hardware queue over a run: what it had and accepted, less the first `left`. Assumes nothing.
-use Prim.Native.Nat.{ℕ, zero, suc, _+_, _≤_}
+use Prim.Native.Nat.{ℕ, _+_, _≤_}
 use native.Mathlib.Nat.{zero-add, add-zero}
 use native.Mathlib.Omega.{arith}
 use mathlib.Core.Path.{_≡_, refl, sym, ap, _∙_, subst, subst₂}
@@ -10,18 +10,18 @@ use lib.ListN.{length, drop}
 use lib.Seq.{drop-length}
 use Rattle.rules.specs.Lists.{isEmpty}
 use Rattle.rules.specs.Build.{Build}
-use Rattle.rules.specs.Node.{Message, Node, groupOf, withRunning, withTimer, withQueue, withGroup, withFlags, buffered, line}
+use Rattle.rules.specs.Node.{Message, Node, withRunning, withTimer, withQueue, withGroup, buffered, line}
 use Rattle.rules.specs.Operation.{poll, peek, dispose, beginAtomic, endAtomic, describe, launch}
 use Rattle.rules.specs.Operation.{Operation, arrive, schedule, tick, user, unknown, accepted, noTrap, disposeExtend}
 use Rattle.rules.specs.Refusal.{refusal, refuseRequest, queued}
-use Rattle.rules.specs.Settling.{settle, drain, calls, upcall}
+use Rattle.rules.specs.Settling.{settle, drain, upcall}
 use Rattle.rules.specs.Step.{Effect, Stepped, valued, scheduled, ticks, removed, flagged, disposed, extending, described, launched, serve, act, finish, step}
 use Rattle.rules.specs.Run.{Input, asked, Event, play, wasAccepted, arrivedBy, arrived, arrivals, disposedBy, leftBy, left}
 use Rattle.rules.specs.Valid.{Valid}
-use Rattle.rules.proofs.SettlingLaws.{settle-queue, settle-moved, drain-queue}
+use Rattle.rules.proofs.SettlingLaws.{upcall-kept, settle-queue, settle-moved, drain-queue}
 use Rattle.rules.proofs.LineLaws.{direct-head, removed-queue-buffered, removed-queue-direct}
 use Rattle.rules.proofs.TickLaws.{Ticked, idle, counting, timeout, ticked-by}
-use Rattle.rules.proofs.StepLaws.{step-accepted, step-refused, step-valid}
+use Rattle.rules.proofs.StepLaws.{step-cases, step-valid}
 use Rattle.rules.proofs.EventLaws.{refusal-answer, disposed-none, arrived-none}
 use Rattle.rules.proofs.RequestLaws.{suc-zero, dispose-some}
 use Rattle.rules.proofs.HeardLaws.{user-accepted}
@@ -97,19 +97,16 @@ act-queue {b} {n} v unknown e = suc-zero e
 
 -- the upcall leaves the queue
 pub upcall-queue : (n : Node) → upcall n .queue ≡ n .queue
-unfolding upcall withGroup
-upcall-queue n = go (calls n)
-  where
-    go : (t : Bool) → (cond t (withGroup (n .running) (withFlags true true (groupOf n (n .running))) n) n) .queue ≡ n .queue
-    go true = refl
-    go false = refl
+unfolding withGroup
+upcall-queue n = upcall-kept (λ k. k .queue) n (λ G. refl)
 
 -- a step: what was accepted joins the queue, and as many leave it as `left` counts
 pub step-queue : {b : Build} {n : Node} → Valid b n → (op : Operation)
     → Flow (n .queue) (step b n op .node .queue) (arrivedBy op (eqb (step b n op .report .answer) accepted))
     (leftBy (record { runner = n .running; operation = op; report = step b n op .report }))
 unfolding finish leftBy wasAccepted taken
-step-queue {b} {n} v op = go (refusal b n op) refl
+step-queue {b} {n} v op =
+    step-cases b n op Goal finished (λ r z. rw (refusal-answer r, arrived-none op, disposed-none op) (flow-kept refl))
   where
     Goal : Stepped → Type 0
     Goal s =
@@ -128,11 +125,6 @@ step-queue {b} {n} v op = go (refusal b n op) refl
         let order : e .moved + d + s ≡ e .moved + s + d = omega arith in
         let q : finish e .node .queue ≡ drop s (e .node .queue) = upcall-queue (settle (e .node) .node) ∙ settle-queue (e .node) in
         subst₂ (λ (l : List Message) (k : ℕ). Flow (n .queue) l (arrivedBy op true) k) (sym q) order f
-
-    go : (r : ℕ) → refusal b n op ≡ r → Goal (step b n op)
-    go zero z = subst Goal (sym (step-accepted b n op z)) (finished z)
-    go (suc r) z =
-        subst Goal (sym (step-refused b n op r z)) (rw (refusal-answer r, arrived-none op, disposed-none op) (flow-kept refl))
 
 -- a run
 pub play-queue : {b : Build} {n : Node} → Valid b n → (is : List Input)

@@ -1,6 +1,6 @@
 -- The timer over a run: while a message stays in the hardware queue, ticks are counted by the timer, and whatever sets the timer back takes a
 -- message out. So ticks and timer together grow by at most a timeout for each message that leaves. Assumes nothing.
-use Prim.Native.Nat.{ℕ, zero, suc, _+_, _*_, _≤_}
+use Prim.Native.Nat.{ℕ, _+_, _*_, _≤_}
 use native.Mathlib.Nat.{mul-le-mul-left, mul-one}
 use native.Mathlib.Omega.{arith}
 use mathlib.Core.Path.{_≡_, refl, sym, ap, _∙_, subst}
@@ -11,61 +11,27 @@ use lib.Dec.{eqb}
 use lib.ListN.{length}
 use Rattle.rules.specs.Lists.{isEmpty}
 use Rattle.rules.specs.Build.{Build}
-use Rattle.rules.specs.Node.{Message, Node, groupOf, withRunning, withTimer, withQueue, withFree, withGroup, withFlags, buffered}
-use Rattle.rules.specs.Frames.{withStock, store}
+use Rattle.rules.specs.Node.{Message, Node, withRunning, withTimer, withQueue, withGroup, buffered}
 use Rattle.rules.specs.Operation.{poll, peek, dispose, beginAtomic, endAtomic, describe, launch}
 use Rattle.rules.specs.Operation.{Operation, arrive, schedule, tick, user, unknown, accepted, noTrap, disposeExtend}
 use Rattle.rules.specs.Refusal.{refusal, queued}
-use Rattle.rules.specs.Settling.{Moved, oneMore, mayStay, pass, restTimer, settle, drain, calls, upcall}
+use Rattle.rules.specs.Settling.{mayStay, pass, settle, drain, upcall}
 use Rattle.rules.specs.Step.{Effect, Stepped, valued, scheduled, ticks, flagged, disposed, extending, described, launched, serve, act, finish, step}
 use Rattle.rules.specs.Run.{wasAccepted, disposedBy, leftBy, tickedBy}
 use Rattle.rules.specs.Valid.{Valid}
-use Rattle.rules.proofs.SettlingLaws.{settle-moved, drain-queue}
+use Rattle.rules.proofs.SettlingLaws.{pass-moves, settle-keeps, upcall-kept, settle-moved, drain-queue}
 use Rattle.rules.proofs.LineLaws.{stays, buffered-empty}
 use Rattle.rules.proofs.TickLaws.{Ticked, idle, counting, timeout, ticked-by}
-use Rattle.rules.proofs.StepLaws.{step-accepted, step-refused}
+use Rattle.rules.proofs.StepLaws.{step-cases}
 use Rattle.rules.proofs.RequestLaws.{suc-zero}
 use Rattle.rules.proofs.ListLaws.{some-length}
 use Rattle.rules.proofs.EventLaws.{refusal-answer, ticked-none}
 use Rattle.rules.proofs.RunQueue.{taken, upcall-queue}
 
--- a pass leaves the timer
-pass-timer : (q : List Message) (n : Node) → pass q n .node .timer ≡ n .timer
-unfolding pass withQueue oneMore store withStock withGroup withFree
-pass-timer [] n = refl
-pass-timer (m ∷ q) n = go (mayStay n m) (pass-timer q (store m n))
-  where
-    go : (t : Bool)
-        → pass q (store m n) .node .timer ≡ store m n .timer
-        → (elim t as (λ x. Moved) [ true ↦ record { node = withQueue (m ∷ q) n; moved = 0 } | false ↦ oneMore (pass q (store m n)) ]) .node .timer ≡ n .timer
-    go true e = refl
-    go false e = e
-
--- settling leaves it where a message stays
-settle-keeps : (n : Node) → isEmpty (settle n .node .queue) ≡ false → settle n .node .timer ≡ n .timer
-unfolding settle restTimer withTimer
-settle-keeps n = go (isEmpty (pass (n .queue) n .node .queue)) refl
-  where
-    p : Node
-    p = pass (n .queue) n .node
-
-    go : (t : Bool) → isEmpty (p .queue) ≡ t → isEmpty (cond t (withTimer 0 p) p .queue) ≡ false → cond t (withTimer 0 p) p .timer ≡ n .timer
-    go true t e = absurd (true≢false (sym t ∙ e))
-    go false t e = pass-timer (n .queue) n
-
--- a head that may not stay moves
-pass-moves : (m : Message) (q : List Message) (n : Node) → mayStay n m ≡ false → 1 ≤ pass (m ∷ q) n .moved
-unfolding pass oneMore
-pass-moves m q n e = rw (e, pass) (omega arith)
-
 -- the upcall leaves the timer
 upcall-timer : (n : Node) → upcall n .timer ≡ n .timer
-unfolding upcall withGroup
-upcall-timer n = go (calls n)
-  where
-    go : (t : Bool) → (cond t (withGroup (n .running) (withFlags true true (groupOf n (n .running))) n) n) .timer ≡ n .timer
-    go true = refl
-    go false = refl
+unfolding withGroup
+upcall-timer n = upcall-kept (λ k. k .timer) n (λ G. refl)
 
 -- What an accepted operation does to the timer, where the queue had a message and one stays after settling. l is how many leave.
 module _ {b : Build} {n : Node} (v : Valid b n) (some : isEmpty (n .queue) ≡ false) where
@@ -158,7 +124,7 @@ module _ {b : Build} {n : Node} (v : Valid b n) (some : isEmpty (n .queue) ≡ f
       → tickedBy op (eqb (step b n op .report .answer) accepted) + n .timer
       ≤ b .timeout * leftBy (record { runner = n .running; operation = op; report = step b n op .report }) + step b n op .node .timer
   unfolding finish leftBy wasAccepted taken
-  step-timer op = go (refusal b n op) refl
+  step-timer op = step-cases b n op Goal finished (λ r z s. rw (refusal-answer r, ticked-none op) (omega arith))
     where
       Goal : Stepped → Type 0
       Goal s =
@@ -176,7 +142,3 @@ module _ {b : Build} {n : Node} (v : Valid b n) (some : isEmpty (n .queue) ≡ f
           let m : ℕ = settle (e .node) .moved in
           let order : b .timeout * (e .moved + d + m) ≡ b .timeout * (e .moved + m + d) = ap (λ (x : ℕ). b .timeout * x) (omega arith) in
           omega (arith, act-timer op z left, order, kept)
-
-      go : (r : ℕ) → refusal b n op ≡ r → Goal (step b n op)
-      go zero z = subst Goal (sym (step-accepted b n op z)) (finished z)
-      go (suc r) z = subst Goal (sym (step-refused b n op r z)) (λ s. rw (refusal-answer r, ticked-none op) (omega arith))

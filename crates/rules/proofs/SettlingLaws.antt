@@ -2,16 +2,16 @@
 -- group are as they were. Of the queue they take the front: moved counts what is gone, and a head that is left may stay. Assumes nothing.
 use Prim.Native.Nat.{ℕ, _+_, _≤_}
 use mathlib.Core.Path.{_≡_, refl, sym, ap, _∙_}
-use mathlib.Core.Bool.{Bool, true, false, cond}
+use mathlib.Core.Bool.{Bool, true, false, cond, true≢false}
 use mathlib.Core.List.{List, [], _∷_}
 use native.Mathlib.Nat.{zero-add}
 use native.Mathlib.Omega.{arith}
 use lib.ListN.{length, drop}
 use Rattle.rules.specs.Lists.{isEmpty}
 use Rattle.rules.specs.Build.{Build, groupCount}
-use Rattle.rules.specs.Node.{Message, Node, groupOf, withTimer, withQueue, withFree, withGroup, buffered, inBuffer, inQueue, line}
+use Rattle.rules.specs.Node.{Message, Group, Node, groupOf, withTimer, withQueue, withFree, withGroup, withFlags, buffered, inBuffer, inQueue, line}
 use Rattle.rules.specs.Frames.{store, withStock}
-use Rattle.rules.specs.Settling.{Moved, oneMore, mayStay, pass, restTimer, settle, drain}
+use Rattle.rules.specs.Settling.{Moved, oneMore, mayStay, pass, restTimer, settle, drain, calls, upcall}
 use Rattle.rules.proofs.Sound.{Sound, SameFlags, flags-refl, flags-trans}
 use Rattle.rules.proofs.NodeLaws.{sound-timer}
 use Rattle.rules.proofs.StoreLaws.{store-sound, store-line, store-flags}
@@ -151,6 +151,27 @@ settle-timer n none =
     let p = pass (n .queue) n .node in
     ap (λ (q : List Message). cond (isEmpty q) (withTimer 0 p) p .timer) (sym (settled-queue n) ∙ none)
 
+-- where a message stays, the timer stays too
+pass-timer : (q : List Message) (n : Node) → pass q n .node .timer ≡ n .timer
+unfolding oneMore withQueue store withStock withGroup withFree
+pass-timer = pass-induct (λ q n s. s .node .timer ≡ n .timer) (λ n. refl) (λ m q n e. refl) (λ m q n s later. later)
+
+pub settle-keeps : (n : Node) → isEmpty (settle n .node .queue) ≡ false → settle n .node .timer ≡ n .timer
+unfolding settle restTimer withTimer
+settle-keeps n = go (isEmpty (pass (n .queue) n .node .queue)) refl
+  where
+    p : Node
+    p = pass (n .queue) n .node
+
+    go : (t : Bool) → isEmpty (p .queue) ≡ t → isEmpty (cond t (withTimer 0 p) p .queue) ≡ false → cond t (withTimer 0 p) p .timer ≡ n .timer
+    go true t e = absurd (true≢false (sym t ∙ e))
+    go false t e = pass-timer (n .queue) n
+
+-- a head that may not stay moves
+pub pass-moves : (m : Message) (q : List Message) (n : Node) → mayStay n m ≡ false → 1 ≤ pass (m ∷ q) n .moved
+unfolding pass oneMore
+pass-moves m q n e = rw (e, pass) (omega arith)
+
 -- draining leaves a sound node
 pub drain-sound : {b : Build} (q : List Message) (n : Node) → Sound b (withQueue q n) → Sound b (drain q n)
 unfolding drain
@@ -181,3 +202,12 @@ pub drain-queue : (q : List Message) (n : Node) → drain q n .queue ≡ []
 unfolding drain withQueue
 drain-queue [] n = refl
 drain-queue (m ∷ q) n = drain-queue q (store m n)
+
+-- the upcall changes the running group's flags, and leaves what does not look at the groups
+pub upcall-kept : {A : Type 0} (f : Node → A) (n : Node) → ((G : Group) → f (withGroup (n .running) G n) ≡ f n) → f (upcall n) ≡ f n
+unfolding upcall
+upcall-kept f n same = go (calls n)
+  where
+    go : (t : Bool) → f (cond t (withGroup (n .running) (withFlags true true (groupOf n (n .running))) n) n) ≡ f n
+    go true = same (withFlags true true (groupOf n (n .running)))
+    go false = refl

@@ -2,7 +2,7 @@
 -- once. What an accepted operation leaves is settled, so that a head that is left may stay and an empty queue has its timer at rest, and
 -- then called up, so that a running group with a line is atomic. A refused step leaves the node. Assumes nothing.
 use Prim.Native.Nat.{ℕ, zero, suc, _≤_, pred}
-use mathlib.Core.Path.{_≡_, refl, sym, ap, _∙_}
+use mathlib.Core.Path.{_≡_, refl, sym, subst, ap, _∙_}
 use mathlib.Core.Logic.{_≢_}
 use mathlib.Core.Bool.{Bool, true, false, true≢false, cond, not, _&&_, false≢true}
 use mathlib.Core.List.{List, [], _∷_, map, append-nil}
@@ -18,7 +18,7 @@ use Rattle.rules.specs.Frames.{pledge, pledges}
 use Rattle.rules.specs.Operation.{refused, Operation}
 use Rattle.rules.specs.Refusal.{refusal}
 use Rattle.rules.specs.Settling.{mayStay, settle, calls, upcall}
-use Rattle.rules.specs.Step.{Effect, act, finish, step}
+use Rattle.rules.specs.Step.{Effect, Stepped, act, finish, step}
 use Rattle.rules.specs.Valid.{GoodGroup, Valid, GoodPlace, GoodFrame, frameList, frameNumber, frameNumbers}
 use Rattle.rules.proofs.Sound.{Sound}
 use Rattle.rules.proofs.EveryLaws.{every-replicate, every-map}
@@ -138,13 +138,21 @@ pub step-refused : (b : Build) (n : Node) (op : Operation) (r : ℕ) → refusal
 unfolding step
 step-refused b n op r e = rw (e, step)
 
+-- what holds of a refused step, and of an accepted one, holds of a step
+pub step-cases : (b : Build) (n : Node) (op : Operation) (P : Stepped → Type 0)
+    → (refusal b n op ≡ 0 → P (finish (act b n op)))
+    → ((r : ℕ) → refusal b n op ≡ suc r → P (record { report = refused (suc r); node = n }))
+    → P (step b n op)
+step-cases b n op P accepts refuses = go (refusal b n op) refl
+  where
+    go : (r : ℕ) → refusal b n op ≡ r → P (step b n op)
+    go zero e = subst P (sym (step-accepted b n op e)) (accepts e)
+    go (suc r) e = subst P (sym (step-refused b n op r e)) (refuses r e)
+
 -- a node stays a node
 pub step-valid : {b : Build} {n : Node} → Valid b n → (op : Operation) → Valid b (step b n op .node)
-step-valid {b} {n} v op = go (refusal b n op) refl
-  where
-    go : (r : ℕ) → refusal b n op ≡ r → Valid b (step b n op .node)
-    go zero e = rw (step-accepted b n op e) (finish-valid (act b n op) (act-ready v op e))
-    go (suc r) e = rw (step-refused b n op r e) v
+step-valid {b} {n} v op =
+    step-cases b n op (λ s. Valid b (s .node)) (λ e. finish-valid (act b n op) (act-ready v op e)) (λ r e. v)
 
 -- an empty group is good
 empty-good : (b : Build) → 1 ≤ b .perFrame → GoodGroup b emptyGroup

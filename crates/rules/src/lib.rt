@@ -1,8 +1,9 @@
 // The types that the contracts of the node speak of, and the node's limits.
 ghost use mathlib.Core.Path.{_≡_};
 ghost use Rattle.rules.specs.Build.{paper01};
+ghost use Rattle.rules.specs.Node.{powerOn};
 ghost use Rattle.rules.specs.Operation.{refused};
-ghost use Rattle.rules.specs.Types.{buildOf, reportOf};
+ghost use Rattle.rules.specs.Types.{buildOf, headerOf, reportOf};
 
 // An operation of the table. The words of an arrival are lent beside it.
 pub enum Operation {
@@ -90,6 +91,18 @@ impl Node {
     pub const LAST_NODE: u32 = 63;
 
     pub const TICK_LIMIT: u32 = 65535;
+
+    // The numbers of a node at power-on.
+    pub fn power_on() -> Node
+        ensures { λ r. ⌜ r ≡ headerOf (powerOn paper01) ⌝ }
+    {
+        Node {
+            running: 0,
+            timer: 0,
+            queued: 0,
+            free: Node::FRAMES,
+        }
+    }
 
     // The build that the limits make: paper 01's.
     pub fn build() -> Build

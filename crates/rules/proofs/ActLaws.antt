@@ -5,7 +5,7 @@ use mathlib.Core.Path.{_≡_, refl, sym, ap, _∙_}
 use mathlib.Core.Logic.{_≢_}
 use mathlib.Core.Bool.{Bool, true, false, true≢false, false≢true, cond, _||_}
 use mathlib.Core.List.{List, [], _∷_, _++_}
-use native.Mathlib.Decide.{ℕ-discrete, decLt}
+use native.Mathlib.Decide.{ℕ-discrete}
 use native.Mathlib.Omega.{arith}
 use lib.Dec.{ltb, leb, eqb}
 use lib.ListN.{length, drop, length-append, length-drop}
@@ -15,7 +15,7 @@ use Rattle.rules.specs.Build.{Build, groupCount, wordLimit}
 use Rattle.rules.specs.Node.{Message, Group, Node, groupOf, withRunning, withTimer, withQueue, withFree, withGroup, withFlags, withDescriptor, buffered, isOf, inBuffer, inQueue, line}
 use Rattle.rules.specs.Frames.{pledge, Stock, removeFirst, withStock, pledges}
 use Rattle.rules.specs.Operation.{Request, poll, peek, dispose, beginAtomic, endAtomic, describe, launch}
-use Rattle.rules.specs.Operation.{Operation, arrive, schedule, tick, user, unknown}
+use Rattle.rules.specs.Operation.{Operation, arrive, schedule, tick, user, unknown, nobodyRuns}
 use Rattle.rules.specs.Refusal.{queued, refuseArrive, refuseSchedule, refuseEnd, refuseDescribe, refuseRequest, refusal}
 use Rattle.rules.specs.Settling.{drain}
 use Rattle.rules.specs.Step.{valued, scheduled, ticks, removed, flagged, disposed, extending, described, launched, serve, act}
@@ -27,7 +27,7 @@ use Rattle.rules.proofs.FrameLaws.{removed-first}
 use Rattle.rules.proofs.NodeLaws.{filled, group-same, group-other, stock-same, stock-other, within, group-good, pledge-le, pledges-le, refronted, sound-timer, requeued, restocked, reflagged, reflagged-line}
 use Rattle.rules.proofs.SettlingLaws.{timer-line, drain-sound, drain-line, drain-flags}
 use Rattle.rules.proofs.LineLaws.{arrive-line, removed-cases, without-running, removed-other, removed-flags, removed-running}
-use Rattle.rules.proofs.TickLaws.{ticks-idle, ticks-counted, ticks-timeout}
+use Rattle.rules.proofs.TickLaws.{Ticked, idle, counting, timeout, ticked-by}
 
 -- an answer that is 0 comes from a test that failed, and from what is asked after it
 failed : (t : Bool) (r x : ℕ) → cond t (suc r) x ≡ 0 → (t ≡ false) × (x ≡ 0)
@@ -132,7 +132,7 @@ unqueued-sound {b} {n} s =
     (omega (arith, s .pledged, pledges-le b n (withQueue q n) each))
 
 -- either way
-removed-sound : {b : Build} {n : Node} → Valid b n → 1 ≤ n .running → Sound b (removed b n)
+pub removed-sound : {b : Build} {n : Node} → Valid b n → 1 ≤ n .running → Sound b (removed b n)
 removed-sound {b} {n} v low =
     let s = valid-sound v in
     removed-cases (Sound b) b n (unbuffered-sound s low) (λ e. rw (without-running v) (unqueued-sound s))
@@ -155,6 +155,23 @@ ready-group {b} {n} y g low high G good same pending =
       pending =
           reflagged-pending (y .sound) g low high G same (λ e. y .pending g low high (pending e)) (λ h low′ high′ other e. y .pending h low′ high′ e);
     }
+
+-- an S to the one running changes nothing, and one to another gives the processor and sets the timer to 0
+pub scheduled-cases : (P : Node → Type 0) (g : ℕ) (n : Node) → (eqb g (n .running) ≡ true → P n)
+    → (eqb g (n .running) ≡ false → P (withTimer 0 (withRunning g n))) → P (scheduled g n)
+unfolding scheduled
+scheduled-cases P g n same other = go (eqb g (n .running)) refl
+  where
+    go : (t : Bool) → eqb g (n .running) ≡ t → P (cond t n (withTimer 0 (withRunning g n)))
+    go true e = same e
+    go false e = other e
+
+-- an accepted request has a runner
+pub user-accepted : (n : Node) (r : Request) → cond (eqb (n .running) 0) nobodyRuns (refuseRequest n r) ≡ 0 → (1 ≤ n .running) × (refuseRequest n r ≡ 0)
+user-accepted n r e =
+    let runs = failed (eqb (n .running) 0) _ _ e in
+    let nonzero : n .running ≢ 0 = eqb-false (n .running) 0 (runs .0) in
+    (omega arith, runs .1)
 
 module _ {b : Build} {n : Node} (v : Valid b n) where
   -- the running group's flags
@@ -198,20 +215,14 @@ module _ {b : Build} {n : Node} (v : Valid b n) where
 
   -- the processor given
   scheduled-ready : (g : ℕ) → g ≤ groupCount → Ready b (scheduled g n)
-  unfolding scheduled withTimer withRunning withQueue groupOf line inBuffer inQueue
-  scheduled-ready g high = go (eqb g (n .running))
-    where
-      given : Ready b (withTimer 0 (withRunning g n))
-      given =
-          record {
-            sound =
-                refronted (valid-sound v) g 0 (n .queue) high (omega (arith, v .timer-bound)) (v .queue-length) (v .queue-good) (v .pledged);
-            pending = v .pending-line;
-          }
-
-      go : (t : Bool) → Ready b (cond t n (withTimer 0 (withRunning g n)))
-      go true = valid-ready v
-      go false = given
+  unfolding withTimer withRunning withQueue groupOf line inBuffer inQueue
+  scheduled-ready g high =
+      scheduled-cases (Ready b) g n (λ same. valid-ready v)
+      (λ other.
+      record {
+        sound = refronted (valid-sound v) g 0 (n .queue) high (omega (arith, v .timer-bound)) (v .queue-length) (v .queue-good) (v .pledged);
+        pending = v .pending-line;
+      })
 
   -- the whole queue drained
   drained-ready : Ready b (drain (n .queue) n)
@@ -226,13 +237,12 @@ module _ {b : Build} {n : Node} (v : Valid b n) where
   -- ticks
   ticks-ready : (k : ℕ) → Ready b (ticks b k (valued 0 n) .node)
   unfolding valued
-  ticks-ready k = go (n .queue) refl (decLt (n .timer + k) (b .timeout))
+  ticks-ready k = go (ticked-by v k)
     where
-      go : (q : List Message) → n .queue ≡ q → Dec (n .timer + k < b .timeout) → Ready b (ticks b k (valued 0 n) .node)
-      go [] none d = rw (ticks-idle b k n none) (valid-ready v)
-      go (m ∷ q) some (yes below) = rw (ticks-counted b k n (ap isEmpty some) below) (ready-timer (valid-ready v) (n .timer + k) below)
-      go (m ∷ q) some (no reached) =
-          rw (ticks-timeout b k n (ap isEmpty some) (v .timer-bound) (omega arith)) (ready-timer drained-ready 0 (omega (arith, v .timer-bound)))
+      go : Ticked b k n → Ready b (ticks b k (valued 0 n) .node)
+      go (idle none e) = rw e (valid-ready v)
+      go (counting some below e) = rw e (ready-timer (valid-ready v) (n .timer + k) below)
+      go (timeout some e) = rw e (ready-timer drained-ready 0 (omega (arith, v .timer-bound)))
 
   -- an accepted request
   serve-ready : 1 ≤ n .running → (r : Request) → refuseRequest n r ≡ 0 → Ready b (serve b n r .node)
@@ -259,7 +269,6 @@ module _ {b : Build} {n : Node} (v : Valid b n) where
   act-ready (schedule g) e = scheduled-ready g (ltb-false groupCount g (failed (ltb groupCount g) _ _ e .0))
   act-ready (tick k) e = ticks-ready k
   act-ready (user r) e =
-      let runs = failed (eqb (n .running) 0) _ _ e in
-      let nonzero : n .running ≢ 0 = eqb-false (n .running) 0 (runs .0) in
-      serve-ready (omega arith) r (runs .1)
+      let runs = user-accepted n r e in
+      serve-ready (runs .0) r (runs .1)
   act-ready unknown e = valid-ready v

@@ -5,7 +5,6 @@ use mathlib.Core.Path.{_≡_, refl, sym, ap, _∙_, subst}
 use mathlib.Core.Bool.{true}
 use mathlib.Core.List.{List, [], _++_}
 use lib.ListN.{length, drop}
-use lib.Seq.{drop-at}
 use Rattle.rules.specs.Lists.{filter}
 use Rattle.rules.specs.Build.{Build, Sensible, paper01, groupCount}
 use Rattle.rules.specs.Node.{Message, Node, powerOn, isOf, line}
@@ -21,14 +20,13 @@ use Rattle.rules.proofs.RunLaws.{seenAs, play-valid, run-heard}
 use Rattle.rules.proofs.RunLine.{play-line}
 use Rattle.rules.proofs.RunQueue.{play-queue}
 use Rattle.rules.proofs.RunWaits.{waits-from}
-use Rattle.rules.proofs.MapRead.{words-length}
 use Rattle.rules.proofs.MapLaws.{read-back, test-written}
-use Rattle.rules.proofs.RunMemory.{paper-sensible, run-written}
+use Rattle.rules.proofs.RunMemory.{paper-sensible, rest-of, run-written}
 
 -- at power-on a group has no line
-line-at-first : (b : Build) (g : ℕ) → 1 ≤ g → g ≤ groupCount → line (powerOn b) g ≡ []
+line-at-first : (b : Build) (g : ℕ) → 1 ≤ g → line (powerOn b) g ≡ []
 unfolding view atFirst
-line-at-first b g lo hi = ap (λ (p : PrivateLine). p .messages) (power-on-view b g lo hi)
+line-at-first b g lo = ap (λ (p : PrivateLine). p .messages) (power-on-view b g lo)
 
 -- and the hardware queue is empty
 queue-at-first : (b : Build) → powerOn b .queue ≡ []
@@ -49,7 +47,7 @@ delivered {b} s is g lo hi =
       line-private = sym (ap (λ (h : Listened). h .line .messages) heard);
       line-accepted =
           play-line v g lo hi is
-          ∙ ap (λ (l : List Message). drop (disposals g es) (l ++ filter (isOf g) (arrivals es))) (line-at-first b g lo hi);
+          ∙ ap (λ (l : List Message). drop (disposals g es) (l ++ filter (isOf g) (arrivals es))) (line-at-first b g lo);
       queue-accepted = play-queue v is ∙ ap (λ (q : List Message). drop (left es) (q ++ arrivals es)) (queue-at-first b);
       waits = λ before after e m p same one place waited.
           let none : length (powerOn b .queue) ≡ 0 = ap length (queue-at-first b) in
@@ -72,7 +70,7 @@ over-memory m long is =
     let written : runMemory m is ≡ record { events = run paper01 is .events; memory = words n ++ rest } = run-written m long is in
     record {
       stays-node = subst (λ (r : PlayedMemory). isMemory (r .memory) ≡ true) (sym written) (test-written n rest v);
-      rest-kept = ap (λ (r : PlayedMemory). drop size (r .memory)) written ∙ drop-at (words n) rest size (words-length n v);
+      rest-kept = ap (λ (r : PlayedMemory). drop size (r .memory)) written ∙ rest-of n rest v;
       delivered = λ g lo hi.
           subst
           (λ (r : PlayedMemory). Delivered (paper01 .timeout) g (r .events) (line (nodeAt (r .memory)) g) (nodeAt (r .memory) .queue))

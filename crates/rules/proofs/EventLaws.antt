@@ -1,4 +1,4 @@
--- What is counted of a refused step is nothing. Assumes nothing.
+-- The event of a step, and that nothing is counted of a refused one. Assumes nothing.
 use Prim.Native.Nat.{ℕ, suc}
 use native.Mathlib.Omega.{arith}
 use mathlib.Core.Path.{_≡_, refl}
@@ -8,7 +8,13 @@ use borrow.Author.Tests.{ne-eqb}
 use lib.Dec.{eqb}
 use Rattle.rules.specs.Operation.{poll, peek, dispose, beginAtomic, endAtomic, describe, launch}
 use Rattle.rules.specs.Operation.{Operation, arrive, schedule, tick, user, unknown, accepted}
-use Rattle.rules.specs.Run.{arrivedBy, disposedBy, tickedBy}
+use Rattle.rules.specs.Node.{Node}
+use Rattle.rules.specs.Step.{Stepped}
+use Rattle.rules.specs.Run.{Event, arrivedBy, disposedBy, tickedBy}
+
+-- what is seen of a step on a node
+abbrev pub eventOf : Node → Operation → Stepped → Event
+eventOf n op s = record { runner = n .running; operation = op; report = s .report }
 
 -- a refusal's number is not that of an accepted step
 pub refusal-answer : (r : ℕ) → eqb (suc r) accepted ≡ false

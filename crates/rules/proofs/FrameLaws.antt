@@ -213,7 +213,7 @@ module _ {b : Build} {v : Buffer} (good : GoodBuffer b v) (some : 1 ≤ v .count
       rw (← drop-drop 1 (v .used) (v .places), take-drop 1 (v .count - 1) (drop (v .used) (v .places)), count)
 
   -- the buffer has a frame, and the others are one less
-  held : 1 ≤ length (v .frames)
+  pub held : 1 ≤ length (v .frames)
   held = rw (good .list-length) (ceil-some (v .used + v .count) (b .perFrame) (omega arith) (omega arith))
 
   fewer : length (v .frames) ≡ length (drop 1 (v .frames)) + 1

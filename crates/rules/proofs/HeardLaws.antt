@@ -6,7 +6,7 @@ use mathlib.Core.Path.{_≡_, refl, sym, ap, _∙_, subst}
 use mathlib.Core.Logic.{_≢_}
 use mathlib.Core.Bool.{Bool, true, false, cond}
 use mathlib.Core.List.{List, [], _∷_, _++_, append-nil}
-use borrow.Author.Tests.{eqb-true, eqb-false, eq-eqb, ne-eqb}
+use borrow.Author.Tests.{eqb-true, eqb-false, ne-eqb}
 use lib.Dec.{eqb}
 use Rattle.rules.specs.Build.{Build, groupCount}
 use Rattle.rules.specs.Node.{Message, Node, groupOf, withRunning, withTimer, withQueue, inBuffer, inQueue, isOf, line}
@@ -17,15 +17,18 @@ use Rattle.rules.specs.Step.{Effect, Stepped, valued, scheduled, ticks, 
 use Rattle.rules.specs.Private.{PrivateLine, message, request, nothing, told, Answer, Heard, refuses, unchanged, own, isCalled, called, afterwards, answered, unheard, joined, withHas, hear}
 use Rattle.rules.specs.Run.{answerOf, answerTo}
 use Rattle.rules.specs.Valid.{Valid}
-use Rattle.rules.proofs.Sound.{Sound, valid-sound}
+use Rattle.rules.proofs.Sound.{Sound, flags-refl, valid-sound}
 use Rattle.rules.proofs.SettlingLaws.{settle-sound, drain-line, drain-flags, drain-running}
 use Rattle.rules.proofs.LineLaws.{arrive-line}
 use Rattle.rules.proofs.TickLaws.{Ticked, idle, counting, timeout, ticked-by}
+use Rattle.rules.proofs.ListLaws.{filter-pass, filter-fail}
+use Rattle.rules.proofs.NodeLaws.{is-of, not-of}
+use Rattle.rules.proofs.ActLaws.{scheduled-cases, user-accepted}
 use Rattle.rules.proofs.StepLaws.{act-sound, step-cases}
 use Rattle.rules.proofs.EventLaws.{refusal-answer}
-use Rattle.rules.proofs.ViewLaws.{view, view-same, settle-view, valid-quiet, upcall-named, upcall-view}
+use Rattle.rules.proofs.ViewLaws.{timer-view, nobody, called-quiet, view, view-same, settle-view, valid-quiet, upcall-named, upcall-view}
 use Rattle.rules.proofs.RequestLaws.{suc-zero}
-use Rattle.rules.proofs.ServeLaws.{own-refused, serve-own, serve-other, timer-view}
+use Rattle.rules.proofs.ServeLaws.{own-refused, serve-own, serve-other}
 
 -- what the private line of group g, standing at the view of n, makes of a step that reports so and leaves the node k
 abbrev pub heardAs : ℕ → Node → Operation → Report → Node → Heard
@@ -34,11 +37,6 @@ heardAs g n op r k =
 
 abbrev pub Agrees : ℕ → Node → Operation → Stepped → Type 0
 Agrees g n op s = hear g (view g n) (told g op (eqb (s .report .answer) accepted)) ≡ heardAs g n op (s .report) (s .node)
-
--- where none is due, an upcall changes nothing
-called-quiet : (p : PrivateLine) → isCalled p ≡ false → called p ≡ p
-unfolding called
-called-quiet p e = rw e refl
 
 -- settling and the upcall, as the group sees them
 pub finish-view : {b : Build} (e : Effect) → Sound b (e .node) → (g : ℕ) → 1 ≤ g → g ≤ groupCount → view g (finish e .node) ≡ called (view g (e .node))
@@ -72,10 +70,6 @@ seen e s g lo hi xs p same =
     λ i. record { answers = xs; upcall = up i; line = l i }
 
 -- A refused step.
-
--- no group is number 0
-nobody : (g : ℕ) → 1 ≤ g → eqb 0 g ≡ false
-nobody g lo = ne-eqb 0 g (λ h. omega arith)
 
 -- what the group is not told of
 untold : (g : ℕ) (n : Node) → 1 ≤ g → unheard (view g n) ≡ record { answers = []; upcall = eqb 0 g; line = view g n }
@@ -127,10 +121,11 @@ refused-agrees b n unknown r e g lo = untold g n lo
 
 -- A: the message joins the line of its group
 arrive-same : (n : Node) (g : ℕ) (ws : List ℕ) → joined g ws (view g n) ≡ view g (queued (record { group = g; words = ws }) n)
-unfolding view joined queued withQueue groupOf isOf
+unfolding view joined queued withQueue groupOf
 arrive-same n g ws =
     let m : Message = record { group = g; words = ws } in
-    let l : line (queued m n) g ≡ line n g ++ (m ∷ []) = arrive-line m n g ∙ ap (λ (t : Bool). line n g ++ elim t [ true ↦ m ∷ [] | false ↦ [] ]) (eq-eqb g g refl) in
+    let l : line (queued m n) g ≡ line n g ++ (m ∷ []) =
+    arrive-line m n g ∙ ap (λ (ms : List Message). line n g ++ ms) (filter-pass (isOf g) m [] (is-of g m refl)) in
     λ i.
     record {
       has = eqb (n .running) g;
@@ -140,21 +135,19 @@ arrive-same n g ws =
       descriptor = groupOf n g .descriptor;
     }
 
-arrive-other : (n : Node) (g : ℕ) (m : Message) → eqb (m .group) g ≡ false → view g (queued m n) ≡ view g n
-unfolding queued withQueue groupOf isOf
+arrive-other : (n : Node) (g : ℕ) (m : Message) → m .group ≢ g → view g (queued m n) ≡ view g n
+unfolding queued withQueue groupOf
 arrive-other n g m ne =
     let l : line (queued m n) g ≡ line n g =
-    arrive-line m n g ∙ ap (λ (t : Bool). line n g ++ elim t [ true ↦ m ∷ [] | false ↦ [] ]) ne ∙ append-nil (line n g) in
-    view-same g (queued m n) n refl (record { atomic = refl; pending = refl; descriptor = refl }) l
+    arrive-line m n g ∙ ap (λ (ms : List Message). line n g ++ ms) (filter-fail (isOf g) m [] (not-of g m ne)) ∙ append-nil (line n g) in
+    view-same g (queued m n) n refl flags-refl l
 
 -- S: the group has the processor exactly if it is named
 pub schedule-view : (n : Node) (h g : ℕ) → withHas (eqb h g) (view g n) ≡ view g (scheduled h n)
-unfolding scheduled withHas view withTimer withRunning line inBuffer inQueue groupOf
-schedule-view n h g = go (eqb h (n .running)) refl
-  where
-    go : (t : Bool) → eqb h (n .running) ≡ t → withHas (eqb h g) (view g n) ≡ view g (cond t n (withTimer 0 (withRunning h n)))
-    go false e = refl
-    go true e = ap (λ (x : ℕ). withHas (eqb x g) (view g n)) (eqb-true _ _ e)
+unfolding withHas view withTimer withRunning line inBuffer inQueue groupOf
+schedule-view n h g =
+    scheduled-cases (λ k. withHas (eqb h g) (view g n) ≡ view g k) h n
+    (λ e. ap (λ (x : ℕ). withHas (eqb x g) (view g n)) (eqb-true _ _ e)) (λ e. refl)
 
 -- T: ticks, and a timeout's drain, are invisible
 pub tick-view : {b : Build} {n : Node} → Valid b n → (k g : ℕ) → 1 ≤ g → g ≤ groupCount → view g (ticks b k (valued 0 n) .node) ≡ view g n
@@ -198,14 +191,6 @@ request-accepted {b} {n} v q s run e g lo hi = go (eqb (n .running) g) refl
     go false t = unseen v e′ s g lo hi (serve-other b n run g lo (λ h. eqb-false _ _ t (sym h)) q)
     go true t = mine (eqb-true _ _ t)
 
--- an accepted request has a runner
-pub user-accepted : (n : Node) (q : Request) → cond (eqb (n .running) 0) nobodyRuns (refuseRequest n q) ≡ 0 → (1 ≤ n .running) × (refuseRequest n q ≡ 0)
-user-accepted n q = go (eqb (n .running) 0) refl
-  where
-    go : (t : Bool) → eqb (n .running) 0 ≡ t → cond t nobodyRuns (refuseRequest n q) ≡ 0 → (1 ≤ n .running) × (refuseRequest n q ≡ 0)
-    go true t e = suc-zero e
-    go false t e = let ne : n .running ≢ 0 = eqb-false _ _ t in (omega (arith, ne), e)
-
 -- an accepted step of any kind
 accepted-agrees : {b : Build} {n : Node} → Valid b n → (op : Operation) → refusal b n op ≡ 0 → (g : ℕ) → 1 ≤ g → g ≤ groupCount
     → Agrees g n op (finish (act b n op))
@@ -225,7 +210,7 @@ accepted-agrees {b} {n} v (arrive h ws) e g lo hi = go (eqb h g) refl
     go true t =
         seen arrival (act-sound v (arrive h ws) e) g lo hi [] (joined g ws (view g n))
         (arrive-same n g ws ∙ ap (λ (x : ℕ). view g (queued (record { group = x; words = ws }) n)) (sym (eqb-true _ _ t)))
-    go false t = unseen v arrival (act-sound v (arrive h ws) e) g lo hi (arrive-other n g m t)
+    go false t = unseen v arrival (act-sound v (arrive h ws) e) g lo hi (arrive-other n g m (eqb-false _ _ t))
 accepted-agrees {b} {n} v (schedule h) e g lo hi =
     seen (valued 0 (scheduled h n)) (act-sound v (schedule h) e) g lo hi [] (withHas (eqb h g) (view g n)) (schedule-view n h g)
 accepted-agrees {b} {n} v (tick k) e g lo hi = unseen v (ticks b k (valued 0 n)) (act-sound v (tick k) e) g lo hi (tick-view v k g lo hi)

@@ -4,7 +4,7 @@
 use Prim.Native.Nat.{ℕ, _≤_}
 use mathlib.Core.Path.{_≡_, refl, sym, ap, _∙_}
 use mathlib.Core.Logic.{_≢_}
-use mathlib.Core.Bool.{Bool, true, false, true≢false, cond, not, _&&_}
+use mathlib.Core.Bool.{Bool, true, false, true≢false, cond, not, and-eq-true-iff}
 use mathlib.Core.List.{List, [], _∷_, _++_, map, append-assoc}
 use native.Mathlib.Decide.{ℕ-discrete}
 use native.Mathlib.Omega.{arith}
@@ -32,16 +32,11 @@ arrive-line m n g =
     ap (λ (ms : List Message). inBuffer n g ++ ms) (filter-append (isOf g) (n .queue) (m ∷ []))
     ∙ sym (append-assoc (inBuffer n g) (inQueue n g) (filter (isOf g) (m ∷ [])))
 
--- both tests of two pass
-pub both : (t u : Bool) → t && u ≡ true → (t ≡ true) × (u ≡ true)
-both true u e = (refl, e)
-both false u e = (cc, cc)
-
 -- a head that stays is the running group's, and that is direct
 pub stays : (n : Node) (m : Message) → mayStay n m ≡ true → (m .group ≡ n .running) × (buffered n (n .running) ≡ false)
 unfolding mayStay
 stays n m e =
-    let tests = both (eqb (m .group) (n .running)) (not (buffered n (m .group))) e in
+    let tests = and-eq-true-iff (eqb (m .group) (n .running)) (not (buffered n (m .group))) .0 e in
     let same = eqb-true (m .group) (n .running) (tests .0) in
     (same, rw same at (not-true (buffered n (m .group)) (tests .1)))
 

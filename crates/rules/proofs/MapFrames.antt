@@ -4,7 +4,7 @@
 use Prim.Native.Nat.{ℕ, _*_, _≤_, _<_}
 use mathlib.Core.Path.{_≡_, refl, ap, _∙_}
 use mathlib.Core.Bool.{Bool, true, false}
-use mathlib.Core.List.{List, [], _∷_, _++_, map, List·Memᴰ, List·Memᴰ·head, List·Memᴰ·tail}
+use mathlib.Core.List.{List, [], _∷_, map, List·Memᴰ, List·Memᴰ·head, List·Memᴰ·tail, map-append}
 use native.Mathlib.Omega.{arith}
 use lib.Dec.{eqb}
 use lib.ListN.{length, take, drop, length-drop, take-append-drop}
@@ -27,11 +27,6 @@ numbers-from : (fs : List ℕ) (ps : List Place) → map frameNumber (framesFrom
 unfolding framesFrom frameNumber
 numbers-from [] ps = refl
 numbers-from (f ∷ fs) ps = ap (λ (r : List ℕ). f ∷ r) (numbers-from fs (drop (paper01 .perFrame) ps))
-
--- of lists joined
-map-append : {A B : Type 0} (f : A → B) (xs ys : List A) → map f (xs ++ ys) ≡ map f xs ++ map f ys
-map-append f [] ys = refl
-map-append {B = B} f (x ∷ xs) ys = ap (λ (r : List B). f x ∷ r) (map-append f xs ys)
 
 -- of the frames of all groups: their lists
 numbers-groups : (Gs : List Group) → map frameNumber (concatMap framesOf Gs) ≡ concatMap frameList Gs

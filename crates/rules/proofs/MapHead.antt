@@ -4,24 +4,26 @@
 -- is below 32 and a buffer's used-up places are fewer than a frame's. Assumes nothing.
 use Prim.Native.Nat.{ℕ, zero, suc, pred, _+_, _-_, _*_, _≤_, _<_}
 use mathlib.Core.Path.{_≡_, refl, sym, ap, _∙_}
-use mathlib.Core.Bool.{Bool, true, false, true≢false, false≢true, and-eq-true-iff}
-use mathlib.Core.List.{List, [], _∷_, map, List·Memᴰ, List·Memᴰ·head, List·Memᴰ·tail}
+use mathlib.Core.Bool.{Bool, true, false, true≢false, false≢true}
+use mathlib.Core.List.{List, [], _∷_, map}
 use native.Mathlib.Omega.{arith}
 use lib.Dec.{eqb}
 use lib.ListN.{length, take, drop, getD, List·getD-append}
 use lib.Seq.{drop-cons}
-use borrow.Author.Tests.{ltb-true, ltb-false, ne-eqb}
-use Rattle.rules.specs.Lists.{Every, filter, isEmpty, concatMap}
+use borrow.Author.Tests.{ltb-true, ne-eqb}
+use Rattle.rules.specs.Lists.{Every, isEmpty, concatMap}
 use Rattle.rules.specs.Build.{paper01, groupCount, wordLimit}
 use Rattle.rules.specs.Node.{Message, Place, Buffer, Group, Node, emptyGroup, emptyPlace, groupOf, buffered, messageOf, waiting, inBuffer, isOf, inQueue, line}
-use Rattle.rules.specs.Frames.{ceilDiv}
-use Rattle.rules.specs.Settling.{mayStay}
-use Rattle.rules.specs.Valid.{GoodBuffer, GoodGroup, Valid, frameNumber, frameList, frameNumbers}
+use Rattle.rules.specs.Valid.{GoodBuffer, Valid, frameNumber, frameList, frameNumbers}
 use Rattle.rules.specs.Memory.{queuedAt, queueAt, queueStride, groupsAt, groupStride, placeStride, listOffset, heldOffset, usedOffset}
 use Rattle.rules.specs.Memory.{word, wordsAt, frameAddress, groupAddress, messageAt, messagesAt, placeAt, framePlaces, listAt, bufferAt, groupAt, nodeAt}
 use Rattle.rules.specs.MemoryTest.{isMemory, Part, firstPlace, bufferPart, queuePart, runnerPart, headPart, headWords}
-use Rattle.rules.proofs.EveryLaws.{every-at, every-append, every-concat}
-use Rattle.rules.proofs.ListLaws.{once-bounded}
+use Rattle.rules.proofs.EveryLaws.{every-getD, every-append, every-concat}
+use Rattle.rules.proofs.ListLaws.{filter-pass, once-bounded}
+use Rattle.rules.proofs.Sound.{valid-sound}
+use Rattle.rules.proofs.FrameLaws.{fits, held}
+use Rattle.rules.proofs.NodeLaws.{is-of, within, group-good}
+use Rattle.rules.proofs.LineLaws.{stays, direct-line}
 use Rattle.rules.proofs.MapWords.{take-wordsAt, wordsAt-part, length-wordsAt, length-records, record-at}
 use Rattle.rules.proofs.MapParts.{messages, places, groups}
 use Rattle.rules.proofs.MapTest.{memory-fits}
@@ -37,12 +39,6 @@ first-empty : (l : List Message) → isEmpty l ≡ true → firstWords l ≡ []
 unfolding firstWords
 first-empty [] e = refl
 first-empty (x ∷ xs) e = absurd (false≢true e)
-
--- an element is a member
-member-at : {A : Type 0} (d : A) (xs : List A) (i : ℕ) → i < length xs → List·Memᴰ (getD xs i d) xs
-member-at d [] i h = absurd (omega arith)
-member-at d (x ∷ xs) zero h = List·Memᴰ·head refl
-member-at d (x ∷ xs) (suc i) h = List·Memᴰ·tail (member-at d xs i (omega arith))
 
 -- some of the eight words at an address, within the memory
 some-words : (m : List ℕ) (a k : ℕ) → k ≤ wordLimit → a + wordLimit ≤ length m → take k (wordsAt m a wordLimit) ≡ take k (drop a m)
@@ -78,20 +74,14 @@ place-first m a d h l =
     (List·getD-append (framePlaces m f) _ d (word m (a + usedOffset)) (rw l8 l)
     ∙ record-at (places m) d (frameAddress f) (paper01 .perFrame) (word m (a + usedOffset)) l)
 
-module _ (n : Node) (v : Valid paper01 n) (g : ℕ) (low : 1 ≤ g) (high : g ≤ groupCount) where
-  -- the group of a number from 1 to 8 is one of the groups
-  group-member : List·Memᴰ (groupOf n g) (n .groups)
-  unfolding groupOf
-  group-member = member-at emptyGroup (n .groups) (pred g) (let c = v .group-count in omega arith)
-
-  -- and the numbers of its frames are below 32
-  list-bounded : Every (λ f. f < paper01 .frames) (frameList (groupOf n g))
-  unfolding frameNumbers
-  list-bounded =
-      let all = once-bounded (paper01 .frames) (frameNumbers n) (v .frames-once) (v .frames-all) in
-      let lists = every-append (λ f. f < paper01 .frames) (map frameNumber (n .free)) (concatMap frameList (n .groups)) .0 all .1 in
-      every-at (λ G. Every (λ f. f < paper01 .frames) (frameList G))
-      (every-concat (λ f. f < paper01 .frames) frameList (n .groups) .0 lists) group-member
+-- the numbers of a group's frames are below 32
+list-bounded : (n : Node) → Valid paper01 n → (g : ℕ) → 1 ≤ g → g ≤ groupCount → Every (λ f. f < paper01 .frames) (frameList (groupOf n g))
+unfolding frameNumbers groupOf
+list-bounded n v g low high =
+    let all = once-bounded (paper01 .frames) (frameNumbers n) (v .frames-once) (v .frames-all) in
+    let lists = every-append (λ f. f < paper01 .frames) (map frameNumber (n .free)) (concatMap frameList (n .groups)) .0 all .1 in
+    every-getD (λ G. Every (λ f. f < paper01 .frames) (frameList G)) (n .groups) (pred g) emptyGroup
+    (every-concat (λ f. f < paper01 .frames) frameList (n .groups) .0 lists) (within (valid-sound v) g low high)
 
 -- the words of a part of the memory
 unfoldable partWords : List ℕ → Part → List ℕ
@@ -104,16 +94,16 @@ module _ (m : List ℕ) (h : isMemory m ≡ true) (g : ℕ) (low : 1 ≤ g) (hig
   -- its buffer is good
   good-buffer : GoodBuffer paper01 (bufferAt m (groupAddress g))
   good-buffer =
-      rw (buffer-at m g low high) at
-      (every-at (GoodGroup paper01) (test-valid m h .groups-good) (group-member (nodeAt m) (test-valid m h) g low high) .buffer)
+      rw (buffer-at m g low high) at (group-good (valid-sound (test-valid m h)) g low high .buffer)
+
+  -- with a message in it
+  some-count : 1 ≤ bufferAt m (groupAddress g) .count
+  some-count = rw (buffer-at m g low high) at some
 
   -- it holds a frame
   some-held : 1 ≤ word m (groupAddress g + heldOffset)
-  unfolding bufferAt listAt ceilDiv
-  some-held =
-      let count = rw (buffer-at m g low high) at some in
-      let l = good-buffer .list-length in
-      omega (arith, length-wordsAt m (groupAddress g + listOffset) (word m (groupAddress g + heldOffset)))
+  unfolding bufferAt listAt
+  some-held = omega (arith, held good-buffer some-count, length-wordsAt m (groupAddress g + listOffset) (word m (groupAddress g + heldOffset)))
 
   -- the first of which is below 32
   first-bounded : word m (groupAddress g + listOffset) < paper01 .frames
@@ -127,14 +117,10 @@ module _ (m : List ℕ) (h : isMemory m ≡ true) (g : ℕ) (low : 1 ≤ g) (hig
   waits-there : waiting (bufferAt m (groupAddress g))
       ≡ placeAt m (firstPlace m g)
       ∷ take (bufferAt m (groupAddress g) .count - 1) (drop (suc (bufferAt m (groupAddress g) .used)) (bufferAt m (groupAddress g) .places))
-  unfolding firstPlace bufferAt listAt ceilDiv
+  unfolding firstPlace bufferAt
   waits-there =
-      let count = rw (buffer-at m g low high) at some in
-      let whole = good-buffer .whole in
-      let l = good-buffer .list-length in
-      let u = good-buffer .used-bound in
-      rw (← place-first m (groupAddress g) emptyPlace some-held u)
-      (first-waiting (bufferAt m (groupAddress g)) emptyPlace count (omega arith))
+      rw (← place-first m (groupAddress g) emptyPlace some-held (good-buffer .used-bound))
+      (first-waiting (bufferAt m (groupAddress g)) emptyPlace some-count (omega (arith, fits good-buffer, some-count)))
 
   -- that place is within the memory
   place-within : firstPlace m g + 1 + wordLimit ≤ length m
@@ -151,27 +137,22 @@ module _ (m : List ℕ) (h : isMemory m ≡ true) (g : ℕ) (low : 1 ≤ g) (hig
 
 -- The first message of the running group where it is direct: the head of the hardware queue.
 
--- a buffer of no messages has none waiting
-none-waiting : (n : Node) (g : ℕ) → groupOf n g .buffer .count ≡ 0 → line n g ≡ inQueue n g
-unfolding line inBuffer waiting
-none-waiting n g e = rw e
-
-module _ (n : Node) (direct : groupOf n (n .running) .buffer .count ≡ 0) where
+module _ (n : Node) (direct : buffered n (n .running) ≡ false) where
   -- without messages in the queue it has none
   queue-empty : n .queue ≡ [] → isEmpty (line n (n .running)) ≡ true
   unfolding inQueue
-  queue-empty e = rw (none-waiting n (n .running) direct, e)
+  queue-empty e = rw (direct-line n (n .running) direct, e)
 
   -- the head that may stay is its first
   queue-first : Valid paper01 n → (x : Message) (q : List Message) → n .queue ≡ x ∷ q → firstWords (line n (n .running)) ≡ x .words
-  unfolding firstWords inQueue isOf mayStay
+  unfolding firstWords inQueue
   queue-first v x q e =
-      let stays = and-eq-true-iff (eqb (x .group) (n .running)) _ .0 (v .head-stays x q e) .0 in
-      rw (none-waiting n (n .running) direct, e, filter, stays)
+      let own = is-of (n .running) x (stays n x (v .head-stays x q e) .0) in
+      rw (direct-line n (n .running) direct, e, filter-pass (isOf (n .running)) x q own)
 
 module _ (m : List ℕ) (h : isMemory m ≡ true) where
   -- so the part that the head call names holds its words
-  queue-head : groupOf (nodeAt m) (nodeAt m .running) .buffer .count ≡ 0 → isEmpty (line (nodeAt m) (nodeAt m .running)) ≡ false
+  queue-head : buffered (nodeAt m) (nodeAt m .running) ≡ false → isEmpty (line (nodeAt m) (nodeAt m .running)) ≡ false
       → firstWords (line (nodeAt m) (nodeAt m .running)) ≡ partWords m (queuePart m)
   unfolding nodeAt partWords queuePart messageAt
   queue-head direct some = go (word m queuedAt) refl
@@ -206,7 +187,7 @@ module _ (m : List ℕ) (h : isMemory m ≡ true) where
           (sym (buffer-first m h (nodeAt m .running) low (test-valid m h .running-bound) (ltb-true 0 _ w)))
       go runs false false e w =
           rw (runs, e, w)
-          (sym (queue-head (omega (arith, ltb-false 0 (groupOf (nodeAt m) (nodeAt m .running) .buffer .count) w)) e))
+          (sym (queue-head w e))
 
   -- none where nobody runs
   pub head-nobody : nodeAt m .running ≡ 0 → headWords m ≡ []

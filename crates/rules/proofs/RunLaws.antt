@@ -48,5 +48,5 @@ pub run-heard : {b : Build} → Sensible b → (g : ℕ) → 1 ≤ g → g ≤ g
     → listen g (run b is .events) ≡ seenAs b (powerOn b) g is
 unfolding listen run
 run-heard {b} s g lo hi is =
-    ap (λ (p : PrivateLine). listenFrom g p (play b (powerOn b) is .events)) (sym (power-on-view b g lo hi))
+    ap (λ (p : PrivateLine). listenFrom g p (play b (powerOn b) is .events)) (sym (power-on-view b g lo))
     ∙ play-heard (power-on-valid b s) g lo hi is

@@ -18,13 +18,14 @@ use Rattle.rules.specs.Run.{Input, asked, Event, play, wasAccepted, arri
 use Rattle.rules.specs.Valid.{Valid}
 use Rattle.rules.proofs.ListLaws.{filter-append}
 use Rattle.rules.proofs.FlowLaws.{Flow, flow-kept, flow-join}
+use Rattle.rules.proofs.ActLaws.{user-accepted}
 use Rattle.rules.proofs.StepLaws.{act-sound, step-cases, step-valid}
 use Rattle.rules.proofs.EventLaws.{refusal-answer, disposed-none, arrived-none}
 use Rattle.rules.proofs.LineLaws.{arrive-line}
 use Rattle.rules.proofs.ViewLaws.{view}
 use Rattle.rules.proofs.RequestLaws.{suc-zero}
 use Rattle.rules.proofs.ServeLaws.{serve-other, served-line, served-enough}
-use Rattle.rules.proofs.HeardLaws.{finish-view, schedule-view, tick-view, user-accepted}
+use Rattle.rules.proofs.HeardLaws.{finish-view, schedule-view, tick-view}
 
 -- an accepted operation
 act-line : {b : Build} {n : Node} → Valid b n → (op : Operation) → refusal b n op ≡ 0 → (g : ℕ) → 1 ≤ g → g ≤ groupCount

@@ -22,9 +22,9 @@ use Rattle.rules.proofs.SettlingLaws.{upcall-kept, settle-queue, settle
 use Rattle.rules.proofs.LineLaws.{direct-head, removed-queue-buffered, removed-queue-direct}
 use Rattle.rules.proofs.TickLaws.{Ticked, idle, counting, timeout, ticked-by}
 use Rattle.rules.proofs.StepLaws.{step-cases, step-valid}
-use Rattle.rules.proofs.EventLaws.{refusal-answer, disposed-none, arrived-none}
+use Rattle.rules.proofs.EventLaws.{eventOf, refusal-answer, disposed-none, arrived-none}
 use Rattle.rules.proofs.RequestLaws.{suc-zero, dispose-some}
-use Rattle.rules.proofs.HeardLaws.{user-accepted}
+use Rattle.rules.proofs.ActLaws.{scheduled-cases, user-accepted}
 use Rattle.rules.proofs.FlowLaws.{Flow, flow-kept, flow-drop, flow-join}
 
 -- how many an accepted operation takes from the hardware queue before settling
@@ -33,12 +33,8 @@ taken op e = e .moved + disposedBy op (eqb (e .trap) noTrap)
 
 -- S
 scheduled-queue : (h : ℕ) (n : Node) → scheduled h n .queue ≡ n .queue
-unfolding scheduled withTimer withRunning
-scheduled-queue h n = go (eqb h (n .running))
-  where
-    go : (t : Bool) → (cond t n (withTimer 0 (withRunning h n))) .queue ≡ n .queue
-    go true = refl
-    go false = refl
+unfolding withTimer withRunning
+scheduled-queue h n = scheduled-cases (λ k. k .queue ≡ n .queue) h n (λ e. refl) (λ e. refl)
 
 -- T
 ticked-queue : {b : Build} {n : Node} → Valid b n → (k : ℕ)
@@ -103,7 +99,7 @@ upcall-queue n = upcall-kept (λ k. k .queue) n (λ G. refl)
 -- a step: what was accepted joins the queue, and as many leave it as `left` counts
 pub step-queue : {b : Build} {n : Node} → Valid b n → (op : Operation)
     → Flow (n .queue) (step b n op .node .queue) (arrivedBy op (eqb (step b n op .report .answer) accepted))
-    (leftBy (record { runner = n .running; operation = op; report = step b n op .report }))
+    (leftBy (eventOf n op (step b n op)))
 unfolding finish leftBy wasAccepted taken
 step-queue {b} {n} v op =
     step-cases b n op Goal finished (λ r z. rw (refusal-answer r, arrived-none op, disposed-none op) (flow-kept refl))
@@ -111,7 +107,7 @@ step-queue {b} {n} v op =
     Goal : Stepped → Type 0
     Goal s =
         Flow (n .queue) (s .node .queue) (arrivedBy op (eqb (s .report .answer) accepted))
-        (leftBy (record { runner = n .running; operation = op; report = s .report }))
+        (leftBy (eventOf n op s))
 
     e : Effect
     e = act b n op

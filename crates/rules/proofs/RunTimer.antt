@@ -22,10 +22,11 @@ use Rattle.rules.specs.Valid.{Valid}
 use Rattle.rules.proofs.SettlingLaws.{pass-moves, settle-keeps, upcall-kept, settle-moved, drain-queue}
 use Rattle.rules.proofs.LineLaws.{stays, buffered-empty}
 use Rattle.rules.proofs.TickLaws.{Ticked, idle, counting, timeout, ticked-by}
+use Rattle.rules.proofs.ActLaws.{scheduled-cases}
 use Rattle.rules.proofs.StepLaws.{step-cases}
 use Rattle.rules.proofs.RequestLaws.{suc-zero}
 use Rattle.rules.proofs.ListLaws.{some-length}
-use Rattle.rules.proofs.EventLaws.{refusal-answer, ticked-none}
+use Rattle.rules.proofs.EventLaws.{eventOf, refusal-answer, ticked-none}
 use Rattle.rules.proofs.RunQueue.{taken, upcall-queue}
 
 -- the upcall leaves the timer
@@ -41,6 +42,10 @@ module _ {b : Build} {n : Node} (v : Valid b n) (some : isEmpty (n .queue) ≡ f
       let t : b .timeout * 1 ≤ b .timeout * l = mul-le-mul-left (b .timeout) h in
       omega (arith, v .timer-bound, mul-one (b .timeout), t)
 
+  -- the queue is not empty
+  queue-some : n .queue ≡ [] → ⊥
+  queue-some e = true≢false (sym (ap isEmpty e) ∙ some)
+
   -- S to another group: the head was the last runner's
   switch-moves : (h : ℕ) → eqb h (n .running) ≡ false → 1 ≤ settle (withTimer 0 (withRunning h n)) .moved
   unfolding settle withTimer withRunning mayStay
@@ -50,7 +55,7 @@ module _ {b : Build} {n : Node} (v : Valid b n) (some : isEmpty (n .queue) ≡ f
       k = withTimer 0 (withRunning h n)
 
       go : (q : List Message) → n .queue ≡ q → 1 ≤ pass (n .queue) k .moved
-      go [] e = absurd (true≢false (sym (ap isEmpty e) ∙ some))
+      go [] e = absurd (queue-some e)
       go (m ∷ q) e =
           let own : m .group ≡ n .running = stays n m (v .head-stays m q e) .0 in
           let gone : eqb (m .group) h ≡ false = ne-eqb (m .group) h (λ x. eqb-false _ _ ne (sym x ∙ own)) in
@@ -61,20 +66,14 @@ module _ {b : Build} {n : Node} (v : Valid b n) (some : isEmpty (n .queue) ≡ f
   left-some : (k : Node) → isEmpty (settle k .node .queue) ≡ false → k .queue ≡ [] → ⊥
   left-some k s e = omega (arith, settle-moved k, ap length e, some-length (settle k .node .queue) s)
 
-  queue-some : n .queue ≡ [] → ⊥
-  queue-some e = true≢false (sym (ap isEmpty e) ∙ some)
-
   -- S
   schedule-timer : (h : ℕ) → 0 + n .timer ≤ b .timeout * (0 + settle (scheduled h n) .moved) + scheduled h n .timer
-  unfolding scheduled withTimer
-  schedule-timer h = go (eqb h (n .running)) refl
-    where
-      to : Node
-      to = withTimer 0 (withRunning h n)
-
-      go : (t : Bool) → eqb h (n .running) ≡ t → 0 + n .timer ≤ b .timeout * (0 + settle (cond t n to) .moved) + cond t n to .timer
-      go true e = omega arith
-      go false e = omega (arith, paid (0 + settle to .moved) (omega (arith, switch-moves h e)))
+  unfolding withTimer
+  schedule-timer h =
+      scheduled-cases (λ k. 0 + n .timer ≤ b .timeout * (0 + settle k .moved) + k .timer) h n (λ e. omega arith)
+      (λ e.
+      let moved : ℕ = settle (withTimer 0 (withRunning h n)) .moved in
+      omega (arith, paid (0 + moved) (omega (arith, switch-moves h e))))
 
   -- T
   tick-timer : (k : ℕ) → isEmpty (settle (ticks b k (valued 0 n) .node) .node .queue) ≡ false
@@ -122,7 +121,7 @@ module _ {b : Build} {n : Node} (v : Valid b n) (some : isEmpty (n .queue) ≡ f
   -- a step
   pub step-timer : (op : Operation) → isEmpty (step b n op .node .queue) ≡ false
       → tickedBy op (eqb (step b n op .report .answer) accepted) + n .timer
-      ≤ b .timeout * leftBy (record { runner = n .running; operation = op; report = step b n op .report }) + step b n op .node .timer
+      ≤ b .timeout * leftBy (eventOf n op (step b n op)) + step b n op .node .timer
   unfolding finish leftBy wasAccepted taken
   step-timer op = step-cases b n op Goal finished (λ r z s. rw (refusal-answer r, ticked-none op) (omega arith))
     where
@@ -130,7 +129,7 @@ module _ {b : Build} {n : Node} (v : Valid b n) (some : isEmpty (n .queue) ≡ f
       Goal s =
           isEmpty (s .node .queue) ≡ false
           → tickedBy op (eqb (s .report .answer) accepted) + n .timer
-          ≤ b .timeout * leftBy (record { runner = n .running; operation = op; report = s .report }) + s .node .timer
+          ≤ b .timeout * leftBy (eventOf n op s) + s .node .timer
 
       finished : refusal b n op ≡ 0 → Goal (finish (act b n op))
       finished z s =

@@ -17,15 +17,12 @@ use Rattle.rules.specs.Step.{Stepped, step}
 use Rattle.rules.specs.Run.{Input, asked, Event, play, wasAccepted, arrivedBy, arrived, arrivals, leftBy, left, tickedBy, ticked}
 use Rattle.rules.specs.Valid.{Valid}
 use Rattle.rules.proofs.ListLaws.{length-some}
+use Rattle.rules.proofs.EventLaws.{eventOf}
 use Rattle.rules.proofs.FlowLaws.{flow-length}
 use Rattle.rules.proofs.StepLaws.{step-valid}
 use Rattle.rules.proofs.RunQueue.{step-queue}
 use Rattle.rules.proofs.RunTimer.{step-timer}
 use Rattle.rules.proofs.RunLaws.{play-valid}
-
--- the event of a step
-abbrev eventOf : Build → Node → Input → Event
-eventOf b n i = record { runner = n .running; operation = asked i; report = step b n (asked i) .report }
 
 -- while the last message of the queue stays, ticks and the timer are paid for
 ticks-paid : {b : Build} {n : Node} → Valid b n → (is : List Input)
@@ -36,7 +33,7 @@ ticks-paid {b} {n} v [] l = omega arith
 ticks-paid {b} {n} v (i ∷ is) l =
     let st : Stepped = step b n (asked i) in
     let rest : List Event = play b (st .node) is .events in
-    let x : ℕ = leftBy (eventOf b n i) in
+    let x : ℕ = leftBy (eventOf n (asked i) st) in
     let len : x + length (st .node .queue) ≡ length (n .queue) + length (arrivedBy (asked i) (eqb (st .report .answer) accepted)) =
     flow-length (step-queue v (asked i)) in
     let stays : left rest < length (st .node .queue) = omega arith in
@@ -88,21 +85,21 @@ waits-from {b} {n} v (i ∷ is) [] after e m p same one place waited =
     let st : Stepped = step b n (asked i) in
     let rest : List Event = play b (st .node) is .events in
     let tail : after ≡ rest = cc in
-    let head : e ≡ eventOf b n i = cc in
-    let len : leftBy (eventOf b n i) + length (st .node .queue) ≡ length (n .queue) + length (arrived (eventOf b n i)) =
+    let head : e ≡ eventOf n (asked i) st = cc in
+    let len : leftBy (eventOf n (asked i) st) + length (st .node .queue) ≡ length (n .queue) + length (arrived (eventOf n (asked i) st)) =
     flow-length (step-queue v (asked i)) in
-    let single : length (arrived (eventOf b n i)) ≡ 1 = ap (λ (x : Event). length (arrived x)) (sym head) ∙ ap length one in
+    let single : length (arrived (eventOf n (asked i) st)) ≡ 1 = ap (λ (x : Event). length (arrived x)) (sym head) ∙ ap length one in
     let gone : length (st .node .queue) ≤ left rest =
     gone-in-time (step-valid v (asked i)) is p (omega arith) (subst (λ (es : List Event). p * b .timeout ≤ ticked es) tail waited) in
     omega (arith, len, single, gone)
 waits-from {b} {n} v (i ∷ is) (x ∷ before) after e m p same one place waited =
     let st : Stepped = step b n (asked i) in
     let tail : play b (st .node) is .events ≡ before ++ (e ∷ after) = cc in
-    let head : x ≡ eventOf b n i = cc in
-    let len : leftBy (eventOf b n i) + length (st .node .queue) ≡ length (n .queue) + length (arrived (eventOf b n i)) =
+    let head : x ≡ eventOf n (asked i) st = cc in
+    let len : leftBy (eventOf n (asked i) st) + length (st .node .queue) ≡ length (n .queue) + length (arrived (eventOf n (asked i) st)) =
     flow-length (step-queue v (asked i)) in
-    let taken : leftBy x ≡ leftBy (eventOf b n i) = ap leftBy head in
-    let came : length (arrived x) ≡ length (arrived (eventOf b n i)) = ap (λ (y : Event). length (arrived y)) head in
+    let taken : leftBy x ≡ leftBy (eventOf n (asked i) st) = ap leftBy head in
+    let came : length (arrived x) ≡ length (arrived (eventOf n (asked i) st)) = ap (λ (y : Event). length (arrived y)) head in
     let both : length (arrived x ++ arrivals before) ≡ length (arrived x) + length (arrivals before) = length-append (arrived x) (arrivals before) in
     let more : length (st .node .queue) + length (arrivals before) + 1 ≤ left (play b (st .node) is .events) =
     waits-from (step-valid v (asked i)) is before after e m p tail one (omega (arith, place, len, taken, came, both)) waited in

@@ -1,26 +1,25 @@
 -- What the running group's operations do is what its private line does, and the other groups do not see it. Assumes nothing.
-use Prim.Native.Nat.{ℕ, suc, pred, _≤_}
+use Prim.Native.Nat.{ℕ, suc, _≤_}
 use native.Mathlib.Omega.{arith}
 use mathlib.Core.Path.{_≡_, refl, sym, ap, _∙_}
 use mathlib.Core.Logic.{_≢_}
-use mathlib.Core.Bool.{Bool, true, false, cond}
+use mathlib.Core.Bool.{true, false}
 use mathlib.Core.List.{List, [], _∷_, _++_}
 use lib.Dec.{eqb}
-use lib.ListN.{length, drop, length-set}
-use Rattle.rules.specs.Lists.{isEmpty}
+use lib.ListN.{length, drop}
 use Rattle.rules.specs.Build.{Build}
-use Rattle.rules.specs.Node.{Node, groupOf, withTimer, withQueue, withFree, withGroup, withFlags, withBuffer, withDescriptor, buffered, inBuffer, inQueue, line}
-use Rattle.rules.specs.Frames.{withStock, removeFirst}
+use Rattle.rules.specs.Node.{Node, groupOf, withFlags, withDescriptor, line}
 use Rattle.rules.specs.Operation.{Request, poll, peek, dispose, beginAtomic, endAtomic, describe, launch, user, accepted}
 use Rattle.rules.specs.Refusal.{refuseRequest}
-use Rattle.rules.specs.Step.{valued, withoutFirst, removed, flagged, disposed, extending, described, launched, serve}
+use Rattle.rules.specs.Step.{valued, removed, flagged, disposed, extending, described, launched, serve}
 use Rattle.rules.specs.Private.{PrivateLine, Answer, says, refuses, unchanged, withAtomic, withOwnDescriptor, own}
 use Rattle.rules.specs.Run.{disposedBy}
 use Rattle.rules.specs.Valid.{Valid}
 use Rattle.rules.proofs.Sound.{SameFlags}
 use Rattle.rules.proofs.ListLaws.{some-length}
 use Rattle.rules.proofs.LineLaws.{removed-line, removed-other, removed-flags, removed-running}
-use Rattle.rules.proofs.ViewLaws.{view, view-same, regroup-other, flags-own, descriptor-own}
+use Rattle.rules.proofs.ActLaws.{removed-sound}
+use Rattle.rules.proofs.ViewLaws.{timer-view, view, view-same, regroup-other, flags-own, descriptor-own}
 use Rattle.rules.proofs.RequestLaws.{poll-accepted, peek-refused, peek-accepted, dispose-refused, dispose-accepted, dispose-some, end-refused, end-accepted, describe-refused, describe-accepted, launch-refused, launch-accepted, zero-suc}
 
 -- a refused request is refused by the private line with the same number, and changes nothing
@@ -35,26 +34,8 @@ own-refused n endAtomic r e = end-refused (view (n .running) n) r e
 own-refused n (describe w) r e = describe-refused (view (n .running) n) w r e
 own-refused n (launch k) r e = launch-refused (n .running) (groupOf n (n .running) .descriptor) (view (n .running) n) k r e
 
--- the timer is no part of the view
-pub timer-view : (g t : ℕ) (n : Node) → view g (withTimer t n) ≡ view g n
-unfolding view withTimer line inBuffer inQueue groupOf
-timer-view g t n = refl
-
--- D keeps the count of groups
-removed-groups : (b : Build) (n : Node) → length (removed b n .groups) ≡ length (n .groups)
-unfolding removed withStock withGroup withBuffer withFree withQueue
-removed-groups b n = go (buffered n (n .running))
-  where
-    go : (t : Bool)
-        → length
-        ((cond t (withStock (n .running) (removeFirst b (n .free) (groupOf n (n .running) .buffer)) n)
-        (withQueue (withoutFirst (n .running) (n .queue)) n)) .groups)
-        ≡ length (n .groups)
-    go true = length-set (n .groups) (pred (n .running)) (withBuffer (removeFirst b (n .free) (groupOf n (n .running) .buffer) .buffer) (groupOf n (n .running)))
-    go false = refl
-
 -- what D leaves of a node, as the runner sees it
-disposed-own : {b : Build} {n : Node} → Valid b n → 1 ≤ n .running → isEmpty (line n (n .running)) ≡ false
+disposed-own : {b : Build} {n : Node} → Valid b n → 1 ≤ n .running
     → view (n .running) (disposed b n)
     ≡ record {
       has = view (n .running) n .has;
@@ -64,13 +45,13 @@ disposed-own : {b : Build} {n : Node} → Valid b n → 1 ≤ n .running → isE
       descriptor = view (n .running) n .descriptor;
     }
 unfolding disposed flagged view
-disposed-own {b} {n} v run some =
+disposed-own {b} {n} v run =
     let k : Node = removed b n in
     let same : k .running ≡ n .running = removed-running b n in
     let l : line k (n .running) ≡ drop 1 (line n (n .running)) = removed-line v run in
     let f : SameFlags (groupOf k (n .running)) (groupOf n (n .running)) = removed-flags b n (n .running) in
     timer-view (n .running) 0 (flagged (groupOf n (n .running) .atomic) false k)
-    ∙ flags-own k (removed-groups b n ∙ v .group-count) (groupOf n (n .running) .atomic) false (n .running) same run (v .running-bound)
+    ∙ flags-own k (removed-sound v run .group-count) (groupOf n (n .running) .atomic) false (n .running) same run (v .running-bound)
     ∙ (λ i.
     record {
       has = eqb (same i) (n .running);
@@ -92,7 +73,7 @@ serve-own {b} {n} v run poll e = ap (λ (a : Answer). unchanged a (view (n .runn
 serve-own {b} {n} v run (peek i) e = ap (λ (a : Answer). unchanged a (view (n .running) n)) (peek-accepted (line n (n .running)) i e)
 serve-own {b} {n} v run dispose e =
     dispose-accepted (line n (n .running)) (view (n .running) n) e
-    ∙ ap (unchanged (says 0)) (sym (disposed-own v run (dispose-some (line n (n .running)) e)))
+    ∙ ap (unchanged (says 0)) (sym (disposed-own v run))
 serve-own {b} {n} v run beginAtomic e =
     ap (unchanged (says 0)) (sym (flags-own n (v .group-count) true (groupOf n (n .running) .pending) (n .running) refl run (v .running-bound)))
 serve-own {b} {n} v run endAtomic e =
@@ -136,7 +117,7 @@ pub served-line : {b : Build} {n : Node} → Valid b n → 1 ≤ n .running → 
 unfolding refuseRequest serve valued extending launched described flagged view disposedBy
 served-line v run poll e = refl
 served-line v run (peek i) e = refl
-served-line {b} {n} v run dispose e = ap (λ (p : PrivateLine). p .messages) (disposed-own v run (dispose-some (line n (n .running)) e))
+served-line {b} {n} v run dispose e = ap (λ (p : PrivateLine). p .messages) (disposed-own v run)
 served-line {b} {n} v run beginAtomic e =
     ap (λ (p : PrivateLine). p .messages) (flags-own n (v .group-count) true (groupOf n (n .running) .pending) (n .running) refl run (v .running-bound))
 served-line {b} {n} v run endAtomic e =

@@ -2,7 +2,7 @@
 -- group are as they were. Of the queue they take the front: moved counts what is gone, and a head that is left may stay. Assumes nothing.
 use Prim.Native.Nat.{ℕ, _+_, _≤_}
 use mathlib.Core.Path.{_≡_, refl, sym, ap, _∙_}
-use mathlib.Core.Bool.{Bool, true, false, cond, true≢false}
+use mathlib.Core.Bool.{Bool, true, false, cond}
 use mathlib.Core.List.{List, [], _∷_}
 use native.Mathlib.Nat.{zero-add}
 use native.Mathlib.Omega.{arith}
@@ -158,14 +158,9 @@ pass-timer = pass-induct (λ q n s. s .node .timer ≡ n .timer) (λ n. refl) (�
 
 pub settle-keeps : (n : Node) → isEmpty (settle n .node .queue) ≡ false → settle n .node .timer ≡ n .timer
 unfolding settle restTimer withTimer
-settle-keeps n = go (isEmpty (pass (n .queue) n .node .queue)) refl
-  where
-    p : Node
-    p = pass (n .queue) n .node
-
-    go : (t : Bool) → isEmpty (p .queue) ≡ t → isEmpty (cond t (withTimer 0 p) p .queue) ≡ false → cond t (withTimer 0 p) p .timer ≡ n .timer
-    go true t e = absurd (true≢false (sym t ∙ e))
-    go false t e = pass-timer (n .queue) n
+settle-keeps n some =
+    let p = pass (n .queue) n .node in
+    ap (λ (t : Bool). cond t (withTimer 0 p) p .timer) (ap isEmpty (sym (settled-queue n)) ∙ some) ∙ pass-timer (n .queue) n
 
 -- a head that may not stay moves
 pub pass-moves : (m : Message) (q : List Message) (n : Node) → mayStay n m ≡ false → 1 ≤ pass (m ∷ q) n .moved
@@ -203,11 +198,17 @@ unfolding drain withQueue
 drain-queue [] n = refl
 drain-queue (m ∷ q) n = drain-queue q (store m n)
 
--- the upcall changes the running group's flags, and leaves what does not look at the groups
-pub upcall-kept : {A : Type 0} (f : Node → A) (n : Node) → ((G : Group) → f (withGroup (n .running) G n) ≡ f n) → f (upcall n) ≡ f n
+-- an upcall changes the running group's flags where one is due, and else nothing
+pub upcall-cases : (P : Node → Type 0) (n : Node)
+    → (calls n ≡ true → P (withGroup (n .running) (withFlags true true (groupOf n (n .running))) n))
+    → (calls n ≡ false → P n) → P (upcall n)
 unfolding upcall
-upcall-kept f n same = go (calls n)
+upcall-cases P n due quiet = go (calls n) refl
   where
-    go : (t : Bool) → f (cond t (withGroup (n .running) (withFlags true true (groupOf n (n .running))) n) n) ≡ f n
-    go true = same (withFlags true true (groupOf n (n .running)))
-    go false = refl
+    go : (t : Bool) → calls n ≡ t → P (cond t (withGroup (n .running) (withFlags true true (groupOf n (n .running))) n) n)
+    go true e = due e
+    go false e = quiet e
+
+-- so it leaves what does not look at the groups
+pub upcall-kept : {A : Type 0} (f : Node → A) (n : Node) → ((G : Group) → f (withGroup (n .running) G n) ≡ f n) → f (upcall n) ≡ f n
+upcall-kept f n same = upcall-cases (λ k. f k ≡ f n) n (λ e. same (withFlags true true (groupOf n (n .running)))) (λ e. refl)

@@ -4,7 +4,7 @@
 use Prim.Native.Nat.{ℕ, zero, suc, _≤_, pred}
 use mathlib.Core.Path.{_≡_, refl, sym, subst, ap, _∙_}
 use mathlib.Core.Logic.{_≢_}
-use mathlib.Core.Bool.{Bool, true, false, true≢false, cond, not, _&&_, false≢true}
+use mathlib.Core.Bool.{Bool, true, false, true≢false, not, _&&_, false≢true, and-eq-true-iff}
 use mathlib.Core.List.{List, [], _∷_, map, append-nil}
 use native.Mathlib.Omega.{arith}
 use native.Mathlib.Nat.{zero-mul, not-suc-le-zero}
@@ -25,8 +25,7 @@ use Rattle.rules.proofs.EveryLaws.{every-replicate, every-map}
 use Rattle.rules.proofs.ListLaws.{sum-le, count-within, length-upFrom}
 use Rattle.rules.proofs.FrameLaws.{ceil-none}
 use Rattle.rules.proofs.NodeLaws.{group-same, kept, within, group-good, reflagged}
-use Rattle.rules.proofs.SettlingLaws.{settle-sound, settle-line, settle-flags, settle-head, settle-timer}
-use Rattle.rules.proofs.LineLaws.{both}
+use Rattle.rules.proofs.SettlingLaws.{upcall-cases, settle-sound, settle-line, settle-flags, settle-head, settle-timer}
 use Rattle.rules.proofs.ActLaws.{Ready, reflagged-pending, act-ready}
 
 -- a node after settling: ready, its head stays, and its timer rests with an empty queue
@@ -82,17 +81,31 @@ unfolding mayStay buffered withGroup
 reflagged-stays n g G same m =
     ap (λ (v : Buffer). eqb (m .group) (n .running) && not (ltb 0 (v .count))) (kept (λ K. K .buffer) n g G same (m .group))
 
+-- an upcall is due to a group whose line is not empty
+record Due (n : Node) : Type 0 where
+  group : 1 ≤ n .running
+  line-waits : isEmpty (line n (n .running)) ≡ false
+
+due : (n : Node) → calls n ≡ true → Due n
+unfolding calls
+due n e =
+    let r = n .running in
+    let runs = and-eq-true-iff (not (eqb r 0)) (not (groupOf n r .atomic) && not (isEmpty (line n r))) .0 e in
+    let waits = and-eq-true-iff (not (groupOf n r .atomic)) (not (isEmpty (line n r))) .0 (runs .1) in
+    let nonzero : r ≢ 0 = eqb-false r 0 (not-true (eqb r 0) (runs .0)) in
+    record { group = omega arith; line-waits = not-true (isEmpty (line n r)) (waits .1) }
+
+-- only a group is called up
+pub calls-group : (n : Node) → calls n ≡ true → 1 ≤ n .running
+calls-group n e = due n e .group
+
 -- a group called up
 called : {b : Build} {n : Node} → Settled b n → calls n ≡ true → Valid b (withGroup (n .running) (withFlags true true (groupOf n (n .running))) n)
-unfolding calls withFlags withGroup
+unfolding withFlags withGroup
 called {b} {n} d e =
     let s = d .ready .sound in
     let r = n .running in
-    let runs = both (not (eqb r 0)) (not (groupOf n r .atomic) && not (isEmpty (line n r))) e in
-    let waits = both (not (groupOf n r .atomic)) (not (isEmpty (line n r))) (runs .1) in
-    let some = not-true (isEmpty (line n r)) (waits .1) in
-    let nonzero : r ≢ 0 = eqb-false r 0 (not-true (eqb r 0) (runs .0)) in
-    let low : 1 ≤ r = omega arith in
+    let low = due n e .group in
     let high = s .running-bound in
     let G = withFlags true true (groupOf n r) in
     let old = group-good s r low high in
@@ -101,7 +114,7 @@ called {b} {n} d e =
     (record {
       ready = record {
         sound = reflagged s r low high G good refl;
-        pending = reflagged-pending s r low high G refl (λ p. some) (λ h low′ high′ other p. d .ready .pending h low′ high′ p);
+        pending = reflagged-pending s r low high G refl (λ p. due n e .line-waits) (λ h low′ high′ other p. d .ready .pending h low′ high′ p);
       };
       head-stays = λ m q head. reflagged-stays n r G refl m ∙ d .head-stays m q head;
       timer-idle = d .timer-idle;
@@ -110,12 +123,11 @@ called {b} {n} d e =
 
 -- the upcall makes it a node
 upcall-valid : {b : Build} {n : Node} → Settled b n → Valid b (upcall n)
-unfolding upcall calls
-upcall-valid {b} {n} d = go (calls n) refl
+unfolding calls
+upcall-valid {b} {n} d = upcall-cases (Valid b) n (called d) quiet
   where
-    go : (t : Bool) → calls n ≡ t → Valid b (cond t (withGroup (n .running) (withFlags true true (groupOf n (n .running))) n) n)
-    go true e = called d e
-    go false e =
+    quiet : calls n ≡ false → Valid b n
+    quiet e =
         let test : 1 ≤ n .running → eqb (n .running) 0 ≡ false = λ low. ne-eqb (n .running) 0 (λ none. omega arith) in
         settled-valid d (λ low some. between (eqb (n .running) 0) (groupOf n (n .running) .atomic) (isEmpty (line n (n .running))) e (test low) some)
 
@@ -204,7 +216,7 @@ unfolding frameNumbers powerOn
 power-on-frames b = rw (empty-numbers b (upFrom 0 (b .frames)), empty-frames groupCount, append-nil)
 
 -- every group is the empty one
-power-on-group : (b : Build) (g : ℕ) → groupOf (powerOn b) g ≡ emptyGroup
+pub power-on-group : (b : Build) (g : ℕ) → groupOf (powerOn b) g ≡ emptyGroup
 unfolding groupOf powerOn
 power-on-group b g = empty-group groupCount (pred g)
 

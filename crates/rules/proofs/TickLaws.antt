@@ -99,9 +99,13 @@ pub ticks-counted : (b : Build) (k : ℕ) (n : Node) → isEmpty (n .queue) ≡ 
 unfolding valued timed
 ticks-counted b k n some below = counts b k (valued 0 n) some below
 
+-- the effect of a timeout
+abbrev pub timeoutEffect : Node → Effect
+timeoutEffect n = record { node = withTimer 0 (drain (n .queue) n); value = 0; trap = timeoutTrap; moved = length (n .queue); sent = [] }
+
 -- else there is exactly one timeout: the queue is drained, and the timer is 0
 pub ticks-timeout : (b : Build) (k : ℕ) (n : Node) → isEmpty (n .queue) ≡ false → n .timer < b .timeout → b .timeout ≤ n .timer + k
-    → ticks b k (valued 0 n) ≡ record { node = withTimer 0 (drain (n .queue) n); value = 0; trap = timeoutTrap; moved = length (n .queue); sent = [] }
+    → ticks b k (valued 0 n) ≡ timeoutEffect n
 unfolding valued timedOut
 ticks-timeout b k n some below reached =
     reaches b k (valued 0 n) some below reached
@@ -113,10 +117,6 @@ ticks-timeout b k n some below reached =
       moved = zero-add (length (n .queue)) i;
       sent = [];
     })
-
--- the effect of a timeout
-abbrev pub timeoutEffect : Node → Effect
-timeoutEffect n = record { node = withTimer 0 (drain (n .queue) n); value = 0; trap = timeoutTrap; moved = length (n .queue); sent = [] }
 
 -- so ticks do one of three things to a node: nothing, count, or one timeout
 pub data Ticked (b : Build) (k : ℕ) (n : Node) : Type 0 where

@@ -1,22 +1,23 @@
 -- The private line of a group as a view of the node: settling leaves it, and the upcall rule is the same on both sides. Assumes nothing.
-use Prim.Native.Nat.{ℕ, pred, _≤_}
+use Prim.Native.Nat.{ℕ, _≤_}
 use native.Mathlib.Omega.{arith}
 use mathlib.Core.Path.{_≡_, refl, sym, ap, _∙_, subst}
 use mathlib.Core.Logic.{_≢_}
-use mathlib.Core.Bool.{Bool, true, false, cond, not, _&&_, and-true, and-false, false≢true}
+use mathlib.Core.Bool.{Bool, true, false, cond, not, _&&_, and-true, and-false}
 use mathlib.Core.List.{List}
 use borrow.Author.Tests.{eqb-true, eqb-false, eq-eqb, ne-eqb}
 use lib.Dec.{eqb}
-use lib.ListN.{length, getD, replicate, getD-replicate}
+use lib.ListN.{length}
 use Rattle.rules.specs.Lists.{isEmpty}
 use Rattle.rules.specs.Build.{Build, groupCount}
-use Rattle.rules.specs.Node.{Group, Node, emptyGroup, powerOn, groupOf, withGroup, withFlags, withDescriptor, waiting, inBuffer, inQueue, line}
+use Rattle.rules.specs.Node.{withTimer, Group, Node, powerOn, groupOf, withGroup, withFlags, withDescriptor, waiting, inBuffer, inQueue, line}
 use Rattle.rules.specs.Settling.{settle, calls, upcall, upcallGroup}
 use Rattle.rules.specs.Private.{PrivateLine, atFirst, isCalled, called}
 use Rattle.rules.specs.Valid.{Valid}
 use Rattle.rules.proofs.Sound.{Sound, SameFlags}
-use Rattle.rules.proofs.NodeLaws.{group-same, group-other, line-same}
-use Rattle.rules.proofs.SettlingLaws.{settle-line, settle-flags, settle-running}
+use Rattle.rules.proofs.NodeLaws.{group-same, group-other, line-same, reflagged-line}
+use Rattle.rules.proofs.StepLaws.{calls-group, power-on-group}
+use Rattle.rules.proofs.SettlingLaws.{upcall-cases, settle-line, settle-flags, settle-running}
 
 -- what the private line of group g keeps, read off a node
 unfoldable pub view : ℕ → Node → PrivateLine
@@ -42,17 +43,23 @@ view-same g n k r f l =
       descriptor = f .descriptor i;
     }
 
+-- the timer is no part of the view
+pub timer-view : (g t : ℕ) (n : Node) → view g (withTimer t n) ≡ view g n
+unfolding view withTimer line inBuffer inQueue groupOf
+timer-view g t n = refl
+
 -- settling is invisible
 pub settle-view : {b : Build} {n : Node} → Sound b n → (g : ℕ) → 1 ≤ g → g ≤ groupCount → view g (settle n .node) ≡ view g n
 settle-view {n = n} s g lo hi = view-same g (settle n .node) n (settle-running n) (settle-flags n g) (settle-line s g lo hi)
 
+-- no group is number 0
+pub nobody : (g : ℕ) → 1 ≤ g → eqb 0 g ≡ false
+nobody g lo = ne-eqb 0 g (λ h. omega arith)
+
 -- at power-on the private line is all off and empty
-pub power-on-view : (b : Build) (g : ℕ) → 1 ≤ g → g ≤ groupCount → view g (powerOn b) ≡ atFirst
-unfolding view powerOn groupOf atFirst line inBuffer inQueue waiting
-power-on-view b g lo hi =
-    let e : getD (replicate groupCount emptyGroup) (pred g) emptyGroup ≡ emptyGroup = getD-replicate groupCount (pred g) emptyGroup emptyGroup (omega arith) in
-    let z : eqb 0 g ≡ false = ne-eqb 0 g (λ h. omega arith) in
-    rw (z, e) refl
+pub power-on-view : (b : Build) (g : ℕ) → 1 ≤ g → view g (powerOn b) ≡ atFirst
+unfolding view atFirst line inBuffer inQueue waiting
+power-on-view b g lo = rw (power-on-group b g) (unfold powerOn in rw (nobody g lo))
 
 -- in a node no upcall is due
 pub valid-quiet : {b : Build} {n : Node} → Valid b n → (g : ℕ) → 1 ≤ g → isCalled (view g n) ≡ false
@@ -69,18 +76,6 @@ valid-quiet {n = n} v g lo = go (eqb (n .running) g) refl
     go : (t : Bool) → eqb (n .running) g ≡ t → (t && (not (groupOf n g .atomic) && not (isEmpty (line n g)))) ≡ false
     go false e = refl
     go true e = atomic-line (eqb-true _ _ e) (groupOf n g .atomic) (isEmpty (line n g)) refl refl
-
--- only a group is called up
-calls-group : (n : Node) → calls n ≡ true → 1 ≤ n .running
-unfolding calls
-calls-group n = go (eqb (n .running) 0) refl
-  where
-    go : (t : Bool)
-        → eqb (n .running) 0 ≡ t
-        → (not t && (not (groupOf n (n .running) .atomic) && not (isEmpty (line n (n .running))))) ≡ true
-        → 1 ≤ n .running
-    go true e c = let z : false ≡ true = c in absurd (false≢true z)
-    go false e c = let ne : n .running ≢ 0 = eqb-false _ _ e in omega (arith, ne)
 
 -- an upcall that is due to the runner is due to its private line, and none is due to another's
 called-runner : (n : Node) (g : ℕ) → 1 ≤ g → n .running ≡ g → isCalled (view g n) ≡ calls n
@@ -100,12 +95,9 @@ pub upcall-named : (n : Node) (g : ℕ) → 1 ≤ g → eqb (upcallGroup n) g �
 unfolding upcallGroup
 upcall-named n g lo = go (eqb (n .running) g) refl
   where
-    nobody : eqb 0 g ≡ false
-    nobody = ne-eqb 0 g (λ h. omega arith)
-
     named : (t : Bool) → eqb (n .running) g ≡ t → (c : Bool) → eqb (cond c (n .running) 0) g ≡ (c && t)
     named t e true = e
-    named t e false = nobody
+    named t e false = nobody g lo
 
     go : (t : Bool) → eqb (n .running) g ≡ t → eqb (cond (calls n) (n .running) 0) g ≡ isCalled (view g n)
     go false e = named false e (calls n) ∙ and-false (calls n) ∙ sym (called-other n g e)
@@ -122,14 +114,14 @@ regroup-other n G g run lo ne =
 
 -- to the runner it shows its flags and descriptor, and the same line where the buffer is the same
 pub regroup-own : (n : Node) → length (n .groups) ≡ groupCount → (G : Group) (g : ℕ) → n .running ≡ g → 1 ≤ g → g ≤ groupCount
-    → G .buffer ≡ groupOf n g .buffer
+    → G .buffer ≡ groupOf n (n .running) .buffer
     → view g (withGroup (n .running) G n)
     ≡ record { has = eqb (n .running) g; atomic = G .atomic; pending = G .pending; messages = line n g; descriptor = G .descriptor }
 unfolding view withGroup
 regroup-own n len G g r lo hi v =
     let k : Node = withGroup (n .running) G n in
     let e : groupOf k g ≡ G = subst (λ (x : ℕ). groupOf (withGroup x G n) g ≡ G) (sym r) (group-same n g G (omega (arith, len))) in
-    let l : line k g ≡ line n g = line-same n k g (ap (λ (x : Group). x .buffer) e ∙ v) refl in
+    let l : line k g ≡ line n g = reflagged-line n (n .running) G v g in
     λ i.
     record {
       has = eqb (n .running) g;
@@ -145,7 +137,7 @@ pub flags-own : (n : Node) → length (n .groups) ≡ groupCount → (a p : Bool
     ≡ record { has = view g n .has; atomic = a; pending = p; messages = view g n .messages; descriptor = view g n .descriptor }
 unfolding view withFlags
 flags-own n len a p g r lo hi =
-    regroup-own n len (withFlags a p (groupOf n (n .running))) g r lo hi (ap (λ (x : ℕ). groupOf n x .buffer) r)
+    regroup-own n len (withFlags a p (groupOf n (n .running))) g r lo hi refl
     ∙ (λ i. record { has = eqb (n .running) g; atomic = a; pending = p; messages = line n g; descriptor = groupOf n (r i) .descriptor })
 
 -- the runner's descriptor replaced, as it sees it
@@ -154,39 +146,36 @@ pub descriptor-own : (n : Node) → length (n .groups) ≡ groupCount → (d : L
     ≡ record { has = view g n .has; atomic = view g n .atomic; pending = view g n .pending; messages = view g n .messages; descriptor = d }
 unfolding view withDescriptor
 descriptor-own n len d g r lo hi =
-    regroup-own n len (withDescriptor d (groupOf n (n .running))) g r lo hi (ap (λ (x : ℕ). groupOf n x .buffer) r)
+    regroup-own n len (withDescriptor d (groupOf n (n .running))) g r lo hi refl
     ∙ (λ i. record { has = eqb (n .running) g; atomic = groupOf n (r i) .atomic; pending = groupOf n (r i) .pending; messages = line n g; descriptor = d })
 
--- and the upcall changes the node as it changes the private line
+-- where none is due, an upcall changes nothing
+pub called-quiet : (p : PrivateLine) → isCalled p ≡ false → called p ≡ p
+unfolding called
+called-quiet p e = rw e
+
+-- and where one is due, the flags go on
+called-due : (p : PrivateLine) → isCalled p ≡ true
+    → called p ≡ record { has = p .has; atomic = true; pending = true; messages = p .messages; descriptor = p .descriptor }
+unfolding called
+called-due p e = rw e
+
+-- so the upcall changes the node as it changes the private line
 pub upcall-view : {b : Build} {n : Node} → Sound b n → (g : ℕ) → 1 ≤ g → g ≤ groupCount → view g (upcall n) ≡ called (view g n)
-unfolding upcall called
-upcall-view {n = n} s g lo hi = go (eqb (n .running) g) refl
+upcall-view {n = n} s g lo hi = upcall-cases (λ k. view g k ≡ called (view g n)) n (λ c. due c (eqb (n .running) g) refl) (λ c. quiet c (eqb (n .running) g) refl)
   where
-    up : Node
-    up = withGroup (n .running) (withFlags true true (groupOf n (n .running))) n
+    other : eqb (n .running) g ≡ false → called (view g n) ≡ view g n
+    other e = called-quiet (view g n) (called-other n g e)
 
-    on : PrivateLine
-    on =
-        record {
-          has = view g n .has;
-          atomic = true;
-          pending = true;
-          messages = view g n .messages;
-          descriptor = view g n .descriptor;
-        }
+    mine : eqb (n .running) g ≡ true → isCalled (view g n) ≡ calls n
+    mine e = called-runner n g lo (eqb-true _ _ e)
 
-    other : g ≢ n .running → (c : Bool) → calls n ≡ c → view g (cond c up n) ≡ view g n
-    other ne false e = refl
-    other ne true e = regroup-other n (withFlags true true (groupOf n (n .running))) g (calls-group n e) lo ne
+    due : calls n ≡ true → (t : Bool) → eqb (n .running) g ≡ t
+        → view g (withGroup (n .running) (withFlags true true (groupOf n (n .running))) n) ≡ called (view g n)
+    due c false e =
+        regroup-other n (withFlags true true (groupOf n (n .running))) g (calls-group n c) lo (λ h. eqb-false _ _ e (sym h)) ∙ sym (other e)
+    due c true e = flags-own n (s .group-count) true true g (eqb-true _ _ e) lo hi ∙ sym (called-due (view g n) (mine e ∙ c))
 
-    called-up : n .running ≡ g → (c : Bool) → view g (cond c up n) ≡ cond c on (view g n)
-    called-up r false = refl
-    called-up r true = flags-own n (s .group-count) true true g r lo hi
-
-    go : (t : Bool) → eqb (n .running) g ≡ t → view g (cond (calls n) up n) ≡ cond (isCalled (view g n)) on (view g n)
-    go false e =
-        other (λ h. eqb-false _ _ e (sym h)) (calls n) refl
-        ∙ sym (ap (λ (c : Bool). cond c on (view g n)) (called-other n g e))
-    go true e =
-        called-up (eqb-true _ _ e) (calls n)
-        ∙ sym (ap (λ (c : Bool). cond c on (view g n)) (called-runner n g lo (eqb-true _ _ e)))
+    quiet : calls n ≡ false → (t : Bool) → eqb (n .running) g ≡ t → view g n ≡ called (view g n)
+    quiet c false e = sym (other e)
+    quiet c true e = sym (called-quiet (view g n) (mine e ∙ c))

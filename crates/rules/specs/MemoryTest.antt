@@ -7,7 +7,7 @@ use lib.ListN.{length, take, drop}
 use Rattle.rules.specs.Lists.{all, passes, isEmpty, upFrom}
 use Rattle.rules.specs.Build.{paper01, groupCount, wordLimit}
 use Rattle.rules.specs.Node.{Node, powerOn, buffered, line}
-use Rattle.rules.specs.Operation.{Operation, Report, accepted, notNode, refused}
+use Rattle.rules.specs.Operation.{Operation, Report, allZero, notNode, refused}
 use Rattle.rules.specs.Valid.{isNode}
 use Rattle.rules.specs.Step.{step}
 use Rattle.rules.specs.Memory.{queuedAt, freeCountAt, queueAt, queueStride, freeAt, atomicOffset, pendingOffset, usedOffset, heldOffset, describedOffset, descriptorOffset, listOffset, placeStride, size}
@@ -17,44 +17,43 @@ use Rattle.rules.specs.Memory.{words, word, wordsAt, frameAddress, group
 unfoldable pub zeroAt : List ℕ → ℕ → ℕ → Bool
 zeroAt m a k = all (eqb 0) (wordsAt m a k)
 
--- "counts .. are within the bounds above", and so are the lengths kept in the queue
+-- "waiting messages' lengths .. are within the bounds above": that of the i-th in the queue
 unfoldable pub lengthInBounds : List ℕ → ℕ → Bool
 lengthInBounds m i = leb (word m (queueAt + queueStride * i + 1)) wordLimit
 
--- of a group: its list's and its descriptor's
+-- "counts .. are within the bounds above": those of a group's list and descriptor
 unfoldable pub groupCounts : List ℕ → ℕ → Bool
 groupCounts m g =
     leb (word m (groupAddress g + heldOffset)) (paper01 .frames) && leb (word m (groupAddress g + describedOffset)) wordLimit
 
--- all counts
+-- "counts .. [and] waiting messages' lengths .. are within the bounds above", as far as words alone tell
 unfoldable pub countsInBounds : List ℕ → Bool
 countsInBounds m =
     leb (word m queuedAt) (paper01 .places)
     && (leb (word m freeCountAt) (paper01 .frames)
     && (all (groupCounts m) (upFrom 1 groupCount) && all (lengthInBounds m) (upFrom 0 (word m queuedAt))))
 
--- "flags are 0 or 1"
+-- "flags are 0 or 1": those of one group
 unfoldable pub groupFlags : List ℕ → ℕ → Bool
 groupFlags m g = leb (word m (groupAddress g + atomicOffset)) 1 && leb (word m (groupAddress g + pendingOffset)) 1
 
--- all flags
+-- "flags are 0 or 1"
 unfoldable pub flagsAreFlags : List ℕ → Bool
 flagsAreFlags m = all (groupFlags m) (upFrom 1 groupCount)
 
--- "unused places of the queue, free line and lists, unused descriptor words and a waiting message's words past its length are 0"; those of
--- a message in a buffer are asked of the node
+-- "unused places of the queue .. are 0"
 unfoldable pub queueUnused : List ℕ → Bool
 queueUnused m =
     let k = word m queuedAt in
     zeroAt m (queueAt + queueStride * k) (queueStride * (paper01 .places - k))
 
--- of the free line
+-- "unused places of the .. free line .. are 0"
 unfoldable pub freeUnused : List ℕ → Bool
 freeUnused m =
     let k = word m freeCountAt in
     zeroAt m (freeAt + k) (paper01 .frames - k)
 
--- of a group's list and descriptor
+-- "unused places of the .. lists, unused descriptor words .. are 0": those of one group
 unfoldable pub groupUnused : List ℕ → ℕ → Bool
 groupUnused m g =
     let held = word m (groupAddress g + heldOffset) in
@@ -62,13 +61,13 @@ groupUnused m g =
     zeroAt m (groupAddress g + listOffset + held) (paper01 .frames - held)
     && zeroAt m (groupAddress g + descriptorOffset + described) (wordLimit - described)
 
--- of a queued message's words
+-- "a waiting message's words past its length are 0": of the i-th in the queue; of one in a buffer it is asked of the node
 unfoldable pub messageUnused : List ℕ → ℕ → Bool
 messageUnused m i =
     let len = word m (queueAt + queueStride * i + 1) in
     zeroAt m (queueAt + queueStride * i + 2 + len) (wordLimit - len)
 
--- all of them
+-- "unused places of the queue, free line and lists, unused descriptor words and a waiting message's words past its length are 0"
 unfoldable pub unusedAreZero : List ℕ → Bool
 unusedAreZero m =
     queueUnused m
@@ -111,7 +110,7 @@ stepMemory m op =
 unfoldable pub powerOnMemory : List ℕ → MemoryStep
 powerOnMemory m =
     elim (leb size (length m)) [
-      | true ↦ record { report = refused accepted; memory = replaced (powerOn paper01) m }
+      | true ↦ record { report = allZero; memory = replaced (powerOn paper01) m }
       | false ↦ record { report = refused notNode; memory = m }
     ]
 
@@ -120,34 +119,33 @@ pub record Part : Type 0 where
   pub start : ℕ
   pub len : ℕ
 
--- no words
+-- "an empty part"
 abbrev pub emptyPart : Part
 emptyPart = record { start = 0; len = 0 }
 
--- the words of the first message of group g: at its place in its first frame, or at the head of the hardware queue
+-- where the first message of group g is kept while it is buffered: in its first frame, behind the used-up places
 unfoldable pub firstPlace : List ℕ → ℕ → ℕ
 firstPlace m g =
     frameAddress (word m (groupAddress g + listOffset)) + placeStride * word m (groupAddress g + usedOffset)
 
--- where it is buffered
+-- the words of the first message of group g, "from .. frame place"
 unfoldable pub bufferPart : List ℕ → ℕ → Part
 bufferPart m g = record { start = firstPlace m g + 1; len = word m (firstPlace m g) }
 
--- where it is direct
+-- the words of the queue's head, "from queue place"
 unfoldable pub queuePart : List ℕ → Part
 queuePart m = record { start = queueAt + 2; len = word m (queueAt + 1) }
 
--- the running group's first message
+-- "the running group's first, an empty part if there is none"
 unfoldable pub runnerPart : List ℕ → Node → Part
 runnerPart m n =
     cond (eqb (n .running) 0 || isEmpty (line n (n .running))) emptyPart
     (cond (buffered n (n .running)) (bufferPart m (n .running)) (queuePart m))
 
--- "the words of the head message as a part of the lent memory .. : the running group's first, an empty part if there is none or the
--- memory is no node"
+-- "the words of the head message as a part of the lent memory .. , an empty part if .. the memory is no node"
 unfoldable pub headPart : List ℕ → Part
 headPart m = elim (isMemory m) [ true ↦ runnerPart m (nodeAt m) | false ↦ emptyPart ]
 
--- its words
+-- the words of that part
 unfoldable pub headWords : List ℕ → List ℕ
 headWords m = take (headPart m .len) (drop (headPart m .start) m)

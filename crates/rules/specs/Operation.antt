@@ -122,3 +122,7 @@ pub record Report : Type 0 where
 -- "A refused step reports its number and zeros"
 abbrev pub refused : ℕ → Report
 refused a = record { answer = a; value = 0; trap = noTrap; upcall = 0; moved = 0; sent = [] }
+
+-- all that an accepted power-on reports
+abbrev pub allZero : Report
+allZero = record { answer = accepted; value = 0; trap = noTrap; upcall = 0; moved = 0; sent = [] }

@@ -71,7 +71,7 @@ runMemory m is = playMemory (powerOnMemory m .memory) is
 unfoldable pub wasAccepted : Event → Bool
 wasAccepted e = eqb (e .report .answer) accepted
 
--- the messages accepted, of all groups, in order
+-- the message that an accepted A brings
 unfoldable pub arrivedBy : Operation → Bool → List Message
 arrivedBy (arrive g ws) ok = cond ok (record { group = g; words = ws } ∷ []) []
 arrivedBy (schedule g) ok = []
@@ -83,7 +83,7 @@ arrivedBy unknown ok = []
 unfoldable pub arrived : Event → List Message
 arrived e = arrivedBy (e .operation) (wasAccepted e)
 
--- those of all steps
+-- "the accepted messages of all groups, in order"
 unfoldable pub arrivals : List Event → List Message
 arrivals es = concatMap arrived es
 
@@ -91,7 +91,7 @@ arrivals es = concatMap arrived es
 unfoldable pub answerOf : Report → Answer
 answerOf r = record { number = r .answer; value = r .value; sent = r .sent }
 
--- the answer that a step gives a group, where the group runs
+-- the answer that a step gives a group, "for each M to L while it runs"
 unfoldable pub answerTo : Operation → Bool → Report → List Answer
 answerTo (arrive g ws) runs r = []
 answerTo (schedule g) runs r = []
@@ -99,7 +99,7 @@ answerTo (tick k) runs r = []
 answerTo (user q) runs r = cond runs (answerOf r ∷ []) []
 answerTo unknown runs r = []
 
--- a group's answers in order
+-- "its answers, in order"
 unfoldable pub answersOf : ℕ → List Event → List Answer
 answersOf g es = concatMap (λ e. answerTo (e .operation) (eqb (e .runner) g) (e .report)) es
 
@@ -121,19 +121,19 @@ disposedBy (user (describe w)) ok = 0
 disposedBy (user (launch k)) ok = 0
 disposedBy unknown ok = 0
 
--- how many D of group g were accepted
+-- "as many .. as it had accepted D"
 unfoldable pub disposals : ℕ → List Event → ℕ
 disposals g es = sum (map (λ e. disposedBy (e .operation) (wasAccepted e && eqb (e .runner) g)) es)
 
--- "Let left be the sum of moved in the run's reports so far, plus the count of its accepted D with trap 0."
+-- what a step adds to left: its moved, and 1 for an "accepted D with trap 0"
 unfoldable pub leftBy : Event → ℕ
 leftBy e = e .report .moved + disposedBy (e .operation) (wasAccepted e && eqb (e .report .trap) noTrap)
 
--- over the steps so far
+-- "Let left be the sum of moved in the run's reports so far, plus the count of its accepted D with trap 0."
 unfoldable pub left : List Event → ℕ
 left es = sum (map leftBy es)
 
--- "the n of accepted T .. , summed"
+-- "the n of [an] accepted T"
 unfoldable pub tickedBy : Operation → Bool → ℕ
 tickedBy (arrive g ws) ok = 0
 tickedBy (schedule g) ok = 0
@@ -141,7 +141,7 @@ tickedBy (tick k) ok = cond ok k 0
 tickedBy (user r) ok = 0
 tickedBy unknown ok = 0
 
--- over all steps
+-- "the n of accepted T .. , summed"
 unfoldable pub ticked : List Event → ℕ
 ticked es = sum (map (λ e. tickedBy (e .operation) (wasAccepted e)) es)
 
@@ -151,7 +151,7 @@ pub record Listened : Type 0 where
   pub upcalls : List Bool
   pub line : PrivateLine
 
--- from a private line on
+-- a private line told of one step after the other
 unfoldable pub listenFrom : ℕ → PrivateLine → List Event → Listened
 listenFrom g p [] = record { answers = []; upcalls = []; line = p }
 listenFrom g p (e ∷ es) =
@@ -159,6 +159,6 @@ listenFrom g p (e ∷ es) =
     let rest = listenFrom g (h .line) es in
     record { answers = h .answers ++ rest .answers; upcalls = h .upcall ∷ rest .upcalls; line = rest .line }
 
--- from its beginning on
+-- "at first all off or empty"
 unfoldable pub listen : ℕ → List Event → Listened
 listen g es = listenFrom g atFirst es

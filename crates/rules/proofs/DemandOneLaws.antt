@@ -1,78 +1,31 @@
--- Demand 1 holds. On memory that fails the test nothing is done; memory that passes it is the map of a node followed by the rest, and a
--- refused step writes the same node back. Assumes nothing.
-use Prim.Native.Nat.{ℕ, suc, _+_, _≤_}
-use native.Mathlib.Omega.{arith}
+-- Demand 1 holds. The answer of a step on a node is its operation's refusal, which is the first number that is due. On memory that fails the
+-- test nothing is done; memory that passes it is the map of a node followed by the rest, and a refused step writes the same node back.
+-- Power-on's words are computed. Assumes nothing.
+use Prim.Native.Nat.{ℕ, suc, _+_, _≤_, _<_}
 use mathlib.Core.Path.{_≡_, refl, sym, ap, _∙_, subst}
 use mathlib.Core.Logic.{_≢_}
-use mathlib.Core.Bool.{Bool, true, false, cond, _||_, true≢false}
-use mathlib.Core.List.{List, [], _∷_, _++_}
-use borrow.Author.Tests.{leb-true, le-leb}
-use lib.Dec.{eqb, leb, ltb}
+use mathlib.Core.Bool.{Bool, true, false, true≢false}
+use mathlib.Core.List.{List, _++_}
+use borrow.Author.Tests.{le-leb, lt-leb}
 use lib.ListN.{length, drop, length-append}
-use Rattle.rules.specs.Lists.{isEmpty}
-use Rattle.rules.specs.Build.{Build, paper01, groupCount, wordLimit, lastNode, tickLimit}
-use Rattle.rules.specs.Node.{Message, Node, powerOn, groupOf, line}
-use Rattle.rules.specs.Operation.{Request, poll, peek, dispose, beginAtomic, endAtomic, describe, launch}
-use Rattle.rules.specs.Operation.{Operation, arrive, schedule, tick, user, unknown, accepted, badTicks, notNode, refused}
-use Rattle.rules.specs.Operation.{badGroup, badWords, queueFull, noFrames, nobodyRuns, pastMessage, stillPending, descriptorFull, badNode, badSchedule}
-use Rattle.rules.specs.Frames.{pledges}
-use Rattle.rules.specs.Refusal.{queued, refusal, refuseArrive, refuseSchedule, refuseTick, refusePeek, refuseDispose, refuseEnd, refuseDescribe, refuseLaunch, refuseRequest}
+use Rattle.rules.specs.Lists.{passes}
+use Rattle.rules.specs.Build.{Build, paper01}
+use Rattle.rules.specs.Node.{Node, emptyFrame, powerOn}
+use Rattle.rules.specs.Operation.{Operation, notNode, refused}
+use Rattle.rules.specs.Refusal.{refusal}
 use Rattle.rules.specs.Step.{Stepped, finish, step}
-use Rattle.rules.specs.Memory.{size, words, nodeAt}
-use Rattle.rules.specs.MemoryTest.{isMemory, MemoryStep, replaced, stepMemory, powerOnMemory}
-use Rattle.rules.specs.Valid.{Valid}
-use Rattle.rules.specs.DemandOne.{AnyStep, DemandOne}
+use Rattle.rules.specs.Memory.{size, flagWord, queueWords, lineWords, groupWords, placeWords, framesFrom, framesOf, placesOf, allFrames, frameWords, words, nodeAt}
+use Rattle.rules.specs.MemoryTest.{memoryTests, isMemory, MemoryStep, replaced, stepMemory, powerOnMemory}
+use Rattle.rules.specs.Valid.{frameNumber, Valid}
+use Rattle.rules.specs.Script.{readLine}
+use Rattle.rules.specs.Conditions.{FirstDue}
+use Rattle.rules.specs.DemandOne.{onlyNumber, powerOnWords, AnyStep, AnyPowerOn, DemandOne}
 use Rattle.rules.proofs.StepLaws.{power-on-valid, step-cases, step-valid}
+use Rattle.rules.proofs.Sound.{valid-mapped}
 use Rattle.rules.proofs.MapRead.{words-length}
 use Rattle.rules.proofs.MapLaws.{test-valid, test-words, test-written}
-use Rattle.rules.proofs.RunMemory.{paper-sensible, rest-of, step-tested, power-on-tested}
-
--- Every number that an operation is refused with is at most the last.
-
--- one of two numbers
-either : (t : Bool) (a : ℕ) {c : ℕ} → leb a badTicks ≡ true → c ≤ badTicks → cond t a c ≤ badTicks
-either true a h k = leb-true _ _ h
-either false a h k = k
-
-none : accepted ≤ badTicks
-none = omega arith
-
-peek-numbered : (ms : List Message) (i : ℕ) → refusePeek ms i ≤ badTicks
-unfolding refusePeek
-peek-numbered [] i = omega arith
-peek-numbered (m ∷ ms) i = either (leb (length (m .words)) i) pastMessage refl none
-
-dispose-numbered : (ms : List Message) → refuseDispose ms ≤ badTicks
-unfolding refuseDispose
-dispose-numbered [] = omega arith
-dispose-numbered (m ∷ ms) = omega arith
-
-launch-numbered : (d : List ℕ) (k : ℕ) → refuseLaunch d k ≤ badTicks
-unfolding refuseLaunch
-launch-numbered [] k = omega arith
-launch-numbered (w ∷ d) k = either (ltb lastNode k) badNode refl none
-
-request-numbered : (n : Node) (q : Request) → refuseRequest n q ≤ badTicks
-unfolding refuseRequest refuseEnd refuseDescribe
-request-numbered n poll = omega arith
-request-numbered n (peek i) = peek-numbered (line n (n .running)) i
-request-numbered n dispose = dispose-numbered (line n (n .running))
-request-numbered n beginAtomic = omega arith
-request-numbered n endAtomic = either (groupOf n (n .running) .pending) stillPending refl none
-request-numbered n (describe w) = either (leb wordLimit (length (groupOf n (n .running) .descriptor))) descriptorFull refl none
-request-numbered n (launch k) = launch-numbered (groupOf n (n .running) .descriptor) k
-
-refusal-numbered : (b : Build) (n : Node) (op : Operation) → refusal b n op ≤ badTicks
-unfolding refusal refuseArrive refuseSchedule refuseTick
-refusal-numbered b n (arrive g ws) =
-    let m : Message = record { group = g; words = ws } in
-    either (eqb g 0 || ltb groupCount g) badGroup refl
-    (either (isEmpty ws || ltb wordLimit (length ws)) badWords refl
-    (either (leb (b .places) (length (n .queue))) queueFull refl (either (ltb (b .frames) (pledges b (queued m n))) noFrames refl none)))
-refusal-numbered b n (schedule g) = either (ltb groupCount g) badSchedule refl none
-refusal-numbered b n (tick k) = either (eqb k 0 || ltb tickLimit k) badTicks refl none
-refusal-numbered b n (user q) = either (eqb (n .running) 0) nobodyRuns refl (request-numbered n q)
-refusal-numbered b n unknown = omega arith
+use Rattle.rules.proofs.RunMemory.{paper-sensible, rest-of, step-tested}
+use Rattle.rules.proofs.ConditionsLaws.{refusal-first, no-node-first, first-numbered, first-one, first-two}
 
 -- a step's answer is its operation's refusal
 step-answer : (b : Build) (n : Node) (op : Operation) → step b n op .report .answer ≡ refusal b n op
@@ -84,12 +37,38 @@ step-untested : (m : List ℕ) (op : Operation) → isMemory m ≡ false → ste
 unfolding stepMemory
 step-untested m op e = rw (e, stepMemory)
 
-unfit : (m : List ℕ) (op : Operation) → isMemory m ≡ false → AnyStep m op
+-- the answer on any memory
+answer-first : (m : List ℕ) (op : Operation) → FirstDue m (nodeAt m) op (stepMemory m op .report .answer)
+answer-first m op = go (isMemory m) refl
+  where
+    go : (t : Bool) → isMemory m ≡ t → FirstDue m (nodeAt m) op (stepMemory m op .report .answer)
+    go true e =
+        let a : stepMemory m op .report .answer ≡ refusal paper01 (nodeAt m) op =
+        ap (λ (x : MemoryStep). x .report .answer) (step-tested m op e) ∙ step-answer paper01 (nodeAt m) op in
+        subst (FirstDue m (nodeAt m) op) (sym a) (refusal-first m (nodeAt m) e (test-valid m e) op)
+    go false e =
+        subst (FirstDue m (nodeAt m) op) (sym (ap (λ (x : MemoryStep). x .report .answer) (step-untested m op e)))
+        (no-node-first m (nodeAt m) op e)
+
+-- memory too short for a node
+short-no-node : (m : List ℕ) → length m < size → isMemory m ≡ false
+unfolding isMemory memoryTests
+short-no-node m short = rw (lt-leb size (length m) short, passes)
+
+-- What a step does to memory.
+
+record Kept (m : List ℕ) (op : Operation) : Type 0 where
+  refused-unchanged : stepMemory m op .report .answer ≢ 0
+      → stepMemory m op ≡ record { report = onlyNumber (stepMemory m op .report .answer); memory = m }
+  length-kept : length (stepMemory m op .memory) ≡ length m
+  rest-kept : drop size (stepMemory m op .memory) ≡ drop size m
+  stays-node : isMemory m ≡ true → isMemory (stepMemory m op .memory) ≡ true
+
+unfit : (m : List ℕ) (op : Operation) → isMemory m ≡ false → Kept m op
 unfit m op e =
     let s : stepMemory m op ≡ record { report = refused notNode; memory = m } = step-untested m op e in
     record {
-      numbered = subst (λ (x : MemoryStep). x .report .answer ≤ badTicks) (sym s) (omega arith);
-      refused-unchanged = λ not. s ∙ sym (ap (λ (x : MemoryStep). record { report = refused (x .report .answer); memory = m }) s);
+      refused-unchanged = λ not. s ∙ sym (ap (λ (x : MemoryStep). record { report = onlyNumber (x .report .answer); memory = m }) s);
       length-kept = ap (λ (x : MemoryStep). length (x .memory)) s;
       rest-kept = ap (λ (x : MemoryStep). drop size (x .memory)) s;
       stays-node = λ t. absurd (true≢false (sym t ∙ e));
@@ -97,22 +76,22 @@ unfit m op e =
 
 -- a refused step writes the node back as it was
 rewritten : (m : List ℕ) (op : Operation) → isMemory m ≡ true
-    → step paper01 (nodeAt m) op .report .answer ≢ accepted
+    → step paper01 (nodeAt m) op .report .answer ≢ 0
     → _≡_ {A = MemoryStep}
     (record { report = step paper01 (nodeAt m) op .report; memory = words (step paper01 (nodeAt m) op .node) ++ drop size m })
-    (record { report = refused (step paper01 (nodeAt m) op .report .answer); memory = m })
+    (record { report = onlyNumber (step paper01 (nodeAt m) op .report .answer); memory = m })
 unfolding finish
 rewritten m op e =
-    step-cases paper01 (nodeAt m) op Goal (λ z not. absurd (not refl)) (λ r z not i. record { report = refused (suc r); memory = test-words m e i })
+    step-cases paper01 (nodeAt m) op Goal (λ z not. absurd (not refl)) (λ r z not i. record { report = onlyNumber (suc r); memory = test-words m e i })
   where
     Goal : Stepped → Type 0
     Goal s =
-        s .report .answer ≢ accepted
+        s .report .answer ≢ 0
         → _≡_ {A = MemoryStep} (record { report = s .report; memory = words (s .node) ++ drop size m })
-        (record { report = refused (s .report .answer); memory = m })
+        (record { report = onlyNumber (s .report .answer); memory = m })
 
 -- a step on the memory of a node
-fit : (m : List ℕ) (op : Operation) → isMemory m ≡ true → AnyStep m op
+fit : (m : List ℕ) (op : Operation) → isMemory m ≡ true → Kept m op
 unfolding replaced
 fit m op e =
     let n : Node = nodeAt m in
@@ -121,15 +100,12 @@ fit m op e =
     let after : List ℕ = words (step paper01 n op .node) in
     let s : stepMemory m op ≡ record { report = step paper01 n op .report; memory = after ++ drop size m } = step-tested m op e in
     let lengths : length (after ++ drop size m) ≡ length m =
-    length-append after (drop size m) ∙ ap (λ (k : ℕ). k + length (drop size m)) (words-length (step paper01 n op .node) v′ ∙ sym (words-length n v))
+    length-append after (drop size m) ∙ ap (λ (k : ℕ). k + length (drop size m)) (words-length (step paper01 n op .node) (valid-mapped v′) ∙ sym (words-length n (valid-mapped v)))
     ∙ sym (length-append (words n) (drop size m))
     ∙ ap length (test-words m e) in
     record {
-      numbered =
-          subst (λ (x : MemoryStep). x .report .answer ≤ badTicks) (sym s)
-          (subst (λ (a : ℕ). a ≤ badTicks) (sym (step-answer paper01 n op)) (refusal-numbered paper01 n op));
       refused-unchanged = λ not.
-          subst (λ (x : MemoryStep). x .report .answer ≢ accepted → x ≡ record { report = refused (x .report .answer); memory = m }) (sym s)
+          subst (λ (x : MemoryStep). x .report .answer ≢ 0 → x ≡ record { report = onlyNumber (x .report .answer); memory = m }) (sym s)
           (rewritten m op e) not;
       length-kept = ap (λ (x : MemoryStep). length (x .memory)) s ∙ lengths;
       rest-kept = ap (λ (x : MemoryStep). drop size (x .memory)) s ∙ rest-of (step paper01 n op .node) (drop size m) v′;
@@ -137,16 +113,53 @@ fit m op e =
           subst (λ (x : MemoryStep). isMemory (x .memory) ≡ true) (sym s) (test-written (step paper01 n op .node) (drop size m) v′);
     }
 
+kept : (m : List ℕ) (op : Operation) → Kept m op
+kept m op = go (isMemory m) refl
+  where
+    go : (t : Bool) → isMemory m ≡ t → Kept m op
+    go true e = fit m op e
+    go false e = unfit m op e
+
+any-step : (m : List ℕ) (op : Operation) → AnyStep m op
+any-step m op =
+    let f : FirstDue m (nodeAt m) op (stepMemory m op .report .answer) = answer-first m op in
+    let k : Kept m op = kept m op in
+    record {
+      answered = f;
+      too-short = λ short. first-one f .1 (short-no-node m short);
+      not-node = first-one f;
+      unreadable = first-two f;
+      numbered = first-numbered f;
+      refused-unchanged = k .refused-unchanged;
+      length-kept = k .length-kept;
+      rest-kept = k .rest-kept;
+      stays-node = k .stays-node;
+    }
+
+-- Power-on.
+
+power-on-words : words (powerOn paper01) ≡ powerOnWords
+unfolding
+    powerOn emptyFrame frameNumber flagWord queueWords lineWords groupWords placeWords framesFrom framesOf placesOf allFrames frameWords words
+power-on-words = refl
+
+power-on-long : (m : List ℕ) → size ≤ length m → powerOnMemory m ≡ record { report = onlyNumber 0; memory = powerOnWords ++ drop size m }
+unfolding powerOnMemory replaced
+power-on-long m long = rw (le-leb size (length m) long, powerOnMemory, power-on-words) refl
+
+power-on-short : (m : List ℕ) → length m < size → powerOnMemory m ≡ record { report = onlyNumber 1; memory = m }
+unfolding powerOnMemory
+power-on-short m short = rw (lt-leb size (length m) short, powerOnMemory)
+
+any-power-on : (m : List ℕ) → AnyPowerOn m
+any-power-on m = record { long-enough = power-on-long m; too-short = power-on-short m; makes-node = node }
+  where
+    node : size ≤ length m → isMemory (powerOnMemory m .memory) ≡ true
+    node long =
+        subst (λ (k : List ℕ). isMemory k ≡ true) (ap (λ (x : MemoryStep). x .memory) (sym (power-on-long m long)))
+        (subst (λ (ws : List ℕ). isMemory (ws ++ drop size m) ≡ true) power-on-words
+        (test-written (powerOn paper01) (drop size m) (power-on-valid paper01 paper-sensible)))
+
 -- demand 1
 pub demand-one : DemandOne
-unfolding replaced
-demand-one = record { any-step = λ m op. any m op (isMemory m) refl; power-on-node = power-on }
-  where
-    power-on : (m : List ℕ) → size ≤ length m → isMemory (powerOnMemory m .memory) ≡ true
-    power-on m long =
-        subst (λ (k : List ℕ). isMemory k ≡ true) (sym (power-on-tested m (le-leb size (length m) long)))
-        (test-written (powerOn paper01) (drop size m) (power-on-valid paper01 paper-sensible))
-
-    any : (m : List ℕ) (op : Operation) (t : Bool) → isMemory m ≡ t → AnyStep m op
-    any m op true e = fit m op e
-    any m op false e = unfit m op e
+demand-one = record { any-step = any-step; any-line = λ m l. any-step m (readLine l); any-power-on = any-power-on }

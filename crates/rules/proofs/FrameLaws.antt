@@ -78,7 +78,7 @@ waiting-appended m v room =
     rw (waiting-front (appended m v), waiting-front v, add-one, add-suc, take-suc-set, drop-append-le)
 
 -- a message as it is kept is a good place, and a good waiting one
-placeOf-good : (m : Message) → GoodPlace (placeOf m)
+pub placeOf-good : (m : Message) → GoodPlace (placeOf m)
 unfolding placeOf
 placeOf-good m = record { eight = length-pad wordLimit (m .words) }
 

@@ -1,5 +1,13 @@
--- The table of cases.
+-- The tables of cases.
+pub mod Computes
 pub mod CasesLaws
+pub mod TypeCasesLaws
+pub mod AnswerCasesLaws
+pub mod ScriptCasesLaws
+pub mod BufferCasesLaws
+pub mod StepCasesLaws
+pub mod TestComputes
+pub mod MemoryCasesLaws
 -- A node stays a node: lists, then buffers and frames, settling, lines, ticks, each operation, a step.
 pub mod EveryLaws
 pub mod ListLaws
@@ -35,6 +43,7 @@ pub mod MapRead
 pub mod MapLaws
 pub mod MapHead
 pub mod RunMemory
--- The demands.
+-- The table of refusals, and the demands.
+pub mod ConditionsLaws
 pub mod DemandOneLaws
 pub mod DemandThreeLaws

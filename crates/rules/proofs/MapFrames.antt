@@ -1,4 +1,4 @@
--- The frames of a node, found by number. The map writes frame f by looking it up among all frames of the node. In a valid node each number
+-- The frames of a node, found by number. The map writes frame f by looking it up among all frames of the node. In a node that can be mapped each number
 -- below 32 stands once, so the lookup finds the one frame of that number; and the frames of a buffer, cut from its places eight by eight,
 -- are joined to those places again. Assumes nothing.
 use Prim.Native.Nat.{ℕ, _*_, _≤_, _<_}
@@ -13,17 +13,18 @@ use borrow.Author.Tests.{eqb-true, eq-eqb}
 use Rattle.rules.specs.Lists.{Every, concatMap, countOf}
 use Rattle.rules.specs.Build.{paper01}
 use Rattle.rules.specs.Node.{Place, Frame, Group, Node}
-use Rattle.rules.specs.Valid.{GoodPlace, GoodFrame, GoodGroup, Valid, frameNumber, frameList, frameNumbers}
+use Rattle.rules.specs.Valid.{GoodPlace, GoodFrame, frameNumber, frameList, frameNumbers}
 use Rattle.rules.specs.Memory.{framesFrom, framesOf, placesOf, allFrames, framePlaces, frameAt, frameWords, placeWords, frameAddress, frameStride, placeStride}
 use Rattle.rules.proofs.EveryLaws.{every-of, every-at, every-mono, every-append, every-concat, every-unmap}
 use Rattle.rules.proofs.ListLaws.{length-parts, once-bounded}
+use Rattle.rules.proofs.Sound.{WholeGroup, Mapped}
 use Rattle.rules.proofs.MapWords.{length-records}
 use Rattle.rules.proofs.MapParts.{places, length-place}
 
 -- The numbers of frames.
 
 -- of the frames of a buffer: its list
-numbers-from : (fs : List ℕ) (ps : List Place) → map frameNumber (framesFrom fs ps) ≡ fs
+pub numbers-from : (fs : List ℕ) (ps : List Place) → map frameNumber (framesFrom fs ps) ≡ fs
 unfolding framesFrom frameNumber
 numbers-from [] ps = refl
 numbers-from (f ∷ fs) ps = ap (λ (r : List ℕ). f ∷ r) (numbers-from fs (drop (paper01 .perFrame) ps))
@@ -91,7 +92,7 @@ found-once {x} (List·Memᴰ·tail {x = y} {xs = ys} k) h = go (eqb (y .number) 
 -- The frames of a buffer.
 
 -- a buffer's frames are whole, and its places good, where there are places for each frame
-good-from : (fs : List ℕ) (ps : List Place) → length ps ≡ length fs * paper01 .perFrame → Every GoodPlace ps → Every (GoodFrame paper01) (framesFrom fs ps)
+pub good-from : (fs : List ℕ) (ps : List Place) → length ps ≡ length fs * paper01 .perFrame → Every GoodPlace ps → Every (GoodFrame paper01) (framesFrom fs ps)
 unfolding framesFrom
 good-from [] ps h e = tt
 good-from (f ∷ fs) ps h e =
@@ -136,18 +137,18 @@ unfolding frameAt
 places-at m [] = tt
 places-at m (f ∷ fs) = (refl, places-at m fs)
 
--- The frames of a valid node.
+-- The frames of a node that can be mapped.
 
-module _ (n : Node) (v : Valid paper01 n) where
+module _ (n : Node) (v : Mapped n) where
   -- they are whole
-  all-good : Every (GoodFrame paper01) (allFrames n)
+  pub all-good : Every (GoodFrame paper01) (allFrames n)
   unfolding allFrames framesOf
   all-good =
       every-append (GoodFrame paper01) (n .free) (concatMap framesOf (n .groups)) .1
-      (v .free-good, every-concat (GoodFrame paper01) framesOf (n .groups) .1 (every-mono (GoodGroup paper01) _ group-good (n .groups) (v .groups-good)))
+      (v .free-good, every-concat (GoodFrame paper01) framesOf (n .groups) .1 (every-mono WholeGroup _ group-good (n .groups) (v .groups-whole)))
     where
-      group-good : (G : Group) → GoodGroup paper01 G → Every (GoodFrame paper01) (framesOf G)
-      group-good G g = good-from (G .buffer .frames) (G .buffer .places) (g .buffer .whole) (g .buffer .places)
+      group-good : (G : Group) → WholeGroup G → Every (GoodFrame paper01) (framesOf G)
+      group-good G g = good-from (G .buffer .frames) (G .buffer .places) (g .whole) (g .places)
 
   -- their numbers are below 32
   pub numbers-bounded : Every (λ x. x .number < paper01 .frames) (allFrames n)

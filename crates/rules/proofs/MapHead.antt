@@ -92,7 +92,7 @@ partWords m p = take (p .len) (drop (p .start) m)
 module _ (m : List ℕ) (h : isMemory m ≡ true) (g : ℕ) (low : 1 ≤ g) (high : g ≤ groupCount)
     (some : 1 ≤ groupOf (nodeAt m) g .buffer .count) where
   -- its buffer is good
-  good-buffer : GoodBuffer paper01 (bufferAt m (groupAddress g))
+  pub good-buffer : GoodBuffer paper01 (bufferAt m (groupAddress g))
   good-buffer =
       rw (buffer-at m g low high) at (group-good (valid-sound (test-valid m h)) g low high .buffer)
 
@@ -106,7 +106,7 @@ module _ (m : List ℕ) (h : isMemory m ≡ true) (g : ℕ) (low : 1 ≤ g) (hig
   some-held = omega (arith, held good-buffer some-count, length-wordsAt m (groupAddress g + listOffset) (word m (groupAddress g + heldOffset)))
 
   -- the first of which is below 32
-  first-bounded : word m (groupAddress g + listOffset) < paper01 .frames
+  pub first-bounded : word m (groupAddress g + listOffset) < paper01 .frames
   unfolding frameList bufferAt listAt wordsAt
   first-bounded =
       let e : word m (groupAddress g + heldOffset) ≡ suc (word m (groupAddress g + heldOffset) - 1) = omega (arith, some-held) in
@@ -114,7 +114,7 @@ module _ (m : List ℕ) (h : isMemory m ≡ true) (g : ℕ) (low : 1 ≤ g) (hig
       rw e at b .0
 
   -- its first message waits at the place that the head call names
-  waits-there : waiting (bufferAt m (groupAddress g))
+  pub waits-there : waiting (bufferAt m (groupAddress g))
       ≡ placeAt m (firstPlace m g)
       ∷ take (bufferAt m (groupAddress g) .count - 1) (drop (suc (bufferAt m (groupAddress g) .used)) (bufferAt m (groupAddress g) .places))
   unfolding firstPlace bufferAt
@@ -123,7 +123,7 @@ module _ (m : List ℕ) (h : isMemory m ≡ true) (g : ℕ) (low : 1 ≤ g) (hig
       (first-waiting (bufferAt m (groupAddress g)) emptyPlace some-count (omega (arith, fits good-buffer, some-count)))
 
   -- that place is within the memory
-  place-within : firstPlace m g + 1 + wordLimit ≤ length m
+  pub place-within : firstPlace m g + 1 + wordLimit ≤ length m
   unfolding firstPlace frameAddress bufferAt
   place-within = omega (arith, first-bounded, test-size m h, good-buffer .used-bound)
 

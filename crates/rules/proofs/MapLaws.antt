@@ -18,6 +18,7 @@ use Rattle.rules.specs.Memory.{word, wordsAt, messageWords, queueWords, 
 use Rattle.rules.specs.MemoryTest.{isMemory}
 use Rattle.rules.proofs.EveryLaws.{every-append, every-concat, every-of}
 use Rattle.rules.proofs.ListLaws.{length-parts}
+use Rattle.rules.proofs.Sound.{valid-mapped}
 use Rattle.rules.proofs.MapWords.{Stands, pad-stands, parts-stand, length-wordsAt, stands-wordsAt, front-stands, stands-front, records-stand, length-records, every-record}
 use Rattle.rules.proofs.MapParts.{messages, places, groups, length-message, length-place, length-group, message-at-stands, good-place-at, place-at-stands, group-at-stands, MessageFits, GroupFits}
 use Rattle.rules.proofs.MapFrames.{all-numbers, found, length-frame, from-places, numbers-at, places-at}
@@ -33,13 +34,13 @@ module _ (n : Node) (rest : List ℕ) (v : Valid paper01 n) where
 
   -- it is read back
   pub read-back : nodeAt (words n ++ rest) ≡ n
-  read-back = read (words n ++ rest) n v written .0
+  read-back = read (words n ++ rest) n (valid-mapped v) written .0
 
   -- and it passes the test
   pub test-written : isMemory (words n ++ rest) ≡ true
   test-written =
-      let long : size ≤ length (words n ++ rest) = omega (arith, length-append (words n) rest, words-length n v) in
-      memory-fits (words n ++ rest) .1 (long, (read (words n ++ rest) n v written .1, rw read-back v))
+      let long : size ≤ length (words n ++ rest) = omega (arith, length-append (words n) rest, words-length n (valid-mapped v)) in
+      memory-fits (words n ++ rest) .1 (long, (read (words n ++ rest) n (valid-mapped v) written .1, rw read-back v))
 
 -- What passes the test is the map of the node that it holds.
 
@@ -109,7 +110,7 @@ module _ (m : List ℕ) (f : Fits m) (v : Valid paper01 (nodeAt m)) where
         free = free-stands;
         groups = stand groupsAt groupCount (f .groups);
         frames =
-            parts-stand m (frameWords (allFrames (nodeAt m))) framesAt frameStride 0 (paper01 .frames) (λ j l h. length-frame (nodeAt m) v j h) .1
+            parts-stand m (frameWords (allFrames (nodeAt m))) framesAt frameStride 0 (paper01 .frames) (λ j l h. length-frame (nodeAt m) (valid-mapped v) j h) .1
             (λ j l h. frame-stands j h);
       }
 
@@ -125,6 +126,6 @@ module _ (m : List ℕ) (h : isMemory m ≡ true) where
   -- and it is that node's map, with the rest behind it
   pub test-words : words (nodeAt m) ++ drop size m ≡ m
   test-words =
-      let l = words-length (nodeAt m) test-valid in
+      let l = words-length (nodeAt m) (valid-mapped test-valid) in
       let s = map-stands (nodeAt m) (test-valid .group-count) m .1 (holds m (memory-fits m .0 h .1 .0) test-valid) in
       rw l at (stands-front m (words (nodeAt m)) (rw l test-size) s)

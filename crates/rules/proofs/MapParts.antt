@@ -121,17 +121,17 @@ unfolding groupWords lineWords
 length-group G = simp (length-append, length-pad)
 
 -- what stands at the record of a group, word by word
-record GroupStands (m : List ℕ) (a : ℕ) (G : Group) : Type 0 where
-  atomic : word m (a + atomicOffset) ≡ flagWord (G .atomic)
-  pending : word m (a + pendingOffset) ≡ flagWord (G .pending)
-  used : word m (a + usedOffset) ≡ G .buffer .used
-  count : word m (a + countOffset) ≡ G .buffer .count
-  held : word m (a + heldOffset) ≡ length (G .buffer .frames)
-  described : word m (a + describedOffset) ≡ length (G .descriptor)
-  descriptor : Stands m (a + descriptorOffset) (G .descriptor)
-  descriptor-zero : zeroAt m (a + descriptorOffset + length (G .descriptor)) (wordLimit - length (G .descriptor)) ≡ true
-  list : Stands m (a + listOffset) (G .buffer .frames)
-  list-zero : zeroAt m (a + listOffset + length (G .buffer .frames)) (paper01 .frames - length (G .buffer .frames)) ≡ true
+pub record GroupStands (m : List ℕ) (a : ℕ) (G : Group) : Type 0 where
+  pub atomic : word m (a + atomicOffset) ≡ flagWord (G .atomic)
+  pub pending : word m (a + pendingOffset) ≡ flagWord (G .pending)
+  pub used : word m (a + usedOffset) ≡ G .buffer .used
+  pub count : word m (a + countOffset) ≡ G .buffer .count
+  pub held : word m (a + heldOffset) ≡ length (G .buffer .frames)
+  pub described : word m (a + describedOffset) ≡ length (G .descriptor)
+  pub descriptor : Stands m (a + descriptorOffset) (G .descriptor)
+  pub descriptor-zero : zeroAt m (a + descriptorOffset + length (G .descriptor)) (wordLimit - length (G .descriptor)) ≡ true
+  pub list : Stands m (a + listOffset) (G .buffer .frames)
+  pub list-zero : zeroAt m (a + listOffset + length (G .buffer .frames)) (paper01 .frames - length (G .buffer .frames)) ≡ true
 
 -- what the memory test asks of the record of a group
 pub record GroupFits (m : List ℕ) (a : ℕ) : Type 0 where
@@ -157,7 +157,7 @@ flag-word (suc (suc w)) h = absurd (omega arith)
 
 module _ (m : List ℕ) (a : ℕ) where
   -- a group whose lists fit stands word by word
-  group-stands : (G : Group) → length (G .descriptor) ≤ wordLimit → length (G .buffer .frames) ≤ paper01 .frames
+  pub group-stands : (G : Group) → length (G .descriptor) ≤ wordLimit → length (G .buffer .frames) ≤ paper01 .frames
       → Stands m a (groupWords G) ↔ GroupStands m a G
   unfolding groupWords lineWords
   group-stands G h l =

@@ -12,12 +12,13 @@ use lib.ListN.{length, length-append, length-map}
 use Rattle.rules.specs.Lists.{Every, concatMap, upFrom}
 use Rattle.rules.specs.Build.{paper01, groupCount, wordLimit}
 use Rattle.rules.specs.Node.{Message, Group, Node}
-use Rattle.rules.specs.Valid.{GoodMessage, GoodPlace, GoodGroup, Valid, frameNumber, frameList, frameNumbers}
+use Rattle.rules.specs.Valid.{GoodMessage, GoodPlace, frameNumber, frameList, frameNumbers}
 use Rattle.rules.specs.Memory.{runningAt, timerAt, queuedAt, freeCountAt, queueAt, queueStride, freeAt, groupsAt, groupStride, framesAt, frameStride, size}
 use Rattle.rules.specs.Memory.{word, wordsAt, messageWords, queueWords, lineWords, groupWords, placeWords, frameWords, words, framesOf, placesOf, allFrames, messagesAt, framePlaces, frameAt, frameAddress, groupsFrom, nodeAt}
 use Rattle.rules.specs.MemoryTest.{zeroAt}
 use Rattle.rules.proofs.EveryLaws.{every-of, every-at, every-append, every-concat, every-upFrom}
 use Rattle.rules.proofs.ListLaws.{length-parts, part-short, length-pad}
+use Rattle.rules.proofs.Sound.{WholeGroup, Mapped}
 use Rattle.rules.proofs.MapWords.{Stands, stands-cons, stands-append, pad-stands, parts-stand, wordsAt-stands, read-records}
 use Rattle.rules.proofs.MapParts.{messages, places, groups, length-message, length-place, length-group, read-message, read-place, read-group, MessageFits, GroupFits}
 use Rattle.rules.proofs.MapFrames.{numbers-bounded, each-found, found-good, length-frame, places-from, frames-at}
@@ -49,12 +50,12 @@ pub record MapStands (m : List ℕ) (n : Node) : Type 0 where
   pub frames : Stands m framesAt (concatMap (frameWords (allFrames n)) (upFrom 0 (paper01 .frames)))
 
 -- the queue has room for 16 messages
-length-queue : (q : List Message) → length (queueWords q) ≡ 160
+pub length-queue : (q : List Message) → length (queueWords q) ≡ 160
 unfolding queueWords
 length-queue q = length-pad (paper01 .places * queueStride) (concatMap messageWords q)
 
 -- the free line for 32 numbers
-length-line : (fs : List ℕ) → length (lineWords fs) ≡ 32
+pub length-line : (fs : List ℕ) → length (lineWords fs) ≡ 32
 unfolding lineWords
 length-line fs = length-pad (paper01 .frames) fs
 
@@ -88,7 +89,7 @@ module _ (n : Node) (e : length (n .groups) ≡ groupCount) where
       )
 
 -- the map of a valid node has the node's size
-pub words-length : (n : Node) → Valid paper01 n → length (words n) ≡ size
+pub words-length : (n : Node) → Mapped n → length (words n) ≡ size
 unfolding words
 words-length n v =
     regions-length (n .running) (n .timer) (length (n .queue)) (length (n .free)) (queueWords (n .queue))
@@ -100,7 +101,7 @@ words-length n v =
 
 -- The node is read back from its map.
 
-module _ (m : List ℕ) (n : Node) (v : Valid paper01 n) (s : MapStands m n) where
+module _ (m : List ℕ) (n : Node) (v : Mapped n) (s : MapStands m n) where
   -- the frame of each number
   frame-read : (f : ℕ) → f < paper01 .frames → framePlaces m f ≡ placesOf f (allFrames n)
   unfolding framePlaces frameAddress frameWords
@@ -131,7 +132,7 @@ module _ (m : List ℕ) (n : Node) (v : Valid paper01 n) (s : MapStands m n) whe
       every-concat (λ x. framePlaces m (x .number) ≡ x .places) framesOf (n .groups) .0
       (every-append _ (n .free) (concatMap framesOf (n .groups)) .0 frames-read .1) in
       every-of _ (n .groups) (λ G h.
-      places-from (framePlaces m) (G .buffer .frames) (G .buffer .places) (every-at (GoodGroup paper01) (v .groups-good) h .buffer .whole)
+      places-from (framePlaces m) (G .buffer .frames) (G .buffer .places) (every-at WholeGroup (v .groups-whole) h .whole)
       (every-at (λ G. Every (λ x. framePlaces m (x .number) ≡ x .places) (framesOf G)) each h))
 
   -- the free line is no longer than the frames are many
@@ -186,7 +187,7 @@ module _ (m : List ℕ) (n : Node) (v : Valid paper01 n) (s : MapStands m n) whe
       × ((length (G .buffer .frames) ≤ paper01 .frames) × (concatMap (framePlaces m) (G .buffer .frames) ≡ G .buffer .places)))
       (λ G g. length-group G) (λ a G g. read-group m a G (g .0) (g .1 .0) (g .1 .1)) (n .groups)
       (every-of _ (n .groups) (λ G h. (
-        every-at (GoodGroup paper01) (v .groups-good) h .descriptor,
+        every-at WholeGroup (v .groups-whole) h .descriptor,
         (
           every-at (λ G. length (G .buffer .frames) ≤ paper01 .frames) lists-short h,
           every-at (λ G. concatMap (framePlaces m) (G .buffer .frames) ≡ G .buffer .places) groups-read h,

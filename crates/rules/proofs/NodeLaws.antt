@@ -95,7 +95,7 @@ unfolding pledges
 pledges-le b n n′ each = sum-le (pledge b n′) (pledge b n) 1 groupCount (λ g low high. each g low (omega arith))
 
 -- frames that go between the free line and a group's list weigh together what they weighed
-reweighed : (n : Node) (g : ℕ) (G : Group) (fs : List Frame) → pred g < length (n .groups)
+pub reweighed : (n : Node) (g : ℕ) (G : Group) (fs : List Frame) → pred g < length (n .groups)
     → SameFrames fs (G .buffer .frames) (n .free) (groupOf n g .buffer .frames) → (w : ℕ → ℕ)
     → weight w (frameNumbers (withGroup g G (withFree fs n))) ≡ weight w (frameNumbers n)
 unfolding frameNumbers frameList groupOf withGroup withFree

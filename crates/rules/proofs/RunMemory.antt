@@ -17,6 +17,7 @@ use Rattle.rules.specs.Memory.{runningAt, size, words, word, nodeAt}
 use Rattle.rules.specs.MemoryTest.{isMemory, MemoryStep, replaced, stepMemory, powerOnMemory}
 use Rattle.rules.specs.Run.{Input, asked, play, run, PlayedMemory, playMemory, runMemory}
 use Rattle.rules.specs.Valid.{Valid}
+use Rattle.rules.proofs.Sound.{valid-mapped}
 use Rattle.rules.proofs.MapRead.{words-length}
 use Rattle.rules.proofs.MapLaws.{read-back, test-written}
 use Rattle.rules.proofs.StepLaws.{power-on-valid, step-valid}
@@ -27,7 +28,7 @@ paper-sensible = record { frames = omega arith; perFrame = omega arith; places =
 
 -- what stands behind a node's words
 pub rest-of : (n : Node) (rest : List ℕ) → Valid paper01 n → drop size (words n ++ rest) ≡ rest
-rest-of n rest v = drop-at (words n) rest size (words-length n v)
+rest-of n rest v = drop-at (words n) rest size (words-length n (valid-mapped v))
 
 -- a step on memory that passes the test, and power-on on memory that is long enough
 pub step-tested : (m : List ℕ) (op : Operation) → isMemory m ≡ true

@@ -58,7 +58,7 @@ module _ {b : Build} {n : Node} (s : Sound b n) (g : ℕ) (low : 1 ≤ g) (high 
       (omega (arith, good .whole, ceil-enough (v .used + v .count + length (inQueue n g)) (b .perFrame) (omega arith)))
 
 -- a full buffer with a message in the queue meets a free frame
-frame-left : {b : Build} {n : Node} → Sound b n → (g : ℕ) → 1 ≤ g → g ≤ groupCount → 1 ≤ length (inQueue n g)
+pub frame-left : {b : Build} {n : Node} → Sound b n → (g : ℕ) → 1 ≤ g → g ≤ groupCount → 1 ≤ length (inQueue n g)
     → length (groupOf n g .buffer .places) ≤ filled n g → 1 ≤ length (n .free)
 unfolding frameNumbers pledges
 frame-left {b} {n} s g low high queued full =
@@ -74,12 +74,12 @@ kept-message m good = λ i. record { group = m .group; words = take-pad wordLimi
 
 module _ {b : Build} (m : Message) (q : List Message) (n : Node) (s : Sound b (withQueue (m ∷ q) n)) where
   -- the head is good
-  head-good : GoodMessage m
+  pub head-good : GoodMessage m
   unfolding withQueue
   head-good = s .queue-good .0
 
   -- it is in the queue of its group, before the rest, and of no other
-  own-queue : inQueue (withQueue (m ∷ q) n) (m .group) ≡ m ∷ inQueue (withQueue q n) (m .group)
+  pub own-queue : inQueue (withQueue (m ∷ q) n) (m .group) ≡ m ∷ inQueue (withQueue q n) (m .group)
   unfolding withQueue inQueue
   own-queue = filter-pass (isOf (m .group)) m q (is-of (m .group) m refl)
 

@@ -15,5 +15,12 @@ pub mod Script
 pub mod Private
 pub mod Run
 pub mod Cases
+pub mod AnswerCases
+pub mod ScriptCases
+pub mod BufferCases
+pub mod StepCases
+pub mod MemoryCases
+pub mod TypeCases
+pub mod Conditions
 pub mod DemandOne
 pub mod DemandThree

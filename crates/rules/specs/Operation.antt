@@ -123,6 +123,10 @@ pub record Report : Type 0 where
 abbrev pub refused : ℕ → Report
 refused a = record { answer = a; value = 0; trap = noTrap; upcall = 0; moved = 0; sent = [] }
 
+-- what an accepted step reports that sends nothing
+abbrev pub acceptedWith : ℕ → ℕ → ℕ → ℕ → Report
+acceptedWith value trap upcall moved = record { answer = accepted; value = value; trap = trap; upcall = upcall; moved = moved; sent = [] }
+
 -- all that an accepted power-on reports
 abbrev pub allZero : Report
-allZero = record { answer = accepted; value = 0; trap = noTrap; upcall = 0; moved = 0; sent = [] }
+allZero = acceptedWith 0 noTrap 0 0

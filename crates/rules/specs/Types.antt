@@ -3,8 +3,7 @@ use Prim.Native.Nat.{ℕ, _-_}
 use mathlib.Core.List.{List}
 use lib.ListN.{length, drop, getD}
 use Rattle.rules.specs.Lists.{pad}
-use Rattle.rules.specs.Build.{Build, wordLimit}
-use Rattle.rules.specs.Node.{Node}
+use Rattle.rules.specs.Build.{Build, groupCount, wordLimit, lastNode, tickLimit}
 use Rattle.rules.specs.Operation.{poll, peek, dispose, beginAtomic, endAtomic, describe, launch}
 use Rattle.rules.specs.Operation.{Operation, arrive, schedule, tick, user, unknown, Report}
 use Rattle.rules.specs.declared.Operation.{Operation as Operation·rt}
@@ -12,7 +11,7 @@ use Rattle.rules.specs.declared.Operation.the-variants.{Arrive, Schedule
 use Rattle.rules.specs.declared.Report.{Report as Report·rt}
 use Rattle.rules.specs.declared.Sent.{Sent as Sent·rt}
 use Rattle.rules.specs.declared.Build.{Build as Build·rt}
-use Rattle.rules.specs.declared.Node.{Node as Node·rt}
+use Rattle.rules.specs.declared.Limits.{Limits as Limits·rt}
 
 -- an operation, with the words lent beside it
 unfoldable pub operationOf : Operation·rt → List ℕ → Operation
@@ -48,6 +47,6 @@ reportOf r =
 abbrev pub buildOf : Build → Build·rt
 buildOf b = record { frames = b .frames; «per_frame» = b .perFrame; places = b .places; timeout = b .timeout }
 
--- the numbers of a node that stand first in its memory
-abbrev pub headerOf : Node → Node·rt
-headerOf n = record { running = n .running; timer = n .timer; queued = length (n .queue); free = length (n .free) }
+-- the limits that every build shares
+abbrev pub limits : Limits·rt
+limits = record { groups = groupCount; words = wordLimit; «last_node» = lastNode; «tick_limit» = tickLimit }

@@ -1,9 +1,7 @@
-// The types that the contracts of the node speak of, and the node's limits.
+// The types that the contracts of the node speak of.
 ghost use mathlib.Core.Path.{_≡_};
-ghost use Rattle.rules.specs.Build.{paper01};
-ghost use Rattle.rules.specs.Node.{powerOn};
-ghost use Rattle.rules.specs.Operation.{refused};
-ghost use Rattle.rules.specs.Types.{buildOf, headerOf, reportOf};
+ghost use Rattle.rules.specs.Operation.{acceptedWith, refused};
+ghost use Rattle.rules.specs.Types.{reportOf};
 
 // An operation of the table. The words of an arrival are lent beside it.
 pub enum Operation {
@@ -37,7 +35,65 @@ pub struct Report {
     pub sent: Sent,
 }
 
+// The answers by name: 0 accepted, each refusal by its number.
 impl Report {
+    pub const NOT_NODE: u32 = 1;
+
+    pub const UNREADABLE: u32 = 2;
+
+    pub const BAD_GROUP: u32 = 3;
+
+    pub const BAD_WORDS: u32 = 4;
+
+    pub const QUEUE_FULL: u32 = 5;
+
+    pub const NO_FRAMES: u32 = 6;
+
+    pub const NOBODY_RUNS: u32 = 7;
+
+    pub const NO_MESSAGE: u32 = 8;
+
+    pub const PAST_MESSAGE: u32 = 9;
+
+    pub const STILL_PENDING: u32 = 10;
+
+    pub const DESCRIPTOR_FULL: u32 = 11;
+
+    pub const DESCRIPTOR_EMPTY: u32 = 12;
+
+    pub const BAD_NODE: u32 = 13;
+
+    pub const BAD_SCHEDULE: u32 = 14;
+
+    pub const BAD_TICKS: u32 = 15;
+
+    // The traps.
+    pub const DISPOSE_EXTEND: u32 = 1;
+
+    pub const ATOMICITY_EXTEND: u32 = 2;
+
+    pub const TIMED_OUT: u32 = 3;
+
+    // An accepted step that sends nothing.
+    pub fn accepted(value: u32, trap: u32, upcall: u32, moved: u32) -> Report
+        ensures { λ r. ⌜ r ≡ reportOf (acceptedWith value trap upcall moved) ⌝ }
+    {
+        let nothing = Sent {
+            node: 0,
+            group: 0,
+            len: 0,
+            words: [0u32; 8],
+        };
+        Report {
+            answer: 0,
+            value: value,
+            trap: trap,
+            upcall: upcall,
+            moved: moved,
+            sent: nothing,
+        }
+    }
+
     // A refused step's number, and zeros.
     pub fn refused(answer: u32) -> Report
         ensures { λ r. ⌜ r ≡ reportOf (refused answer) ⌝ }
@@ -67,52 +123,10 @@ pub struct Build {
     pub timeout: u32,
 }
 
-// The numbers of a node that stand first in its memory; its limits belong to it by name.
-pub struct Node {
-    pub running: u32,
-    pub timer: u32,
-    pub queued: u32,
-    pub free: u32,
-}
-
-impl Node {
-    pub const GROUPS: u32 = 8;
-
-    pub const WORDS: u32 = 8;
-
-    pub const PLACES: u32 = 16;
-
-    pub const FRAMES: u32 = 32;
-
-    pub const PER_FRAME: u32 = 8;
-
-    pub const TIMEOUT: u32 = 256;
-
-    pub const LAST_NODE: u32 = 63;
-
-    pub const TICK_LIMIT: u32 = 65535;
-
-    // The numbers of a node at power-on.
-    pub fn power_on() -> Node
-        ensures { λ r. ⌜ r ≡ headerOf (powerOn paper01) ⌝ }
-    {
-        Node {
-            running: 0,
-            timer: 0,
-            queued: 0,
-            free: Node::FRAMES,
-        }
-    }
-
-    // The build that the limits make: paper 01's.
-    pub fn build() -> Build
-        ensures { λ r. ⌜ r ≡ buildOf paper01 ⌝ }
-    {
-        Build {
-            frames: Node::FRAMES,
-            per_frame: Node::PER_FRAME,
-            places: Node::PLACES,
-            timeout: Node::TIMEOUT,
-        }
-    }
+// The limits that every build shares.
+pub struct Limits {
+    pub groups: u32,
+    pub words: u32,
+    pub last_node: u32,
+    pub tick_limit: u32,
 }

@@ -1,0 +1,147 @@
+-- A memory that holds a node, piece by piece: the numbers, the queue, the free line, each group's record, and each frame where its number
+-- says. Frames are told by where they are held and not by a lookup among all of them, so that a frame that goes from one list to another
+-- changes nothing at its address. Assumes nothing.
+use Prim.Native.Nat.{ℕ, zero, suc, _+_, _-_, _*_, _≤_, _<_}
+use mathlib.Core.Path.{_≡_, refl, sym, subst, ap, _∙_}
+use mathlib.Core.Logic.{_↔_}
+use mathlib.Core.List.{List, [], _∷_, _++_, map}
+use native.Mathlib.Omega.{arith}
+use lib.ListN.{length, take, drop, getD, length-append, length-drop}
+use lib.Seq.{ext-getD, getD-drop, drop-at}
+use Rattle.rules.specs.Lists.{Every, concatMap, countOf, upFrom}
+use Rattle.rules.specs.Build.{paper01, groupCount}
+use Rattle.rules.specs.Node.{Place, Frame, Group, Node, emptyGroup}
+use Rattle.rules.specs.Valid.{frameNumber}
+use Rattle.rules.specs.Memory.{runningAt, timerAt, queuedAt, freeCountAt, queueAt, freeAt, groupsAt, groupStride, framesAt, frameStride, size, word, words, wordsAt, queueWords, lineWords, groupWords, placeWords, frameWords, framesOf, placesOf, allFrames, frameAddress}
+use Rattle.rules.proofs.EveryLaws.{every-of, every-at, every-append, every-concat, every-getD, every-mono}
+use Rattle.rules.proofs.Sound.{Mapped}
+use Rattle.rules.proofs.MapWords.{Stands, stands-append, stands-nil, parts-stand, front-stands, stands-front}
+use Rattle.rules.proofs.MapParts.{length-group}
+use Rattle.rules.proofs.MapFrames.{all-numbers, numbers-bounded, each-found, found, length-frame}
+use Rattle.rules.proofs.MapRead.{MapStands, map-stands, words-length}
+use Rattle.memory.specs.Holds.{Holds}
+
+-- the words of a frame stand at the address of its number
+abbrev pub FrameStands : List ℕ → Frame → Type 0
+FrameStands m x = Stands m (frameAddress (x .number)) (concatMap placeWords (x .places))
+
+pub record Pieces (m : List ℕ) (n : Node) (r : List ℕ) : Type 0 where
+  pub long : size ≤ length m
+  pub rest : drop size m ≡ r
+  pub running : word m runningAt ≡ n .running
+  pub timer : word m timerAt ≡ n .timer
+  pub queued : word m queuedAt ≡ length (n .queue)
+  pub free-count : word m freeCountAt ≡ length (n .free)
+  pub queue : Stands m queueAt (queueWords (n .queue))
+  pub free : Stands m freeAt (lineWords (map frameNumber (n .free)))
+  pub groups : (i : ℕ) → i < groupCount → Stands m (groupsAt + groupStride * i) (groupWords (getD (n .groups) i emptyGroup))
+  pub free-frames : Every (FrameStands m) (n .free)
+  pub group-frames : (i : ℕ) → i < groupCount → Every (FrameStands m) (framesOf (getD (n .groups) i emptyGroup))
+
+-- what holds at each index holds of every element
+pub every-index : {A : Type 0} (P : A → Type 0) (d : A) (xs : List A) → ((i : ℕ) → i < length xs → P (getD xs i d)) → Every P xs
+every-index P d [] f = tt
+every-index P d (x ∷ xs) f = (f 0 (omega arith), every-index P d xs (λ i h. f (suc i) (omega arith)))
+
+-- lists of s words each, one behind the other, stand each at its own address
+pub lists-stand : {X : Type 0} (m : List ℕ) (w : X → List ℕ) (s : ℕ) (d : X) → ((x : X) → length (w x) ≡ s) → (xs : List X) (a : ℕ)
+    → Stands m a (concatMap w xs) ↔ ((i : ℕ) → i < length xs → Stands m (a + s * i) (w (getD xs i d)))
+lists-stand m w s d sized [] a = (λ h i l. absurd (omega arith), λ h. stands-nil m a)
+lists-stand {X} m w s d sized (x ∷ xs) a =
+    let both = stands-append m a (w x) (concatMap w xs) in
+    let r = lists-stand m w s d sized xs (a + s) in
+    let one = sized x in (
+      λ h. go (both .0 h .0) (r .0 (rw one at (both .0 h .1))),
+      λ h. both .1 (
+        subst (λ (b : ℕ). Stands m b (w x)) (omega arith) (h 0 (omega arith)),
+        rw one (r .1 (λ i l. subst (λ (b : ℕ). Stands m b (w (getD xs i d))) (omega arith) (h (suc i) (omega arith)))),
+      ),
+    )
+  where
+    go : Stands m a (w x) → ((i : ℕ) → i < length xs → Stands m (a + s + s * i) (w (getD xs i d)))
+        → (i : ℕ) → i < suc (length xs) → Stands m (a + s * i) (w (getD (x ∷ xs) i d))
+    go p f zero l = subst (λ (b : ℕ). Stands m b (w x)) (omega arith) p
+    go p f (suc i) l = subst (λ (b : ℕ). Stands m b (w (getD xs i d))) (omega arith) (f i (omega arith))
+
+-- the words of the frame that is found under a number
+by-number : (m : List ℕ) (j : ℕ) (y : Frame) (ps : List Place) → y .number ≡ j → ps ≡ y .places → FrameStands m y
+    → Stands m (frameAddress j) (concatMap placeWords ps)
+by-number m j y ps e q h = rw (q, ← e) h
+
+module _ (m : List ℕ) (n : Node) (v : Mapped n) where
+  -- the frames' region stands frame by frame
+  frames-stand : Stands m framesAt (concatMap (frameWords (allFrames n)) (upFrom 0 (paper01 .frames))) ↔ Every (FrameStands m) (allFrames n)
+  unfolding frameWords frameAddress
+  frames-stand =
+      let parts = parts-stand m (frameWords (allFrames n)) framesAt frameStride 0 (paper01 .frames) (λ j l k. length-frame n v j k) in (
+        λ h. every-of _ (allFrames n) (λ x k.
+            let below = every-at (λ y. y .number < paper01 .frames) (numbers-bounded n v) k in
+            let same = every-at (λ y. placesOf (y .number) (allFrames n) ≡ y .places) (each-found n v) k in
+            rw same at (parts .0 h (x .number) (omega arith) below)),
+        λ e. parts .1 (λ j l k.
+            let once : countOf j (map frameNumber (allFrames n)) ≡ 1 = rw (all-numbers n) (v .frames-once j k) in
+            let t = found (FrameStands m) j (allFrames n) (omega arith) e in
+            by-number m j (t .0) (placesOf j (allFrames n)) (t .1 .0) (t .1 .1 .0) (t .1 .1 .1)),
+      )
+
+  -- the map stands piece by piece
+  pub map-pieces : (r : List ℕ) → size ≤ length m → drop size m ≡ r → MapStands m n → Pieces m n r
+  unfolding allFrames
+  map-pieces r long rest s =
+      let all = every-append (FrameStands m) (n .free) (concatMap framesOf (n .groups)) .0 (frames-stand .0 (s .frames)) in
+      let each = every-concat (FrameStands m) framesOf (n .groups) .0 (all .1) in
+      let count = v .group-count in
+      record {
+        long = long;
+        rest = rest;
+        running = s .running;
+        timer = s .timer;
+        queued = s .queued;
+        free-count = s .free-count;
+        queue = s .queue;
+        free = s .free;
+        groups = λ i l. lists-stand m groupWords groupStride emptyGroup length-group (n .groups) groupsAt .0 (s .groups) i (omega arith);
+        free-frames = all .0;
+        group-frames = λ i l. every-getD (λ G. Every (FrameStands m) (framesOf G)) (n .groups) i emptyGroup each (omega arith);
+      }
+
+  -- and back
+  pub pieces-map : {r : List ℕ} → Pieces m n r → MapStands m n
+  unfolding allFrames
+  pieces-map p =
+      let count = v .group-count in
+      let each = every-index (λ G. Every (FrameStands m) (framesOf G)) emptyGroup (n .groups) (λ i l. p .group-frames i (omega arith)) in
+      record {
+        running = p .running;
+        timer = p .timer;
+        queued = p .queued;
+        free-count = p .free-count;
+        queue = p .queue;
+        free = p .free;
+        groups = lists-stand m groupWords groupStride emptyGroup length-group (n .groups) groupsAt .1 (λ i l. p .groups i (omega arith));
+        frames = frames-stand .1 (every-append (FrameStands m) (n .free) (concatMap framesOf (n .groups)) .1
+            (p .free-frames, every-concat (FrameStands m) framesOf (n .groups) .1 each));
+      }
+
+-- a memory that holds a node has its pieces
+pub holds-pieces : {m : List ℕ} {n : Node} {r : List ℕ} → Holds m n r → Pieces m n r
+holds-pieces {m} {n} {r} h =
+    let l = words-length n (h .mapped) in
+    map-pieces m n (h .mapped) r (omega (arith, ap length (h .map), length-append (words n) r)) (ap (drop size) (h .map) ∙ drop-at (words n) r size l)
+    (map-stands n (h .mapped .group-count) m .0 (subst (λ (k : List ℕ). Stands k 0 (words n)) (sym (h .map)) (front-stands (words n) r)))
+
+-- and a memory that has the pieces of a node holds it
+pub pieces-hold : {m : List ℕ} {n : Node} {r : List ℕ} → Mapped n → Pieces m n r → Holds m n r
+pieces-hold {m} {n} {r} v p =
+    let l = words-length n v in
+    let long = p .long in
+    let s = map-stands n (v .group-count) m .1 (pieces-map m n v p) in
+    let all = rw l at (stands-front m (words n) (omega arith) s) in
+    record { mapped = v; map = sym all ∙ ap (λ (t : List ℕ). words n ++ t) (p .rest) }
+
+-- a memory that is the same from an address on
+pub same-drop : (m m′ : List ℕ) (a : ℕ) → length m′ ≡ length m → ((b : ℕ) → a ≤ b → word m′ b ≡ word m b) → drop a m′ ≡ drop a m
+unfolding word
+same-drop m m′ a long same =
+    ext-getD 0 (drop a m′) (drop a m) (simp length-drop (ap (λ (k : ℕ). k - a) long))
+    (λ i l. getD-drop a m′ i 0 ∙ same (a + i) (omega arith) ∙ sym (getD-drop a m i 0))

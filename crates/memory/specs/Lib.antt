@@ -1,0 +1,4 @@
+pub mod Writes
+pub mod Holds
+pub mod Answers
+pub mod Descriptors

@@ -1,0 +1,87 @@
+// Messages into and out of the virtual buffers.
+use super::Node;
+use super::frames;
+use super::group;
+use super::group::Group;
+use super::map;
+use super::words;
+ghost use Prim.Native.Nat.{_≤_};
+ghost use Rattle.rules.specs.Build.{groupCount};
+ghost use Rattle.rules.specs.Node.{Message};
+ghost use Rattle.rules.specs.Frames.{store};
+ghost use Rattle.memory.specs.Holds.{Some, Becomes, Room, Storable, Kept, Waits, putting, usingUp, freeing, removing};
+
+// The last place of a frame.
+const LAST_PLACE: u32 = 7;
+
+// A message is put behind the last of group g's buffer, which has room for it.
+pub fn put(m: &mut [u32], g: u32, len: u32, words: [u32; 8])
+    requires { ⌜ (1 ≤ g) × (g ≤ groupCount) ⌝ }
+    requires { ⌜ Some (now m) (Room g) ⌝ }
+    ensures { λ _. ⌜ ((x : Message) → Kept g len words x → Becomes (now (m .entry)) (now (m .exit)) (Room g) (putting x)) ⌝ }
+{
+    let mut x = group::read(m, g);
+    let end = x.used + x.count;
+    let last = map::group_word(m, g, map::LIST + (end / Node::PER_FRAME) as usize);
+    let at = map::place_at(last, end % Node::PER_FRAME);
+    words::put_message(&mut m[at..], len, words);
+    x.count += 1;
+    group::write(m, g, x);
+}
+
+// A message moves to the end of group g's buffer.
+pub fn append(m: &mut [u32], g: u32, len: u32, words: [u32; 8])
+    requires { ⌜ (1 ≤ g) × (g ≤ groupCount) ⌝ }
+    requires { ⌜ Some (now m) (Storable g) ⌝ }
+    ensures { λ _. ⌜ ((x : Message) → Kept g len words x → Becomes (now (m .entry)) (now (m .exit)) (Storable g) (store x)) ⌝ }
+{
+    let end = map::group_word(m, g, map::USED) + map::group_word(m, g, map::COUNT);
+    let places = Node::PER_FRAME * map::group_word(m, g, map::HELD);
+    if places <= end {
+        frames::extend(m, g);
+    }
+    put(m, g, len, words);
+}
+
+// The first place of group g's buffer is used up.
+pub fn use_up(m: &mut [u32], g: u32)
+    requires { ⌜ (1 ≤ g) × (g ≤ groupCount) ⌝ }
+    requires { ⌜ Some (now m) (Waits g) ⌝ }
+    ensures { λ _. ⌜ Becomes (now (m .entry)) (now (m .exit)) (Waits g) (usingUp g) ⌝ }
+{
+    let mut x = group::read(m, g);
+    x.used += 1;
+    x.count -= 1;
+    group::write(m, g, x);
+}
+
+// The first frame of group g's buffer is freed, and its first message with it.
+pub fn free_first(m: &mut [u32], g: u32)
+    requires { ⌜ (1 ≤ g) × (g ≤ groupCount) ⌝ }
+    requires { ⌜ Some (now m) (Waits g) ⌝ }
+    ensures { λ _. ⌜ Becomes (now (m .entry)) (now (m .exit)) (Waits g) (freeing g) ⌝ }
+{
+    let mut x = group::read(m, g);
+    x.used = 0;
+    x.count -= 1;
+    let f = frames::unlist(m, g);
+    group::write(m, g, x);
+    frames::give_frame(m, f);
+}
+
+// The first message of group g's buffer goes.
+pub fn unbuffer(m: &mut [u32], g: u32)
+    requires { ⌜ (1 ≤ g) × (g ≤ groupCount) ⌝ }
+    requires { ⌜ Some (now m) (Waits g) ⌝ }
+    ensures { λ _. ⌜ Becomes (now (m .entry)) (now (m .exit)) (Waits g) (removing g) ⌝ }
+{
+    if map::group_word(m, g, map::COUNT) == 1 {
+        free_first(m, g);
+        return;
+    }
+    if map::group_word(m, g, map::USED) == LAST_PLACE {
+        free_first(m, g);
+        return;
+    }
+    use_up(m, g);
+}

@@ -1,0 +1,62 @@
+-- A run of the public calls is a run of the rules, call by call, so the demands hold of the calls. Assumes nothing.
+use Rattle.node.specs.Calls.{none, next, Call, CallHolds, Calls, CallsDemanded, Promised, inputOf, reportsOf}
+use Rattle.rules.specs.MemoryTest.{stepMemory, MemoryStep, isMemory}
+use Rattle.rules.specs.Types.{operationOf, reportOf}
+use Prim.Native.Nat.{ℕ}
+use mathlib.Core.List.{List, _∷_, map}
+use mathlib.Core.Path.{_∙_, _≡_, ap, refl, subst, sym}
+use lib.ListN.{drop, length}
+use Rattle.rules.specs.Conditions.{FirstDue}
+use Rattle.rules.specs.DemandOne.{onlyNumber}
+use Rattle.rules.specs.Memory.{nodeAt}
+use Rattle.rules.specs.Operation.{Operation}
+use Rattle.rules.specs.Run.{PlayedMemory, asked, playMemory, runMemory}
+use Rattle.rules.specs.declared.Report.{Report as Report·rt}
+use Rattle.rules.proofs.DemandOneLaws.{demand-one}
+use Rattle.rules.proofs.DemandThreeLaws.{demand-three}
+
+-- the memory and the reports of calls from m on
+calls-play : {m m′ : List ℕ} {cs : List Call} → Calls m cs m′
+    → (m′ ≡ playMemory m (map inputOf cs) .memory) × (map (λ (c : Call). c .report) cs ≡ reportsOf (playMemory m (map inputOf cs) .events))
+unfolding playMemory asked
+calls-play none = (refl, refl)
+calls-play {m} (next {m₁ = m₁} {c = c} {cs = cs} p rest) =
+    let t = calls-play rest in
+    let s : List ℕ = stepMemory m (operationOf (c .op) (c .words)) .memory in
+    let same : playMemory m₁ (map inputOf cs) ≡ playMemory s (map inputOf cs) = ap (λ (k : List ℕ). playMemory k (map inputOf cs)) (p .left) in (
+      t .0 ∙ ap (λ (k : PlayedMemory). k .memory) same,
+      (λ i. p .reported i ∷ (t .1 ∙ ap (λ (k : PlayedMemory). reportsOf (k .events)) same) i),
+    )
+
+-- one call
+call-holds : (m : List ℕ) (c : Call) (m′ : List ℕ) → Promised m c m′ → CallHolds m c m′
+call-holds m c m′ p =
+    let op : Operation = operationOf (c .op) (c .words) in
+    let d = demand-one .any-step m op in
+    let a : c .report .answer ≡ stepMemory m op .report .answer = ap (λ (x : Report·rt). x .answer) (p .reported) in
+    record {
+      answered = subst (λ (k : ℕ). FirstDue m (nodeAt m) op k) (sym a) (d .answered);
+      refused-unchanged = λ not.
+          let s = d .refused-unchanged (λ z. not (a ∙ z)) in (
+            p .reported ∙ ap (λ (x : MemoryStep). reportOf (x .report)) s ∙ ap (λ (k : ℕ). reportOf (onlyNumber k)) (sym a),
+            p .left ∙ ap (λ (x : MemoryStep). x .memory) s,
+          );
+      length-kept = ap length (p .left) ∙ d .length-kept;
+      rest-kept = ap (drop 2868) (p .left) ∙ d .rest-kept;
+      stays-node = λ t. ap isMemory (p .left) ∙ d .stays-node t;
+    }
+
+pub calls-demanded : CallsDemanded
+unfolding runMemory
+calls-demanded =
+    record {
+      any-call = call-holds;
+      any-calls = λ m m₀ m′ rep cs long on calls.
+          let t = calls-play calls in
+          let same : playMemory m₀ (map inputOf cs) ≡ runMemory m (map inputOf cs) = ap (λ (k : List ℕ). playMemory k (map inputOf cs)) (on .left) in
+          record {
+            memory = t .0 ∙ ap (λ (k : PlayedMemory). k .memory) same;
+            reports = t .1 ∙ ap (λ (k : PlayedMemory). reportsOf (k .events)) same;
+            demand-three = demand-three .over-memory m long (map inputOf cs);
+          };
+    }

@@ -1,0 +1,96 @@
+-- `node::section::end` meets its contract: pending is read, and the trap is decided before the flags are set. Assumes nothing.
+use Prim.Native.Nat.{ℕ}
+use native.Mathlib.Omega.{arith}
+use mathlib.Core.Bool.{cond, false}
+use mathlib.Core.List.{List}
+use mathlib.Core.Logic.{⊎-elim}
+use mathlib.Core.Path.{_∙_, _≡_, ap, refl, sym}
+use borrow.Author.Needs.{needs}
+use Rattle.rules.specs.Memory.{flagWord, word}
+use Rattle.rules.specs.Node.{Node, buffered, groupOf}
+use Rattle.rules.specs.Operation.{atomicityExtend, endAtomic, noTrap}
+use Rattle.rules.specs.Step.{extending, flagged, serve}
+use Rattle.memory.specs.Holds.{Holds}
+use Rattle.memory.specs.declared.group.Group.{Group as Group·rt}
+use Rattle.memory.proofs.PieceLaws.{holds-pieces}
+use Rattle.node.specs.Steps.{Running, effect}
+use Rattle.node.proofs.CallLaws.{flag-off, flag-on}
+use Rattle.node.proofs.SectionLaws.{runner-flagged, runner-in, runner-pending, section-ends, section-pending}
+use Rattle.node.proofs.ServedLaws.{request-finished, request-refused, request-sound}
+use Rattle.node.proofs.section.end.Statement.{statement}
+use Rattle.node.proofs.section.end.Tie as tie
+
+-- the trap, where the arms meet
+trap-read : (c : tie.Joined2) (n : Node) (r : List ℕ) → Holds (c .before .before .before .before .before .before .before .before .before .args .m .now) n r → Running n → c .if2 .trap ≡ cond (buffered n (n .running)) atomicityExtend noTrap
+unfolding word
+trap-read c n r h run =
+    let e = ap (buffered n) (sym (holds-pieces h .running)) ∙ c .before .buffered .ensures n r h in
+    ⊎-elim (λ w. w .1 ∙ rw (e, w .0 .taken)) (λ w. w .1 ∙ rw (e, w .0 .left)) (c .if2 .came)
+
+-- pending is off, and atomic goes off
+ended : (c : tie.After-set-flags) (n : Node) (r : List ℕ) → Holds (c .before .before .before .before .before .before .before .before .before .before .before .args .m .now) n r → Running n
+    → (groupOf n (n .running) .pending ≡ false) × Holds (c .set-flags .last .0) (flagged false (groupOf n (n .running) .pending) n) r
+unfolding word flagWord
+ended c n r h run =
+    let off : groupOf n (n .running) .pending ≡ false =
+    flag-off _ (sym (runner-pending h run) ∙ sym (ap (λ (x : Group·rt). x .pending) (c .before .before .before .before .before .before .before .read .ensures)) ∙ c .before .before .before .before .before .if1 .left) in
+    (off, rw off (runner-flagged h run false false (c .set-flags .ensures false false refl refl n r h tt)))
+
+slice-read-g : tie.Need-slice-read-g
+slice-read-g c = let p = c .before .before .pre in let l = holds-pieces (p .holds) .long in omega arith
+
+read-requires : tie.Need-read-requires
+unfolding word
+read-requires c κs = let p = c .before .before .before .pre in runner-in (p .holds) (p .fact) _ refl
+
+refused-requires : tie.Need-refused-requires
+refused-requires c κs = search needs
+
+same-length : tie.Need-same-length
+same-length c = search needs
+
+returns : tie.Need-returns
+unfolding word
+returns c n r h run = request-refused run endAtomic h 9 (section-pending n (flag-on _ (λ e. c .before .if1 .taken (ap (λ (x : Group·rt). x .pending) (c .before .before .before .read .ensures) ∙ runner-pending h run ∙ e)))) (c .refused .ensures)
+
+buffered-requires : tie.Need-buffered-requires
+unfolding word
+buffered-requires c κs = let p = c .before .before .before .before .before .before .before .pre in runner-in (p .holds) (p .fact) _ refl
+
+set-flags-requires : tie.Need-set-flags-requires
+unfolding word
+set-flags-requires c κs = let p = c .before .before .before .before .before .before .before .before .before .before .pre in runner-in (p .holds) (p .fact) _ refl
+
+finish-requires : tie.Need-finish-requires
+unfolding serve extending
+finish-requires c κs =
+    let p = c .before .before .before .before .before .before .before .before .before .before .before .before .before .before .pre in
+    let t = ended (c .before .before .before) (p .node) (p .rest) (p .holds) (p .fact) in
+    (record { node = _; rest = p .rest; holds = t .1; fact = request-sound (p .fact) endAtomic (section-ends _ (t .0)) }, omega arith)
+
+same-length-2 : tie.Need-same-length-2
+same-length-2 c = search needs
+
+returns-2 : tie.Need-returns-2
+unfolding serve extending
+returns-2 c n r h run =
+    let t = ended (c .before .before .before .before .before .before) n r h run in
+    let q = c .before .before .before .before .before .before .before .before .if2 .trap in
+    request-finished run endAtomic (effect (flagged false (groupOf n (n .running) .pending) n) 0 q 0) (section-ends _ (t .0))
+    (λ i. effect (flagged false (groupOf n (n .running) .pending) n) 0 (sym (trap-read (c .before .before .before .before .before .before .before .before) n r h run) i) 0)
+    (c .before .before .finish .ensures _ r (t .1) (request-sound run endAtomic (section-ends _ (t .0))))
+
+pub end-spec : {M : Type 1} → statement M
+end-spec =
+    tie.close
+    (tie.spec
+    slice-read-g
+    read-requires
+    refused-requires
+    same-length
+    returns
+    buffered-requires
+    set-flags-requires
+    finish-requires
+    same-length-2
+    returns-2)

@@ -1,0 +1,71 @@
+-- Runs of the public calls: any list of calls of `step`, each handed the words that the last one left, from a call of `Node::power_on` on.
+-- What a call is, is what its contract promises, and nothing else. Assumes nothing.
+use Prim.Native.Nat.{ℕ, _≤_}
+use mathlib.Core.List.{List, [], _∷_, map}
+use mathlib.Core.Bool.{true}
+use mathlib.Core.Logic.{_≢_}
+use mathlib.Core.Path.{_≡_}
+use lib.ListN.{length, drop}
+use Rattle.rules.specs.Memory.{size, nodeAt}
+use Rattle.rules.specs.MemoryTest.{isMemory, powerOnMemory, stepMemory}
+use Rattle.rules.specs.Run.{Input, operation, Event, runMemory}
+use Rattle.rules.specs.Types.{operationOf, reportOf}
+use Rattle.rules.specs.Conditions.{FirstDue}
+use Rattle.rules.specs.DemandOne.{onlyNumber}
+use Rattle.rules.specs.DemandThree.{OverMemory}
+use Rattle.rules.specs.declared.Operation.{Operation as Operation·rt}
+use Rattle.rules.specs.declared.Report.{Report as Report·rt}
+use Rattle.memory.specs.Answers.{Answers}
+
+-- what is handed to a call of `step` beside the memory, and what it reports
+pub record Call : Type 0 where
+  pub op : Operation·rt
+  pub words : List ℕ
+  pub report : Report·rt
+
+-- what the call asks, as a step of a run
+abbrev pub inputOf : Call → Input
+inputOf c = operation (operationOf (c .op) (c .words))
+
+-- a call is promised by the contract of `step`: handed m, it leaves m′
+abbrev pub Promised : List ℕ → Call → List ℕ → Type 0
+Promised m c m′ = Answers m′ (c .report) (stepMemory m (operationOf (c .op) (c .words)))
+
+-- calls, each handed what the last one left
+pub data Calls : List ℕ → List Call → List ℕ → Type 0 where
+  none : {m : List ℕ} → Calls m [] m
+  next : {m m₁ m₂ : List ℕ} {c : Call} {cs : List Call} → Promised m c m₁ → Calls m₁ cs m₂ → Calls m (c ∷ cs) m₂
+
+-- what is seen of a run's reports
+abbrev pub reportsOf : List Event → List Report·rt
+reportsOf es = map (λ e. reportOf (e .report)) es
+
+-- what holds of calls behind a power-on on memory m, which they left as m′
+pub record CallsHold (m : List ℕ) (cs : List Call) (m′ : List ℕ) : Type 0 where
+  -- they are a run of the rules: the same memory, and the same reports
+  pub memory : m′ ≡ runMemory m (map inputOf cs) .memory
+  pub reports : map (λ (c : Call). c .report) cs ≡ reportsOf (runMemory m (map inputOf cs) .events)
+  -- so demand 3 is theirs
+  pub demand-three : OverMemory m (map inputOf cs)
+
+-- what holds of one call on any memory: demand 1, of its report and of the words it left
+pub record CallHolds (m : List ℕ) (c : Call) (m′ : List ℕ) : Type 0 where
+  -- "each refusal has its number"
+  pub answered : FirstDue m (nodeAt m) (operationOf (c .op) (c .words)) (c .report .answer)
+  -- "a report otherwise of zeros, and memory exactly as it was"
+  pub refused-unchanged : c .report .answer ≢ 0 → (c .report ≡ reportOf (onlyNumber (c .report .answer))) × (m′ ≡ m)
+  -- "Memory past the node's size is never touched."
+  pub length-kept : length m′ ≡ length m
+  pub rest-kept : drop 2868 m′ ≡ drop 2868 m
+  -- a node stays a node
+  pub stays-node : isMemory m ≡ true → isMemory m′ ≡ true
+
+-- the demands, of the calls themselves
+pub record CallsDemanded : Type 0 where
+  pub any-call : (m : List ℕ) (c : Call) (m′ : List ℕ) → Promised m c m′ → CallHolds m c m′
+  -- any list of calls behind a power-on on memory that is long enough
+  pub any-calls : (m m₀ m′ : List ℕ) (rep : Report·rt) (cs : List Call)
+      → size ≤ length m
+      → Answers m₀ rep (powerOnMemory m)
+      → Calls m₀ cs m′
+      → CallsHold m cs m′

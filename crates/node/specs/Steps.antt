@@ -1,0 +1,106 @@
+-- What the functions over the memory of a node promise: settling, the upcall, and each step. Assumes nothing.
+use Prim.Native.Nat.{ℕ, _≤_}
+use mathlib.Core.Bool.{true, cond, false}
+use mathlib.Core.List.{List, [], _∷_}
+use mathlib.Core.Path.{_≡_}
+use lib.ListN.{length, getD}
+use Rattle.rules.specs.Build.{paper01}
+use Rattle.rules.specs.Frames.{store}
+use Rattle.rules.specs.Lists.{isEmpty}
+use Rattle.rules.specs.Node.{Message, Node, buffered, line}
+use Rattle.rules.specs.Operation.{Request, Operation, user, disposeExtend, noTrap}
+use Rattle.rules.specs.Settling.{mayStay, settle, drain, upcall, upcallGroup}
+use Rattle.rules.specs.Step.{Effect, finish, step, removed}
+use Rattle.rules.specs.Types.{operationOf, reportOf}
+use Rattle.rules.specs.declared.Operation.{Operation as Operation·rt}
+use Rattle.rules.specs.Valid.{Valid}
+use Rattle.rules.specs.declared.Report.{Report as Report·rt}
+use Rattle.rules.proofs.Sound.{Sound}
+use Rattle.memory.specs.Holds.{Holds, Some, blank, dropping}
+
+-- the memory holds a node
+abbrev pub IsNode : List ℕ → Type 0
+IsNode m = Some m (Valid paper01)
+
+-- a node on which a group runs
+pub record Running (n : Node) : Type 0 where
+  pub valid : Valid paper01 n
+  pub some : 1 ≤ n .running
+
+-- the memory holds one
+abbrev pub IsRunning : List ℕ → Type 0
+IsRunning m = Some m Running
+
+-- what a step does
+pub record Stepping (m′ : List ℕ) (n : Node) (rest : List ℕ) (op : Operation) (rep : Report·rt) : Type 0 where
+  pub report : rep ≡ reportOf (step paper01 n op .report)
+  pub holds : Holds m′ (step paper01 n op .node) rest
+
+-- whatever node m held, the report and the node that m′ holds are those of this operation's step
+abbrev pub Steps : List ℕ → List ℕ → Operation → Report·rt → Type 0
+Steps m m′ op rep = (n : Node) (r : List ℕ) → Holds m n r → Valid paper01 n → Stepping m′ n r op rep
+
+-- the same of a request of the group that runs
+abbrev pub Serves : List ℕ → List ℕ → Request → Report·rt → Type 0
+Serves m m′ q rep = (n : Node) (r : List ℕ) → Holds m n r → Running n → Stepping m′ n r (user q) rep
+
+-- the same of a request by its Rattle name, whoever runs
+abbrev pub Requests : List ℕ → List ℕ → Operation·rt → Report·rt → Type 0
+Requests m m′ op rep = (q : Request) → operationOf op [] ≡ user q → Steps m m′ (user q) rep
+
+-- a node in the middle of a step, with a message in its queue
+pub record Headed (n : Node) : Type 0 where
+  pub sound : Sound paper01 n
+  pub some : 1 ≤ length (n .queue)
+
+-- the head of the queue
+unfoldable pub headOf : Node → Message
+headOf n = getD (n .queue) 0 blank
+
+-- it moves to the end of its group's buffer
+unfoldable pub movingHead : Node → Node
+movingHead n = dropping 1 (store (headOf n) n)
+
+-- what settling does
+pub record Settled (m′ : List ℕ) (n : Node) (rest : List ℕ) (moved : ℕ) : Type 0 where
+  pub count : moved ≡ settle n .moved
+  pub holds : Holds m′ (settle n .node) rest
+
+-- what a drain does
+pub record Drained (m′ : List ℕ) (n : Node) (rest : List ℕ) (moved : ℕ) : Type 0 where
+  pub count : moved ≡ length (n .queue)
+  pub holds : Holds m′ (drain (n .queue) n) rest
+
+-- settled: the queue's head may stay
+pub record Settles (n : Node) : Type 0 where
+  pub sound : Sound paper01 n
+  pub head : (x : Message) (q : List Message) → n .queue ≡ x ∷ q → mayStay n x ≡ true
+
+-- what an upcall does
+pub record Called (m′ : List ℕ) (n : Node) (rest : List ℕ) (g : ℕ) : Type 0 where
+  pub group : g ≡ upcallGroup n
+  pub holds : Holds m′ (upcall n) rest
+
+-- an operation that sends nothing
+abbrev pub effect : Node → ℕ → ℕ → ℕ → Effect
+effect n value trap moved = record { node = n; value = value; trap = trap; moved = moved; sent = [] }
+
+-- what comes after an operation with this effect
+pub record Finished (m′ : List ℕ) (e : Effect) (rest : List ℕ) (rep : Report·rt) : Type 0 where
+  pub report : rep ≡ reportOf (finish e .report)
+  pub holds : Holds m′ (finish e .node) rest
+
+-- whatever node in the middle of a step m held, what comes after is that of this effect on it
+abbrev pub Finishes : List ℕ → List ℕ → (Node → Effect) → Report·rt → Type 0
+Finishes m m′ e rep = (n : Node) (r : List ℕ) → Holds m n r → Sound paper01 n → Finished m′ (e n) r rep
+
+-- group g runs, and has a message
+pub record WithLine (g : ℕ) (n : Node) : Type 0 where
+  pub running : Running n
+  pub own : g ≡ n .running
+  pub some : isEmpty (line n (n .running)) ≡ false
+
+-- the first message of the running group's line is gone, with the trap that this brings
+pub record TookFirst (m′ : List ℕ) (n : Node) (rest : List ℕ) (trap : ℕ) : Type 0 where
+  pub extended : trap ≡ cond (buffered n (n .running)) disposeExtend noTrap
+  pub holds : Holds m′ (removed paper01 n) rest

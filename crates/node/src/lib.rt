@@ -1,0 +1,83 @@
+// The steps of a node over lent memory.
+pub mod kernel;
+pub mod message;
+pub mod network;
+pub mod section;
+pub mod settling;
+pub mod user;
+
+use crate::message::Part;
+use memory::map;
+use rules::Operation;
+use rules::Report;
+use validate::is_node;
+ghost use mathlib.Core.Path.{_≡_};
+ghost use Rattle.rules.specs.MemoryTest.{stepMemory, headPart, headWords};
+ghost use Rattle.rules.specs.Types.{operationOf};
+ghost use Rattle.memory.specs.Answers.{Answers};
+ghost use Rattle.node.specs.Parts.{partOf};
+ghost use Rattle.node.specs.Steps.{IsNode, Steps, Requests};
+
+// A step: any memory and any operation, an arrival's words lent beside it.
+pub fn step(memory: &mut [u32], op: Operation, words: &[u32]) -> Report
+    ensures { λ rep. ⌜ Answers (now (memory .exit)) rep (stepMemory (now (memory .entry)) (operationOf op (now (words .entry)))) ⌝ }
+{
+    if !is_node(memory) {
+        return Report::refused(Report::NOT_NODE);
+    }
+    step_node(memory, op, words)
+}
+
+// The words of the running group's first message as a part of the lent memory: empty if there is none or the memory is no node.
+pub fn head(memory: &[u32]) -> &[u32]
+    ensures { λ ws. ⌜ now ws ≡ headWords (now (memory .entry)) ⌝ }
+{
+    if !is_node(memory) {
+        return &memory[0..0];
+    }
+    message::head_of_node(memory)
+}
+
+// Where they stand, and how many they are.
+pub fn head_part(memory: &[u32]) -> Part
+    ensures { λ p. ⌜ p ≡ partOf (headPart (now (memory .entry))) ⌝ }
+{
+    if !is_node(memory) {
+        return Part { start: 0, len: 0 };
+    }
+    message::first(memory)
+}
+
+// A step on memory that holds a node, untested: it leaves one.
+pub fn step_node(memory: &mut [u32], op: Operation, words: &[u32]) -> Report
+    requires { ⌜ IsNode (now memory) ⌝ }
+    ensures { λ rep. ⌜ Steps (now (memory .entry)) (now (memory .exit)) (operationOf op (now (words .entry))) rep ⌝ }
+{
+    match op {
+        Operation::Arrive(g) => network::arrive(memory, g, words),
+        Operation::Schedule(g) => kernel::schedule(memory, g),
+        Operation::Tick(k) => kernel::tick(memory, k),
+        Operation::Unknown => Report::refused(Report::UNREADABLE),
+        _ => request(memory, op),
+    }
+}
+
+// M to L: they belong to the running group.
+fn request(memory: &mut [u32], op: Operation) -> Report
+    requires { ⌜ IsNode (now memory) ⌝ }
+    ensures { λ rep. ⌜ Requests (now (memory .entry)) (now (memory .exit)) op rep ⌝ }
+{
+    if memory[map::RUNNING] == 0 {
+        return Report::refused(Report::NOBODY_RUNS);
+    }
+    match op {
+        Operation::Poll => user::poll(memory),
+        Operation::Peek(i) => user::peek(memory, i),
+        Operation::Dispose => section::dispose(memory),
+        Operation::BeginAtomic => section::begin(memory),
+        Operation::EndAtomic => section::end(memory),
+        Operation::Describe(w) => user::describe(memory, w),
+        Operation::Launch(k) => user::launch(memory, k),
+        _ => Report::refused(Report::UNREADABLE),
+    }
+}

@@ -1,0 +1,174 @@
+-- `validate::frames::frames_once` meets its contract: the numbers of the lists passed are marked, and one that is too large or marked before decides.
+-- Assumes nothing.
+use Prim.Native.Nat.{_+_, _-_, _≤_}
+use mathlib.Core.Path.{_≡_, refl, sym, _∙_}
+use mathlib.Core.Bool.{true}
+use mathlib.Core.List.{_++_}
+use native.Mathlib.Omega.{arith}
+use borrow.Author.Needs.{needs}
+use Rattle.rules.specs.Memory.{word, wordsAt}
+use Rattle.validate.specs.Clauses.{listed}
+use Rattle.validate.proofs.ListedLaws.{list-bound, start-bound}
+use Rattle.validate.proofs.OnceLaws.{Marked}
+use Rattle.validate.proofs.WalkLaws.{walk-none, walk-enters, walk-next, walk-leaves, walk-over, walk-twice, walk-ends}
+use Rattle.validate.proofs.frames.frames_once.Statement.{statement}
+use Rattle.validate.proofs.frames.frames_once.Tie as tie
+
+abbrev Inv-loop : tie.InvT-loop
+Inv-loop m seen₀ once₀ g at held i₀ seen once i = (i ≤ held) × ((once ≡ true) × Marked seen (listed m g ++ wordsAt m at i))
+
+abbrev μ-loop : tie.MeasureT-loop
+μ-loop m seen₀ once₀ g at held i₀ seen once i = held - i
+
+abbrev Inv-lists : tie.InvT-lists
+Inv-lists m seen₀ once₀ g₀ seen once g = (g ≤ 9) × ((once ≡ true) × Marked seen (listed m g))
+
+abbrev μ-lists : tie.MeasureT-lists
+μ-lists m seen₀ once₀ g₀ seen once g = 9 - g
+
+lists-holds : tie.Need-lists-holds Inv-loop μ-loop Inv-lists μ-lists
+lists-holds c = (omega arith, (refl, walk-none (c .before .args .m .now)))
+
+list-at-requires : tie.Need-list-at-requires Inv-loop μ-loop Inv-lists μ-lists
+list-at-requires c κs = search needs
+
+list-count-requires : tie.Need-list-count-requires Inv-loop μ-loop Inv-lists μ-lists
+list-count-requires c κs = search needs
+
+cast-held : tie.Need-cast-held Inv-loop μ-loop Inv-lists μ-lists
+cast-held c = omega arith
+
+loop-holds : tie.Need-loop-holds Inv-loop μ-loop Inv-lists μ-lists
+loop-holds c =
+    let d = c .before .before .before in
+    (omega arith, (d .lists .inv .1 .0, walk-enters (d .before .before .args .m .now) (d .lists .seen) (d .lists .g) _ (d .lists .inv .1 .1)))
+
+-- the list is within the memory
+bounds : (c : tie.In-loop Inv-loop μ-loop Inv-lists μ-lists)
+    → (c .before .before .before .list-at .result ≤ 532) × (c .before .before .list-count .result ≤ 32)
+bounds c =
+    let d = c .before .before .before .before .before in
+    let s = d .before .before in (
+      omega (arith, start-bound (d .lists .g) (omega arith)),
+      omega (arith, list-bound (s .args .m .now) (s .pre .0) (d .lists .g) (omega arith)),
+    )
+
+add-f : tie.Need-add-f Inv-loop μ-loop Inv-lists μ-lists
+add-f c = omega (arith, bounds c)
+
+mul-f : tie.Need-mul-f Inv-loop μ-loop Inv-lists μ-lists
+mul-f c = omega (arith, bounds c)
+
+shared-slice-read-f : tie.Need-shared-slice-read-f Inv-loop μ-loop Inv-lists μ-lists
+shared-slice-read-f c = omega (arith, bounds (c .before))
+
+cast-f : tie.Need-cast-f Inv-loop μ-loop Inv-lists μ-lists
+cast-f c =
+    let d = c .before .before in
+    omega (arith, c .shared-slice-known2 .given (d .before .before .list-at .result + d .loop .i))
+
+mul-if2 : tie.Need-mul-if2 Inv-loop μ-loop Inv-lists μ-lists
+mul-if2 c = omega arith
+
+array-read-if2 : tie.Need-array-read-if2 Inv-loop μ-loop Inv-lists μ-lists
+array-read-if2 c = omega arith
+
+mul-seen : tie.Need-mul-seen Inv-loop μ-loop Inv-lists μ-lists
+mul-seen c = omega arith
+
+array-write-seen : tie.Need-array-write-seen Inv-loop μ-loop Inv-lists μ-lists
+array-write-seen c = omega arith
+
+add-i : tie.Need-add-i Inv-loop μ-loop Inv-lists μ-lists
+add-i c = omega arith
+
+loop-less : tie.Need-loop-less Inv-loop μ-loop Inv-lists μ-lists
+loop-less c = omega arith
+
+loop-again : tie.Need-loop-again Inv-loop μ-loop Inv-lists μ-lists
+unfolding word
+loop-again c =
+    let d = c .before .before .before .before in
+    let l = d .before .before .before .before in (
+      omega arith,
+      (
+        d .loop .inv .1 .0,
+        walk-next (l .before .before .args .m .now) (d .loop .seen) (l .lists .g) (d .before .before .list-at .result) (d .loop .i)
+            (d .loop .inv .1 .1) (omega arith) (c .if2 .left),
+      ),
+    )
+
+add-g : tie.Need-add-g Inv-loop μ-loop Inv-lists μ-lists
+add-g c = omega arith
+
+lists-less : tie.Need-lists-less Inv-loop μ-loop Inv-lists μ-lists
+lists-less c = omega arith
+
+lists-again : tie.Need-lists-again Inv-loop μ-loop Inv-lists μ-lists
+lists-again c =
+    let d = c .before in
+    let l = d .before .before .before .before in
+    let e : d .loop .i ≡ d .before .list-count .result = omega arith in (
+      omega arith,
+      (
+        d .loop .inv .1 .0,
+        walk-leaves (l .before .before .args .m .now) (d .loop .seen) (l .lists .g) _ _ (d .before .before .list-at .ensures)
+            (e ∙ d .before .list-count .ensures) (d .loop .inv .1 .1),
+      ),
+    )
+
+returns : tie.Need-returns Inv-loop μ-loop Inv-lists μ-lists
+returns c =
+    let l = c .before in
+    let s = l .before .before in
+    let last : l .lists .g ≡ 9 = omega arith in
+    walk-ends (s .args .m .now) (s .pre .1) (l .lists .seen) (rw last at (l .lists .inv .1 .1)) ∙ sym (l .lists .inv .1 .0)
+
+returns-2 : tie.Need-returns-2 Inv-loop μ-loop Inv-lists μ-lists
+unfolding word
+returns-2 c =
+    let d = c .before .before .before in
+    let l = d .before .before .before .before in
+    let s = l .before .before in
+    walk-over (s .args .m .now) (s .pre .1) (l .lists .g) (d .before .before .list-at .result) (d .loop .i) (omega arith)
+    (d .before .before .list-at .ensures) (omega arith) (omega arith)
+
+returns-3 : tie.Need-returns-3 Inv-loop μ-loop Inv-lists μ-lists
+unfolding word
+returns-3 c =
+    let d = c .before .before .before .before in
+    let l = d .before .before .before .before in
+    let s = l .before .before in
+    walk-twice (s .args .m .now) (s .pre .1) (d .loop .seen) (l .lists .g) (d .before .before .list-at .result) (d .loop .i) (omega arith)
+    (d .before .before .list-at .ensures) (omega arith) (d .loop .inv .1 .1) (omega arith) (c .if2 .taken)
+
+pub frames-once-spec : {M : Type 1} → statement M
+frames-once-spec =
+    tie.close
+    (tie.spec
+    Inv-loop
+    μ-loop
+    Inv-lists
+    μ-lists
+    lists-holds
+    list-at-requires
+    list-count-requires
+    cast-held
+    loop-holds
+    add-f
+    mul-f
+    shared-slice-read-f
+    cast-f
+    mul-if2
+    array-read-if2
+    mul-seen
+    array-write-seen
+    add-i
+    loop-less
+    loop-again
+    add-g
+    lists-less
+    lists-again
+    returns
+    returns-2
+    returns-3)

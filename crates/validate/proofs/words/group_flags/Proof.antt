@@ -1,0 +1,21 @@
+-- `validate::words::group_flags` meets its contract: two bounds. Assumes nothing.
+use native.Mathlib.Omega.{arith}
+use borrow.Author.Needs.{needs}
+use Rattle.validate.proofs.WordLaws.{atomic-over, atomic-within}
+use Rattle.validate.proofs.words.group_flags.Statement.{statement}
+use Rattle.validate.proofs.words.group_flags.Tie as tie
+
+group-word-requires : tie.Need-group-word-requires
+group-word-requires c κs = search needs
+
+returns : tie.Need-returns
+returns c = let s = c .before .before .before .args in atomic-over (s .m .now) (s .g) (omega arith)
+
+group-word-requires-2 : tie.Need-group-word-requires-2
+group-word-requires-2 c κs = search needs
+
+returns-2 : tie.Need-returns-2
+returns-2 c = let s = c .before .before .before .before .args in atomic-within (s .m .now) (s .g) _ (omega arith) (c .group-word2 .ensures)
+
+pub group-flags-spec : {M : Type 1} → statement M
+group-flags-spec = tie.close (tie.spec group-word-requires returns group-word-requires-2 returns-2)

@@ -1,0 +1,85 @@
+-- The clauses of "Memory is a node when" on the node that the words hold, in the order in which they are tested. A buffer's clause is
+-- parted in two, since the places of its waiting messages can be looked at only where its frames are known. Assumes nothing.
+use Prim.Native.Nat.{ℕ, zero, suc, _+_, _*_, _/_, _%_}
+use mathlib.Core.Bool.{Bool, not, _&&_, _||_}
+use mathlib.Core.List.{List}
+use lib.Dec.{eqb, leb, ltb}
+use lib.ListN.{length}
+use Rattle.rules.specs.Lists.{all, concatMap, upFrom}
+use Rattle.rules.specs.Build.{paper01, groupCount}
+use Rattle.rules.specs.Node.{waiting}
+use Rattle.rules.specs.Frames.{ceilDiv, pledges}
+use Rattle.rules.specs.Valid.{isMessage, isWaiting, frameNumbers, standsOnce, pendingHasLine, runnerAtomic, headStays}
+use Rattle.rules.specs.Memory.{runningAt, timerAt, queuedAt, freeCountAt, queueAt, queueStride, freeAt, listOffset, atomicOffset, pendingOffset, usedOffset, countOffset, heldOffset, placeStride, word, wordsAt, messageAt, placeAt, frameAddress, flagAt, bufferAt, groupAddress, nodeAt}
+
+-- "groups, waiting messages' lengths .. are within the bounds above": those of the i-th in the queue
+unfoldable pub messageGood : List ℕ → ℕ → Bool
+messageGood m i = isMessage (messageAt m (queueAt + queueStride * i))
+
+-- "h .. within the bounds above"; "h is 0 where n is 0"; "each list has its rounded-up length": those of one group
+unfoldable pub bufferGood : List ℕ → ℕ → Bool
+bufferGood m g =
+    let h = word m (groupAddress g + usedOffset) in
+    let n = word m (groupAddress g + countOffset) in
+    ltb h (paper01 .perFrame)
+    && ((not (eqb n 0) || eqb h 0) && eqb (word m (groupAddress g + heldOffset)) (ceilDiv (h + n) (paper01 .perFrame)))
+
+-- "pending only with atomic": of one group
+unfoldable pub pendingAtomic : List ℕ → ℕ → Bool
+pendingAtomic m g = not (flagAt m (groupAddress g + pendingOffset)) || flagAt m (groupAddress g + atomicOffset)
+
+-- "waiting messages' lengths"; "a waiting message's words past its length are 0": of those in the buffer of one group
+unfoldable pub waitingGood : List ℕ → ℕ → Bool
+waitingGood m g = all isWaiting (waiting (bufferAt m (groupAddress g)))
+
+-- place p of the list of group g, counted through its frames: whether a message waits there as it must
+unfoldable pub waitingAt : List ℕ → ℕ → ℕ → Bool
+waitingAt m g p =
+    let f = word m (groupAddress g + listOffset + p / paper01 .perFrame) in
+    isWaiting (placeAt m (frameAddress f + placeStride * (p % paper01 .perFrame)))
+
+-- The free line and the groups' lists as nine lists of frame numbers, the free line being list 0.
+
+-- where list g begins
+unfoldable pub listStart : ℕ → ℕ
+listStart zero = freeAt
+listStart (suc g) = groupAddress (suc g) + listOffset
+
+-- how many frames it has
+unfoldable pub listCount : List ℕ → ℕ → ℕ
+listCount m zero = word m freeCountAt
+listCount m (suc g) = word m (groupAddress (suc g) + heldOffset)
+
+-- their numbers
+unfoldable pub listNumbers : List ℕ → ℕ → List ℕ
+listNumbers m g = wordsAt m (listStart g) (listCount m g)
+
+-- the numbers of the first g lists
+unfoldable pub listed : List ℕ → ℕ → List ℕ
+listed m g = concatMap (listNumbers m) (upFrom 0 g)
+
+-- "each frame stands once, in the free line or in one list"
+unfoldable pub framesOnce : List ℕ → Bool
+framesOnce m = all (standsOnce (frameNumbers (nodeAt m))) (upFrom 0 (paper01 .frames))
+
+-- The clauses on the node that the words hold, in three parts.
+
+-- those on the numbers that stand where they are read
+unfoldable pub numbersGood : List ℕ → Bool
+numbersGood m =
+    leb (word m runningAt) groupCount
+    && (ltb (word m timerAt) (paper01 .timeout)
+    && (all (messageGood m) (upFrom 0 (word m queuedAt))
+    && (all (bufferGood m) (upFrom 1 groupCount) && all (pendingAtomic m) (upFrom 1 groupCount))))
+
+-- those on the frames and on what waits in them
+unfoldable pub framesGood : List ℕ → Bool
+framesGood m =
+    eqb (length (frameNumbers (nodeAt m))) (paper01 .frames) && (framesOnce m && all (waitingGood m) (upFrom 1 groupCount))
+
+-- those on the groups' lines
+unfoldable pub linesGood : List ℕ → Bool
+linesGood m =
+    leb (pledges paper01 (nodeAt m)) (paper01 .frames)
+    && (all (pendingHasLine (nodeAt m)) (upFrom 1 groupCount)
+    && (runnerAtomic (nodeAt m) && headStays (nodeAt m .queue) (nodeAt m)))

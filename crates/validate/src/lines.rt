@@ -1,0 +1,156 @@
+// The clauses on the groups' lines: pledges, flags, the running group and the head of the queue.
+use memory::Node;
+use memory::map::ATOMIC;
+use memory::map::COUNT;
+use memory::map::GROUP;
+use memory::map::PENDING;
+use memory::map::QUEUE_AT;
+use memory::map::QUEUED;
+use memory::map::RUNNING;
+use memory::map::TIMER;
+use memory::map::USED;
+use memory::map::frames_for;
+use memory::map::group_word;
+use memory::map::queue_word;
+ghost use mathlib.Core.Path.{_≡_};
+ghost use mathlib.Core.Bool.{not};
+ghost use Prim.Native.Nat.{_≤_};
+ghost use lib.Dec.{leb};
+ghost use Rattle.rules.specs.Lists.{all, isEmpty, upFrom};
+ghost use Rattle.rules.specs.Build.{paper01, groupCount};
+ghost use Rattle.rules.specs.Node.{line};
+ghost use Rattle.rules.specs.Frames.{pledge as pledgeOf, pledges};
+ghost use Rattle.rules.specs.Memory.{word, queuedAt, nodeAt};
+ghost use Rattle.rules.specs.Valid.{pendingHasLine, runnerAtomic, headStays};
+ghost use Rattle.validate.specs.Clauses.{linesGood};
+ghost use Rattle.validate.specs.Known.{Framed, QueueCounts, Lined};
+
+// By group, how many messages are in the hardware queue.
+fn queue_counts(m: &[u32]) -> [u32; 9]
+    requires { ⌜ Lined (now m) ⌝ }
+    ensures { λ counts. ⌜ QueueCounts (now (m .entry)) (word (now (m .entry)) queuedAt) counts ⌝ }
+{
+    let mut counts = [0u32; 9];
+    let queued = m[QUEUED];
+    let mut i: u32 = 0;
+    while i < queued {
+        let g = queue_word(m, i, GROUP) as usize;
+        counts[g] = counts[g] + 1;
+        i += 1;
+    }
+    counts
+}
+
+// The pledge of group g: at most that of 256 places and 16 messages.
+fn pledge(m: &[u32], queued: [u32; 9], g: u32) -> u32
+    requires { ⌜ Framed (now m) g ⌝ }
+    requires { ⌜ (word (now m) queuedAt ≤ 16) × QueueCounts (now m) (word (now m) queuedAt) queued ⌝ }
+    ensures { λ p. ⌜ (p ≡ pledgeOf paper01 (nodeAt (now (m .entry))) g) × (p ≤ 34) ⌝ }
+{
+    let places = group_word(m, g, USED) + group_word(m, g, COUNT);
+    frames_for(places + queued[g as usize])
+}
+
+// "pledges sum to at most 32"
+fn pledges_fit(m: &[u32], queued: [u32; 9]) -> bool
+    requires { ⌜ Lined (now m) ⌝ }
+    requires { ⌜ QueueCounts (now m) (word (now m) queuedAt) queued ⌝ }
+    ensures { λ t. ⌜ leb (pledges paper01 (nodeAt (now (m .entry)))) 32 ≡ t ⌝ }
+{
+    let mut sum: u32 = 0;
+    let mut g: u32 = 1;
+    while g <= Node::GROUPS {
+        sum += pledge(m, queued, g);
+        g += 1;
+    }
+    sum <= Node::FRAMES
+}
+
+// Whether the line of group g is not empty.
+fn has_line(m: &[u32], queued: [u32; 9], g: u32) -> bool
+    requires { ⌜ Framed (now m) g ⌝ }
+    requires { ⌜ QueueCounts (now m) (word (now m) queuedAt) queued ⌝ }
+    ensures { λ t. ⌜ not (isEmpty (line (nodeAt (now (m .entry))) g)) ≡ t ⌝ }
+{
+    if group_word(m, g, COUNT) != 0 {
+        return true;
+    }
+    queued[g as usize] != 0
+}
+
+// "pending only with .. a line not empty": of group g
+fn pending_has_line(m: &[u32], queued: [u32; 9], g: u32) -> bool
+    requires { ⌜ Framed (now m) g ⌝ }
+    requires { ⌜ QueueCounts (now m) (word (now m) queuedAt) queued ⌝ }
+    ensures { λ t. ⌜ pendingHasLine (nodeAt (now (m .entry))) g ≡ t ⌝ }
+{
+    if group_word(m, g, PENDING) != 1 {
+        return true;
+    }
+    has_line(m, queued, g)
+}
+
+// Of all groups.
+fn pendings_have_line(m: &[u32], queued: [u32; 9]) -> bool
+    requires { ⌜ Lined (now m) ⌝ }
+    requires { ⌜ QueueCounts (now m) (word (now m) queuedAt) queued ⌝ }
+    ensures { λ t. ⌜ all (pendingHasLine (nodeAt (now (m .entry)))) (upFrom 1 groupCount) ≡ t ⌝ }
+{
+    let mut g: u32 = 1;
+    while g <= Node::GROUPS {
+        if !pending_has_line(m, queued, g) {
+            return false;
+        }
+        g += 1;
+    }
+    true
+}
+
+// "a running group with a line not empty is atomic"
+fn runner_atomic(m: &[u32], queued: [u32; 9]) -> bool
+    requires { ⌜ Lined (now m) ⌝ }
+    requires { ⌜ QueueCounts (now m) (word (now m) queuedAt) queued ⌝ }
+    ensures { λ t. ⌜ runnerAtomic (nodeAt (now (m .entry))) ≡ t ⌝ }
+{
+    let runner = m[RUNNING];
+    if runner == 0 {
+        return true;
+    }
+    if !has_line(m, queued, runner) {
+        return true;
+    }
+    group_word(m, runner, ATOMIC) == 1
+}
+
+// "if the hardware queue isn't empty its head is the running group's, and that group is direct; if it is empty the timer is 0"
+fn head_stays(m: &[u32]) -> bool
+    requires { ⌜ Lined (now m) ⌝ }
+    ensures { λ t. ⌜ headStays (nodeAt (now (m .entry)) .queue) (nodeAt (now (m .entry))) ≡ t ⌝ }
+{
+    if m[QUEUED] == 0 {
+        return m[TIMER] == 0;
+    }
+    let g = m[QUEUE_AT];
+    if g != m[RUNNING] {
+        return false;
+    }
+    group_word(m, g, COUNT) == 0
+}
+
+// The clauses on the groups' lines.
+pub fn lines_good(m: &[u32]) -> bool
+    requires { ⌜ Lined (now m) ⌝ }
+    ensures { λ t. ⌜ linesGood (now (m .entry)) ≡ t ⌝ }
+{
+    let queued = queue_counts(m);
+    if !pledges_fit(m, queued) {
+        return false;
+    }
+    if !pendings_have_line(m, queued) {
+        return false;
+    }
+    if !runner_atomic(m, queued) {
+        return false;
+    }
+    head_stays(m)
+}

@@ -1,0 +1,217 @@
+// The clauses of "Memory is a node when" on words alone: counts, flags and unused words.
+use memory::Node;
+use memory::map::ATOMIC;
+use memory::map::DESCRIBED;
+use memory::map::DESCRIPTOR;
+use memory::map::FREE_AT;
+use memory::map::FREE_COUNT;
+use memory::map::HELD;
+use memory::map::LENGTH;
+use memory::map::LINE;
+use memory::map::LIST;
+use memory::map::MESSAGE;
+use memory::map::PENDING;
+use memory::map::PLACES;
+use memory::map::QUEUE_AT;
+use memory::map::QUEUE_STRIDE;
+use memory::map::QUEUED;
+use memory::map::WORDS;
+use memory::map::group_at;
+use memory::map::group_word;
+use memory::map::queue_word;
+use memory::words::zeros;
+ghost use mathlib.Core.Path.{_≡_};
+ghost use Prim.Native.Nat.{_≤_, _<_};
+ghost use lib.ListN.{length};
+ghost use Rattle.rules.specs.Lists.{all, upFrom};
+ghost use Rattle.rules.specs.Build.{groupCount};
+ghost use Rattle.rules.specs.Memory.{size, word, queuedAt};
+ghost use Rattle.rules.specs.MemoryTest.{groupCounts, lengthInBounds, countsInBounds, groupFlags, flagsAreFlags, queueUnused, freeUnused, groupUnused, messageUnused, unusedAreZero};
+ghost use Rattle.validate.specs.Known.{Counted};
+
+// "counts .. are within the bounds above": those of the list and the descriptor of group g
+fn group_counts(m: &[u32], g: u32) -> bool
+    requires { ⌜ size ≤ length (now m) ⌝ }
+    requires { ⌜ (1 ≤ g) × (g ≤ groupCount) ⌝ }
+    ensures { λ t. ⌜ groupCounts (now (m .entry)) g ≡ t ⌝ }
+{
+    if group_word(m, g, HELD) > Node::FRAMES {
+        return false;
+    }
+    group_word(m, g, DESCRIBED) <= Node::WORDS
+}
+
+// Those of all groups.
+fn groups_counted(m: &[u32]) -> bool
+    requires { ⌜ size ≤ length (now m) ⌝ }
+    ensures { λ t. ⌜ all (groupCounts (now (m .entry))) (upFrom 1 groupCount) ≡ t ⌝ }
+{
+    let mut g: u32 = 1;
+    while g <= Node::GROUPS {
+        if !group_counts(m, g) {
+            return false;
+        }
+        g += 1;
+    }
+    true
+}
+
+// "waiting messages' lengths .. are within the bounds above": those in the queue
+fn lengths_in_bounds(m: &[u32]) -> bool
+    requires { ⌜ size ≤ length (now m) ⌝ }
+    requires { ⌜ word (now m) queuedAt ≤ 16 ⌝ }
+    ensures { λ t. ⌜ all (lengthInBounds (now (m .entry))) (upFrom 0 (word (now (m .entry)) queuedAt)) ≡ t ⌝ }
+{
+    let queued = m[QUEUED];
+    let mut i: u32 = 0;
+    while i < queued {
+        if queue_word(m, i, LENGTH) > Node::WORDS {
+            return false;
+        }
+        i += 1;
+    }
+    true
+}
+
+// "counts .. [and] waiting messages' lengths .. are within the bounds above", as far as words alone tell
+pub fn counts_in_bounds(m: &[u32]) -> bool
+    requires { ⌜ size ≤ length (now m) ⌝ }
+    ensures { λ t. ⌜ countsInBounds (now (m .entry)) ≡ t ⌝ }
+{
+    if m[QUEUED] > Node::PLACES {
+        return false;
+    }
+    if m[FREE_COUNT] > Node::FRAMES {
+        return false;
+    }
+    if !groups_counted(m) {
+        return false;
+    }
+    lengths_in_bounds(m)
+}
+
+// "flags are 0 or 1": those of group g
+fn group_flags(m: &[u32], g: u32) -> bool
+    requires { ⌜ size ≤ length (now m) ⌝ }
+    requires { ⌜ (1 ≤ g) × (g ≤ groupCount) ⌝ }
+    ensures { λ t. ⌜ groupFlags (now (m .entry)) g ≡ t ⌝ }
+{
+    if group_word(m, g, ATOMIC) > 1 {
+        return false;
+    }
+    group_word(m, g, PENDING) <= 1
+}
+
+// "flags are 0 or 1"
+pub fn flags_are_flags(m: &[u32]) -> bool
+    requires { ⌜ size ≤ length (now m) ⌝ }
+    ensures { λ t. ⌜ flagsAreFlags (now (m .entry)) ≡ t ⌝ }
+{
+    let mut g: u32 = 1;
+    while g <= Node::GROUPS {
+        if !group_flags(m, g) {
+            return false;
+        }
+        g += 1;
+    }
+    true
+}
+
+// "unused places of the queue .. are 0"
+fn queue_unused(m: &[u32]) -> bool
+    requires { ⌜ Counted (now m) ⌝ }
+    ensures { λ t. ⌜ queueUnused (now (m .entry)) ≡ t ⌝ }
+{
+    let queued = m[QUEUED] as usize;
+    zeros(
+        m,
+        QUEUE_AT + QUEUE_STRIDE * queued,
+        QUEUE_STRIDE * (PLACES - queued),
+    )
+}
+
+// "unused places of the .. free line .. are 0"
+fn free_unused(m: &[u32]) -> bool
+    requires { ⌜ Counted (now m) ⌝ }
+    ensures { λ t. ⌜ freeUnused (now (m .entry)) ≡ t ⌝ }
+{
+    let free = m[FREE_COUNT] as usize;
+    zeros(m, FREE_AT + free, LINE - free)
+}
+
+// "unused places of the .. lists, unused descriptor words .. are 0": those of group g
+fn group_unused(m: &[u32], g: u32) -> bool
+    requires { ⌜ Counted (now m) ⌝ }
+    requires { ⌜ (1 ≤ g) × (g ≤ groupCount) ⌝ }
+    ensures { λ t. ⌜ groupUnused (now (m .entry)) g ≡ t ⌝ }
+{
+    let held = group_word(m, g, HELD) as usize;
+    let described = group_word(m, g, DESCRIBED) as usize;
+    let at = group_at(g);
+    if !zeros(m, at + LIST + held, LINE - held) {
+        return false;
+    }
+    zeros(m, at + DESCRIPTOR + described, WORDS - described)
+}
+
+// Those of all groups.
+fn groups_unused(m: &[u32]) -> bool
+    requires { ⌜ Counted (now m) ⌝ }
+    ensures { λ t. ⌜ all (groupUnused (now (m .entry))) (upFrom 1 groupCount) ≡ t ⌝ }
+{
+    let mut g: u32 = 1;
+    while g <= Node::GROUPS {
+        if !group_unused(m, g) {
+            return false;
+        }
+        g += 1;
+    }
+    true
+}
+
+// "a waiting message's words past its length are 0": of the i-th in the queue
+fn message_unused(m: &[u32], i: u32) -> bool
+    requires { ⌜ Counted (now m) ⌝ }
+    requires { ⌜ i < word (now m) queuedAt ⌝ }
+    ensures { λ t. ⌜ messageUnused (now (m .entry)) i ≡ t ⌝ }
+{
+    let len = queue_word(m, i, LENGTH) as usize;
+    zeros(
+        m,
+        QUEUE_AT + QUEUE_STRIDE * (i as usize) + MESSAGE + len,
+        WORDS - len,
+    )
+}
+
+// Of all in the queue.
+fn messages_unused(m: &[u32]) -> bool
+    requires { ⌜ Counted (now m) ⌝ }
+    ensures { λ t. ⌜ all (messageUnused (now (m .entry))) (upFrom 0 (word (now (m .entry)) queuedAt)) ≡ t ⌝ }
+{
+    let queued = m[QUEUED];
+    let mut i: u32 = 0;
+    while i < queued {
+        if !message_unused(m, i) {
+            return false;
+        }
+        i += 1;
+    }
+    true
+}
+
+// "unused places of the queue, free line and lists, unused descriptor words and a waiting message's words past its length are 0"
+pub fn unused_are_zero(m: &[u32]) -> bool
+    requires { ⌜ Counted (now m) ⌝ }
+    ensures { λ t. ⌜ unusedAreZero (now (m .entry)) ≡ t ⌝ }
+{
+    if !queue_unused(m) {
+        return false;
+    }
+    if !free_unused(m) {
+        return false;
+    }
+    if !groups_unused(m) {
+        return false;
+    }
+    messages_unused(m)
+}

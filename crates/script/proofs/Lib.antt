@@ -1,0 +1,15 @@
+pub mod LineEndLaws
+pub mod NumberLaws
+pub mod SplitLaws
+pub mod FieldLaws
+pub mod LetterLaws
+pub mod NewlineLaws
+pub mod ReadLaws
+pub mod AppendedLaws
+pub mod DecimalLaws
+pub mod CounterLaws
+pub mod CarryLaws
+pub mod ListingLaws
+pub mod PortionLaws
+pub mod CutLaws
+pub mod PlayLaws

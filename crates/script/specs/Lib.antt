@@ -1,0 +1,4 @@
+pub mod Read
+pub mod Written
+pub mod Feeding
+pub mod Play

@@ -1,16 +1,12 @@
 -- The digits of the next number: nines at the end become zeros, and the digit before them is one more; where all are nines, a one leads the
 -- zeros. What follows from digits that write a number. Assumes nothing.
-use Prim.Native.Nat.{ℕ, zero, suc, _+_, _-_, _*_, _^_, _≤_, _<_}
+use Prim.Native.Nat.{ℕ, zero, suc, _+_, _-_, _*_, _≤_, _<_}
 use native.Mathlib.Decide.{decLt}
-use native.Mathlib.Nat.{mul-one, one-mul, mul-assoc, mul-le-mul-right, pow-succ', pow-le-pow-right}
 use native.Mathlib.Omega.{arith}
-use mathlib.Core.Bool.{false}
 use mathlib.Core.List.{List, [], _∷_, _++_}
 use mathlib.Core.Path.{_≡_, refl, sym, subst, ap, _∙_}
-use lib.Dec.{eqb}
-use lib.ListN.{length, getD, replicate, length-append, getD-replicate}
-use lib.Seq.{take-all, length-take-le, ext-getD}
-use borrow.Author.Tests.{eqb-false}
+use lib.ListN.{length, getD, replicate, length-append}
+use lib.Seq.{length-take-le}
 use Rattle.rules.specs.Lists.{Every}
 use Rattle.rules.specs.Text.{valueFrom, decimal}
 use Rattle.rules.proofs.EveryLaws.{every-append, every-replicate}
@@ -24,20 +20,6 @@ nines k = replicate k 57
 -- k zeros
 abbrev pub zeros : ℕ → List ℕ
 zeros k = replicate k 48
-
--- k digits behind a number write less than the next number with k zeros
-value-below : (a : ℕ) (cs : List ℕ) → Every Digit cs → valueFrom a cs < (a + 1) * 10 ^ length cs
-unfolding valueFrom
-value-below a [] d = let e = mul-one (a + 1) in omega arith
-value-below a (c ∷ cs) d =
-    let b : ℕ = a * 10 + (c - 48) in
-    let p : ℕ = 10 ^ length cs in
-    let low = d .0 .0 in
-    let high = d .0 .1 in
-    let r = value-below b cs (d .1) in
-    let s : (b + 1) * p ≤ (a + 1) * 10 * p = mul-le-mul-right p (omega arith) in
-    let e : (a + 1) * 10 * p ≡ (a + 1) * 10 ^ suc (length cs) = mul-assoc (a + 1) 10 p ∙ ap (λ (x : ℕ). (a + 1) * x) (sym (pow-succ' 10 (length cs))) in
-    omega arith
 
 -- one more than a number that ends in nines
 value-carry : (a k : ℕ) → valueFrom a (nines k) + 1 ≡ valueFrom (a + 1) (zeros k)
@@ -84,12 +66,7 @@ decimal-grown k n e =
     let v : n + 1 ≡ valueFrom 0 (49 ∷ zeros k) = ap (λ (x : ℕ). x + 1) (sym (value-decimal n) ∙ ap (valueFrom 0) e) ∙ value-carry 0 k in
     ap decimal v ∙ decimal-led 49 (zeros k) (λ z. omega arith) (omega arith, every-replicate Digit k 48 (omega arith))
 
--- the largest number is twenty nines
-pub decimal-last : decimal lastCount ≡ nines places
-unfolding valueFrom
-decimal-last = decimal-led 57 (nines 19) (λ z. omega arith) (every-replicate Digit places 57 (omega arith))
-
--- and no other is
+-- the number of twenty nines is the largest
 pub nines-last : (n : ℕ) → decimal n ≡ nines places → n ≡ lastCount
 unfolding valueFrom
 nines-last n e = sym (value-decimal n) ∙ ap (valueFrom 0) e
@@ -103,34 +80,6 @@ module _ {d : List ℕ} {l n : ℕ} (h : Counts d l n) where
   pub counts-some : 1 ≤ l
   counts-some = omega (arith, counts-length, decimal-some n)
 
-  -- a number of less than twenty digits is not the largest
-  pub counts-short : l < places → n ≡ lastCount → ⊥
-  counts-short short e =
-      let k : length (decimal n) ≡ places = ap (λ (m : ℕ). length (decimal m)) e ∙ ap length decimal-last in
-      omega (arith, counts-length)
-
-  -- twenty digits are all
-  pub counts-all : places ≤ l → d ≡ decimal n
-  counts-all long = sym (take-all l d (omega (arith, h .whole))) ∙ h .text
-
-  -- no number is above the largest
-  pub counts-last : n ≤ lastCount
-  counts-last =
-      let v = value-below 0 (decimal n) (decimal-digits n) in
-      let few : length (decimal n) ≤ places = omega (arith, counts-length, h .within) in
-      let b : 10 ^ length (decimal n) ≤ 10 ^ places = pow-le-pow-right (omega arith) few in
-      let e = value-decimal n in
-      let m : (0 + 1) * 10 ^ length (decimal n) ≡ 10 ^ length (decimal n) = one-mul (10 ^ length (decimal n)) in
-      let t : 10 ^ places ≡ lastCount + 1 = refl in
-      omega arith
-
--- a number that is not the largest has a next
-pub counts-more : {d : List ℕ} {l n : ℕ} → Counts d l n → eqb n lastCount ≡ false → Countable d l
-counts-more {n = n} h e = record { number = n; counts = h; below = strictly (eqb-false n lastCount e) }
-  where
-    strictly : (n ≡ lastCount → ⊥) → n < lastCount
-    strictly f = elim (decLt n lastCount) [ yes k ↦ k | no k ↦ absurd (f (omega (arith, counts-last h))) ]
-
 -- digits with a number that is not the largest are not all nines
 pub countable-short : {d : List ℕ} {l : ℕ} (h : Countable d l) → decimal (h .number) ≡ nines l → l < places
 countable-short {d} {l} h e = elim (decLt l places) [
@@ -140,7 +89,3 @@ countable-short {d} {l} h e = elim (decLt l places) [
       let z = nines-last (h .number) (e ∙ ap nines m) in
       absurd (omega (arith, h .below))
 ]
-
--- twenty digits that all are nines
-pub all-nines : (d : List ℕ) → length d ≡ places → ((j : ℕ) → j < places → getD d j 0 ≡ 57) → d ≡ nines places
-all-nines d h each = ext-getD 0 d (nines places) h (λ j l. each j (omega arith) ∙ sym (getD-replicate places j 57 0 (omega arith)))

@@ -13,3 +13,7 @@ pub mod ListingLaws
 pub mod PortionLaws
 pub mod CutLaws
 pub mod PlayLaws
+pub mod FeedLaws
+pub mod BegunLaws
+pub mod FedLaws
+pub mod PortionsLaws

@@ -16,10 +16,10 @@ use Rattle.rules.proofs.DemandOneLaws.{demand-one}
 use Rattle.rules.proofs.MapLaws.{test-valid}
 use Rattle.rules.proofs.RunMemory.{step-tested}
 use Rattle.memory.specs.Answers.{Answers}
-use Rattle.script.specs.Play.{part, Playable, LinePlayed, PlayedTo}
+use Rattle.script.specs.Play.{part, Playable, LinePlayed, TextPlayed, PlayedTo}
 use Rattle.script.specs.Feeding.{afterLines, begun, listMemory, whole}
-use Rattle.script.specs.Read.{LineRead, lineEnd, lineOf}
-use Rattle.script.specs.Written.{Listed, silent, Counts, Appended, lineRoom, lastCount}
+use Rattle.script.specs.Read.{LineRead, TextRead, lineEnd, lineOf}
+use Rattle.script.specs.Written.{Listed, silent, Counts, Appended, lineRoom}
 use Rattle.script.specs.declared.play.Played.{Played as Played·rt}
 use Rattle.script.specs.declared.read.Line.{Line as Line·rt}
 use Rattle.script.proofs.AppendedLaws.{appended-none, appended-as, appended-then}
@@ -50,11 +50,13 @@ known-stays m op = go (isMemory m) refl
     go false e = ap (λ (s : MemoryStep). isMemory (s .memory)) (step-untested m op e)
 
 -- lines of s from a position on are played up to another
-pub record Playing (m s : List ℕ) (from : ℕ) (out : List ℕ) (at : ℕ) (digits : List ℕ) (len : ℕ) (m′ out′ digits′ : List ℕ) (used at′ len′ : ℕ) : Type 0 where
+pub record Playing (m s : List ℕ) (from : ℕ) (out : List ℕ) (at : ℕ) (digits : List ℕ) (len : ℕ) (m′ out′ digits′ : List ℕ) (used at′ len′ lines : ℕ) : Type 0 where
   pub forward : from ≤ used
   pub inside : used ≤ length s
   pub cut : begun (part s from used) ≡ []
-  pub lines : begun (drop used s) ≡ []
+  pub goes-on : begun (drop used s) ≡ []
+  pub many : lines ≡ length (whole (part s from used))
+  pub few : lines + from ≤ used
   pub known : isMemory m′ ≡ isMemory m
   pub memory : m′ ≡ afterLines m (whole (part s from used))
   pub listed : (i : ℕ) → Counts digits len i → Appended out at out′ at′ (listMemory (i + 1) m (whole (part s from used)))
@@ -64,7 +66,7 @@ pub record Playing (m s : List ℕ) (from : ℕ) (out : List ℕ) (at : ℕ) (di
 
 -- none yet
 pub playing-start : {m : List ℕ} {good : Bool} {s : List ℕ} {from : ℕ} {out : List ℕ} {at : ℕ} {digits : List ℕ} {len : ℕ}
-    → Playable m good s from out at digits len → Playing m s from out at digits len m out digits from at len
+    → Playable m good s from out at digits len → Playing m s from out at digits len m out digits from at len 0
 unfolding afterLines listMemory
 playing-start {m} {s = s} {from = from} {out = out} {at = at} {digits = digits} {len = len} p =
     let none = part-none s from in
@@ -73,7 +75,9 @@ playing-start {m} {s = s} {from = from} {out = out} {at = at} {digits = digits} 
       forward = omega arith;
       inside = p .inside;
       cut = ap begun none ∙ begun-nil;
-      lines = p .lines;
+      goes-on = p .lines;
+      many = sym (ap length w);
+      few = omega arith;
       known = refl;
       memory = rw w;
       listed = λ i c. rw w (appended-none out at);
@@ -96,14 +100,14 @@ list-last i m ks l =
     ∙ ap (λ (bs : List ℕ). listMemory (i + 1) m ks ++ bs) (append-nil (reportLine (i + 1 + length ks) (stepMemory (afterLines m ks) (readLine l) .report)) ∙ ap (λ (k : ℕ). reportLine k (stepMemory (afterLines m ks) (readLine l) .report)) e)
 
 -- one line more
-pub playing-more : {m s : List ℕ} {from : ℕ} {out : List ℕ} {at : ℕ} {digits : List ℕ} {len : ℕ} {m₁ out₁ digits₁ : List ℕ} {used at₁ len₁ : ℕ}
-    → Playing m s from out at digits len m₁ out₁ digits₁ used at₁ len₁ → used < length s
+pub playing-more : {m s : List ℕ} {from : ℕ} {out : List ℕ} {at : ℕ} {digits : List ℕ} {len : ℕ} {m₁ out₁ digits₁ : List ℕ} {used at₁ len₁ lines : ℕ}
+    → Playing m s from out at digits len m₁ out₁ digits₁ used at₁ len₁ lines → used < length s
     → {m₂ out₂ digits₂ : List ℕ} {p : Played·rt} → at₁ + lineRoom ≤ length out₁ → length out₂ ≡ length out₁
     → LinePlayed m₁ s used out₁ at₁ digits₁ len₁ m₂ out₂ digits₂ p
-    → Playing m s from out at digits len m₂ out₂ digits₂ (p .used) (p .at) (p .len)
+    → Playing m s from out at digits len m₂ out₂ digits₂ (p .used) (p .at) (p .len) (lines + 1)
 unfolding lineEnd
-playing-more {m} {s} {from} {out} {at} {digits} {len} {m₁} {out₁} {digits₁} {used} {at₁} {len₁} q inside {m₂} {out₂} {digits₂} {p} room same l =
-    let g = grown s from used (q .forward) inside (q .lines) in
+playing-more {m} {s} {from} {out} {at} {digits} {len} {m₁} {out₁} {digits₁} {used} {at₁} {len₁} {lines} q inside {m₂} {out₂} {digits₂} {p} room same l =
+    let g = grown s from used (q .forward) inside (q .goes-on) in
     let t = lineOf (drop used s) in
     let e : used + length t + 1 ≡ p .used = sym (l .used) in
     let c = part s from used in
@@ -123,7 +127,9 @@ playing-more {m} {s} {from} {out} {at} {digits} {len} {m₁} {out₁} {digits₁
       forward = let f = q .forward in omega arith;
       inside = subst (λ (k : ℕ). k ≤ length s) e (g .inside);
       cut = ap (λ (k : ℕ). begun (part s from k)) (sym e) ∙ ap begun (g .grows) ∙ o .1;
-      lines = subst (λ (k : ℕ). begun (drop k s) ≡ []) e (g .rest);
+      goes-on = subst (λ (k : ℕ). begun (drop k s) ≡ []) e (g .rest);
+      many = let k = longer 0 in let h = q .many in omega arith;
+      few = let f = q .few in omega arith;
       known = known₂ ∙ q .known;
       memory = l .memory ∙ last-memory (q .memory) ∙ sym (ap (afterLines m) w);
       listed = λ i n.
@@ -146,7 +152,7 @@ pub line-played : {m s : List ℕ} {from : ℕ} {fields out : List ℕ} {at : �
     → Answers m′ r (stepMemory m (operationOf (l .op) (take (l .count - 1) (drop 1 fields))))
     → ((i : ℕ) → Counts digits len i → Counts digits′ len′ (i + 1))
     → Written.Line digits′ len′ out at out′ end r → end ≤ at + lineRoom
-    → LinePlayed m s from out at digits len m′ out′ digits′ (record { used = l .next; at = end; len = len′; stop = 0 })
+    → LinePlayed m s from out at digits len m′ out′ digits′ (record { used = l .next; at = end; len = len′; lines = 1; stop = 0 })
 line-played {m} {s} {from} read answers counts line few =
     let op = readLine (lineOf (drop from s)) in
     let e = ap (stepMemory m) (read .operation) in
@@ -157,6 +163,23 @@ line-played {m} {s} {from} read answers counts line few =
       counted = counts;
       at-most = few;
       going = refl;
+    }
+
+-- the same of a text of its own
+pub text-played : {m text fields out digits : List ℕ} {len : ℕ} {m′ out′ digits′ : List ℕ} {l : Line·rt} {r : Report·rt} {end len′ : ℕ}
+    → TextRead text fields l
+    → Answers m′ r (stepMemory m (operationOf (l .op) (take (l .count - 1) (drop 1 fields))))
+    → ((i : ℕ) → Counts digits len i → Counts digits′ len′ (i + 1))
+    → Written.Line digits′ len′ out 0 out′ end r → end ≤ lineRoom
+    → TextPlayed m text out digits len m′ out′ digits′ (record { used = l .next; at = end; len = len′; lines = 1; stop = 0 })
+text-played {m} {text} read answers counts line few =
+    let op = readLine text in
+    let e = ap (stepMemory m) (read .operation) in
+    record {
+      memory = answers .left ∙ ap (λ (x : MemoryStep). x .memory) e;
+      listed = λ i c. line (i + 1) (stepMemory m op .report) (counts i c) (answers .reported ∙ ap (λ (x : MemoryStep). reportOf (x .report)) e) (report-listed m op);
+      counted = counts;
+      at-most = few;
     }
 
 -- the report has room
@@ -173,12 +196,11 @@ played-forward l = let e = l .used in omega arith
 
 -- what was played, and why it stopped
 pub played-to : {m s : List ℕ} {from : ℕ} {out : List ℕ} {at : ℕ} {digits : List ℕ} {len : ℕ} {m′ out′ digits′ : List ℕ} (p : Played·rt)
-    → Playing m s from out at digits len m′ out′ digits′ (p .used) (p .at) (p .len)
+    → Playing m s from out at digits len m′ out′ digits′ (p .used) (p .at) (p .len) (p .lines)
     → (p .stop ≡ 0 → p .used ≡ length s)
-    → (p .stop ≡ 1 → length out′ < p .at + lineRoom)
-    → (p .stop ≡ 2 → (n : ℕ) → Counts digits′ (p .len) n → n ≡ lastCount)
+    → (p .stop ≡ 1 → length out′ < p .at + lineRoom) → p .stop ≤ 1
     → PlayedTo m s from out at digits len m′ out′ digits′ p
-played-to {out = out} p q all room last =
+played-to p q all room stops =
     record {
       forward = q .forward;
       inside = q .inside;
@@ -186,7 +208,9 @@ played-to {out = out} p q all room last =
       memory = q .memory;
       listed = q .listed;
       counted = q .counted;
+      lines = q .many;
+      few = let f = q .few in let i = q .inside in omega arith;
       all-used = all;
       no-room = λ e. subst (λ (k : ℕ). k < p .at + lineRoom) (q .same-length) (room e);
-      last-number = λ e i c. last e _ (q .counted i c);
+      stops = stops;
     }

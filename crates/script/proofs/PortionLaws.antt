@@ -23,7 +23,7 @@ use Rattle.rules.proofs.StepLaws.{power-on-valid, step-valid}
 use Rattle.script.specs.Feeding.{allButLast, begun, lastLine, lastPart, whole, afterLines, listMemory}
 
 -- a split has a first part
-split-some : (s : ℕ) (xs : List ℕ) → 1 ≤ length (split s xs)
+pub split-some : (s : ℕ) (xs : List ℕ) → 1 ≤ length (split s xs)
 unfolding split extendFirst
 split-some s [] = omega arith
 split-some s (x ∷ xs) = go (eqb x s) (split s xs)
@@ -35,7 +35,7 @@ split-some s (x ∷ xs) = go (eqb x s) (split s xs)
 
 -- Behind a newline a line begins.
 
-last-behind : (ps : List (List ℕ)) → 1 ≤ length ps → (l : List ℕ) → (allButLast (l ∷ ps) ≡ l ∷ allButLast ps) × (lastPart (l ∷ ps) ≡ lastPart ps)
+pub last-behind : (ps : List (List ℕ)) → 1 ≤ length ps → (l : List ℕ) → (allButLast (l ∷ ps) ≡ l ∷ allButLast ps) × (lastPart (l ∷ ps) ≡ lastPart ps)
 unfolding allButLast lastPart
 last-behind [] some l = absurd (omega arith)
 last-behind (p ∷ ps) some l = (refl, refl)

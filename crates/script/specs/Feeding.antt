@@ -28,6 +28,19 @@ whole s = allButLast (split newline s)
 unfoldable pub begun : List ℕ → List ℕ
 begun s = lastPart (split newline s)
 
+-- the parts of a portion where a line b has begun, which goes on in the first
+unfoldable pub joinFirst : List ℕ → List (List ℕ) → List (List ℕ)
+joinFirst b [] = b ∷ []
+joinFirst b (p ∷ ps) = (b ++ p) ∷ ps
+
+-- the lines that a portion completes
+unfoldable pub linesBehind : List ℕ → List ℕ → List (List ℕ)
+linesBehind b s = allButLast (joinFirst b (split newline s))
+
+-- and the line that has begun at its end
+unfoldable pub restBehind : List ℕ → List ℕ → List ℕ
+restBehind b s = lastPart (joinFirst b (split newline s))
+
 -- "A last line may lack its newline.": at the end of the input a line that has begun is one
 unfoldable pub lastLine : List ℕ → List (List ℕ)
 lastLine b = cond (isEmpty b) [] (b ∷ [])

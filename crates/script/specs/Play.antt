@@ -11,13 +11,15 @@ use Rattle.script.specs.Written.{Appended, Counts, Counting, Countable, 
 use Rattle.script.specs.Read.{fieldRoom, lineOf, lineEnd}
 use Rattle.script.specs.declared.play.Played.{Played as Played·rt}
 
--- memory of which it is known whether it is a node, whole lines from a position on, an output written up to a place, and a line number
+-- memory of which it is known whether it is a node, whole lines from a position on, an output written up to a place, and a line
+-- number behind which there are enough for a line a byte
 pub record Playable (m : List ℕ) (good : Bool) (s : List ℕ) (from : ℕ) (out : List ℕ) (at : ℕ) (digits : List ℕ) (len : ℕ) : Type 0 where
   pub known : isMemory m ≡ good
   pub inside : from ≤ length s
   pub lines : begun (drop from s) ≡ []
   pub within : at ≤ length out
   pub counting : Counting digits len
+  pub few : counting .number + length s ≤ lastCount + from
 
 -- the same for one line: there is one, the output has room for it, and its number can be written
 pub record LinePlayable (m : List ℕ) (good : Bool) (s : List ℕ) (from : ℕ) (fields out : List ℕ) (at : ℕ) (digits : List ℕ) (len : ℕ) : Type 0 where
@@ -36,6 +38,18 @@ pub record LinePlayed (m s : List ℕ) (from : ℕ) (out : List ℕ) (at : ℕ) 
   pub at-most : p .at ≤ at + lineRoom
   pub going : p .stop ≡ 0
 
+-- the same for a line that is a text of its own, listed at the beginning of the output
+pub record TextPlayable (m : List ℕ) (good : Bool) (out digits : List ℕ) (len : ℕ) : Type 0 where
+  pub known : isMemory m ≡ good
+  pub room : lineRoom ≤ length out
+  pub countable : Countable digits len
+
+pub record TextPlayed (m text out digits : List ℕ) (len : ℕ) (m′ out′ digits′ : List ℕ) (p : Played·rt) : Type 0 where
+  pub memory : m′ ≡ stepMemory m (readLine text) .memory
+  pub listed : (i : ℕ) → Counts digits len i → Appended out 0 out′ (p .at) (reportLine (i + 1) (stepMemory m (readLine text) .report))
+  pub counted : (i : ℕ) → Counts digits len i → Counts digits′ (p .len) (i + 1)
+  pub at-most : p .at ≤ lineRoom
+
 -- the bytes from one position to another
 unfoldable pub part : List ℕ → ℕ → ℕ → List ℕ
 part s from to = take (to - from) (drop from s)
@@ -48,6 +62,8 @@ pub record PlayedTo (m s : List ℕ) (from : ℕ) (out : List ℕ) (at : ℕ) (d
   pub memory : m′ ≡ afterLines m (whole (part s from (p .used)))
   pub listed : (i : ℕ) → Counts digits len i → Appended out at out′ (p .at) (listMemory (i + 1) m (whole (part s from (p .used))))
   pub counted : (i : ℕ) → Counts digits len i → Counts digits′ (p .len) (i + length (whole (part s from (p .used))))
+  pub lines : p .lines ≡ length (whole (part s from (p .used)))
+  pub few : p .lines + from ≤ length s
   pub all-used : p .stop ≡ 0 → p .used ≡ length s
   pub no-room : p .stop ≡ 1 → length out < p .at + lineRoom
-  pub last-number : p .stop ≡ 2 → (i : ℕ) → Counts digits len i → i + length (whole (part s from (p .used))) ≡ lastCount
+  pub stops : p .stop ≤ 1

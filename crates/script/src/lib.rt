@@ -1,4 +1,5 @@
-// Scripts and listings: a line read, its report written, and whole lines played on lent memory.
+// Scripts and listings: a line read, its report written, whole lines played on lent memory, and a script fed in portions.
+pub mod feed;
 pub mod play;
 pub mod read;
 pub mod write;

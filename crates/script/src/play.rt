@@ -12,20 +12,20 @@ ghost use lib.ListN.{length, take, drop};
 ghost use Rattle.rules.specs.MemoryTest.{isMemory, stepMemory};
 ghost use Rattle.rules.specs.Types.{operationOf};
 ghost use Rattle.memory.specs.Answers.{Answers};
-ghost use Rattle.script.specs.Play.{LinePlayable, LinePlayed, Playable, PlayedTo};
+ghost use Rattle.script.specs.Play.{LinePlayable, LinePlayed, TextPlayable, TextPlayed, Playable, PlayedTo};
 
-// Why playing stopped: all was used, the output has no room for one more line, or the line number is at its end.
+// Why playing stopped: all was used, or the output has no room for one more line.
 pub const ALL_USED: u32 = 0;
 
 pub const NO_ROOM: u32 = 1;
 
-pub const LAST_NUMBER: u32 = 2;
-
-// How far a play came: the position behind what was used, the end of what was written, how many digits the line number has, and why it stopped.
+// How far a play came: the position behind what was used, the end of what was written, how many digits the line number has, how many lines
+// were played, and why it stopped.
 pub struct Played {
     pub used: usize,
     pub at: usize,
     pub len: usize,
+    pub lines: usize,
     pub stop: u32,
 }
 
@@ -76,6 +76,35 @@ fn play_line(
         used: l.next,
         at: end,
         len: digits_len,
+        lines: 1,
+        stop: ALL_USED,
+    }
+}
+
+// One line that is a text of its own: read, stepped and listed at the beginning of the output.
+pub fn play_text(
+    memory: &mut [u32],
+    good: bool,
+    text: &[u8],
+    out: &mut [u8],
+    digits: &mut [u8; PLACES],
+    len: usize,
+) -> Played
+    requires { ⌜ TextPlayable (now memory) good (now out) (now digits) len ⌝ }
+    ensures { λ p. ⌜ TextPlayed (now (memory .entry)) (now (text .entry)) (now (out .entry)) (now (digits .entry)) len (now (memory .exit)) (now (out .exit)) (now (digits .exit)) p ⌝ }
+{
+    let mut fields = [0u32; FIELDS];
+    let l = read::read(text, &mut fields);
+    let op = l.op;
+    let count = l.count;
+    let r = step_known(memory, good, op, words_of(&fields, count));
+    let digits_len = write::next(digits, len);
+    let end = write::put_line(out, 0, digits, digits_len, r);
+    Played {
+        used: l.next,
+        at: end,
+        len: digits_len,
+        lines: 1,
         stop: ALL_USED,
     }
 }
@@ -99,6 +128,7 @@ pub fn play(
         used: from,
         at: at,
         len: len,
+        lines: 0,
         stop: ALL_USED,
     };
     while p.used < s.len() {
@@ -106,10 +136,7 @@ pub fn play(
             p.stop = NO_ROOM;
             break;
         }
-        if write::is_full(digits, p.len) {
-            p.stop = LAST_NUMBER;
-            break;
-        }
+        let lines = p.lines + 1;
         p = play_line(
             memory,
             good,
@@ -121,6 +148,7 @@ pub fn play(
             digits,
             p.len,
         );
+        p.lines = lines;
     }
     p
 }

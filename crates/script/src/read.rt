@@ -10,7 +10,7 @@ ghost use Rattle.script.specs.Read.{fieldRoom, lineEnd, noNumber, fields
 // A line has room for no more numbers: each takes a comma and a digit.
 pub const FIELDS: usize = 64;
 
-const NEWLINE: u8 = 10;
+pub const NEWLINE: u8 = 10;
 
 const COMMA: u8 = 44;
 
@@ -152,7 +152,7 @@ fn read_fields(s: &[u8], at: usize, fields: &mut [u32]) -> Fields
 }
 
 // Where the line ends that goes on at a position.
-fn end_of_line(s: &[u8], from: usize) -> usize
+pub fn end_of_line(s: &[u8], from: usize) -> usize
     requires { ⌜ from ≤ length (now s) ⌝ }
     ensures { λ e. ⌜ e ≡ lineEnd (now (s .entry)) from ⌝ }
 {

@@ -1,14 +1,12 @@
 // The listing written: numbers, the line number kept as text, a report's line and the header.
 use rules::Report;
 use rules::Sent;
-ghost use mathlib.Core.Path.{_≡_};
 ghost use Prim.Native.Nat.{ℕ, _+_, _≤_, _<_};
-ghost use lib.Dec.{eqb};
 ghost use lib.ListN.{length, take};
 ghost use Rattle.rules.specs.Build.{wordLimit};
 ghost use Rattle.rules.specs.Script.{header};
 ghost use Rattle.rules.specs.Text.{decimal};
-ghost use Rattle.script.specs.Written.{Appended, field, places, lastCount, Counts, Counting, Countable};
+ghost use Rattle.script.specs.Written.{Appended, field, places, Counts, Counting, Countable};
 ghost use Rattle.script.specs.Written.{fields, sentNumbers, behindNumber, Line, fieldRoom, wordsRoom, sentRoom, reportRoom, lineRoom};
 
 // The places that a line number has.
@@ -25,7 +23,7 @@ const COMMA: u8 = 44;
 const NEWLINE: u8 = 10;
 
 // The decimal digits of n: those of its tenth, then the last.
-fn put_number(out: &mut [u8], at: usize, n: u32) -> usize
+pub fn put_number(out: &mut [u8], at: usize, n: u64) -> usize
     requires { ⌜ at + length (decimal n) ≤ length (now out) ⌝ }
     ensures { λ end. ⌜ Appended (now (out .entry)) at (now (out .exit)) end (decimal n) ⌝ }
 {
@@ -48,42 +46,7 @@ fn put_field(out: &mut [u8], at: usize, n: u32) -> usize
         out[at + 1] = ZERO + n as u8;
         return at + 2;
     }
-    put_number(out, at + 1, n)
-}
-
-// A line number as text: room for twenty digits, of which the first `len` write it.
-pub struct Counter {
-    pub digits: [u8; PLACES],
-    pub len: usize,
-}
-
-impl Counter {
-    // The number 0.
-    pub fn new() -> Counter
-        ensures { λ c. ⌜ Counts (c .digits) (c .len) 0 ⌝ }
-    {
-        Counter {
-            digits: [ZERO; PLACES],
-            len: 1,
-        }
-    }
-}
-
-// Whether the digits write the largest number that there is room for.
-pub fn is_full(digits: &[u8; PLACES], len: usize) -> bool
-    ensures { λ t. ⌜ ((i : ℕ) → Counts (now (digits .entry)) len i → eqb i lastCount ≡ t) ⌝ }
-{
-    if len < PLACES {
-        return false;
-    }
-    let mut i = 0;
-    while i < PLACES {
-        if digits[i] != NINE {
-            return false;
-        }
-        i += 1;
-    }
-    true
+    put_number(out, at + 1, n as u64)
 }
 
 // The next number: nines at the end become zeros, and the digit before them is one more. Where all are nines a one leads the zeros.
@@ -177,7 +140,7 @@ pub fn put_line(out: &mut [u8], at: usize, digits: &[u8; PLACES], len: usize, r:
 }
 
 // The bytes of a text.
-fn put_text(out: &mut [u8], at: usize, text: &[u8]) -> usize
+pub fn put_text(out: &mut [u8], at: usize, text: &[u8]) -> usize
     requires { ⌜ at + length (now text) ≤ length (now out) ⌝ }
     ensures { λ end. ⌜ Appended (now (out .entry)) at (now (out .exit)) end (now (text .entry)) ⌝ }
 {

@@ -1,0 +1,167 @@
+-- Whatever the portions, the header and what was listed are the listing. Assumes nothing.
+use Prim.Native.Nat.{ℕ, suc, _+_, _≤_}
+use native.Mathlib.Decide.{decLt}
+use native.Mathlib.Omega.{arith}
+use mathlib.Core.Bool.{false}
+use mathlib.Core.List.{List, [], _∷_, _++_, append-nil, append-assoc}
+use mathlib.Core.Path.{_≡_, refl, sym, ap, _∙_, subst}
+use lib.Dec.{eqb}
+use lib.ListN.{length, take, length-append}
+use lib.Seq.{length-take-le, take-all, take-append-le, take-take}
+use Rattle.rules.specs.MemoryTest.{stepMemory, powerOnMemory}
+use Rattle.rules.specs.Operation.{Operation}
+use Rattle.rules.specs.Script.{header, newline, readLine, reportLine, scriptLines}
+use Rattle.rules.specs.Text.{split}
+use Rattle.script.specs.Feeding.{whole, begun, lastLine, linesBehind, restBehind, joinFirst, allButLast, lastPart, afterLines, listMemory}
+use Rattle.script.specs.Feed.{keptRoom, keptLine, BegunFed}
+use Rattle.script.specs.Portions.{Portion, usedOf, listedOf, usedBytes, listedBytes, Feeds, endedScript, PortionsListed}
+use Rattle.script.specs.declared.feed.State.{State as State·rt}
+use Rattle.script.proofs.FedLaws.{lines-none}
+use Rattle.script.proofs.LineEndLaws.{by-test}
+use Rattle.script.proofs.PortionLaws.{joins, joinLines, joinRest, whole-newline, whole-other, whole-nil, split-some, list-append, lines-ended, listing-memory}
+use Rattle.script.proofs.ReadLaws.{reads-long}
+
+-- What has begun has no newline.
+
+pub begun-open : (h : List ℕ) → whole (begun h) ≡ []
+begun-open h =
+    let j = joins h [] .lines in
+    let e : whole h ≡ whole h ++ whole (begun h) = ap whole (sym (append-nil h)) ∙ j ∙ ap (λ (b : List ℕ). whole h ++ whole b) (append-nil (begun h)) in
+    empty (whole (begun h)) (let l = ap length e ∙ length-append (whole h) (whole (begun h)) in omega arith)
+  where
+    empty : (ls : List (List ℕ)) → length ls ≡ 0 → ls ≡ []
+    empty [] e = refl
+    empty (l ∷ ls) e = absurd (omega arith)
+
+-- A portion behind a line without a newline completes the lines of both joined.
+
+pub record Joined (b u : List ℕ) : Type 0 where
+  pub lines : whole (b ++ u) ≡ linesBehind b u
+  pub rest : begun (b ++ u) ≡ restBehind b u
+
+joined-byte : (x : ℕ) (b : List ℕ) (ps : List (List ℕ)) → 1 ≤ length ps
+    → (joinLines x (allButLast (joinFirst b ps)) ≡ allButLast (joinFirst (x ∷ b) ps))
+    × (joinRest x (allButLast (joinFirst b ps)) (lastPart (joinFirst b ps)) ≡ lastPart (joinFirst (x ∷ b) ps))
+unfolding joinFirst allButLast lastPart
+joined-byte x b [] some = absurd (omega arith)
+joined-byte x b (p ∷ []) some = (refl, refl)
+joined-byte x b (p ∷ q ∷ ps) some = (refl, refl)
+
+open-tail : (x : ℕ) (b : List ℕ) → whole (x ∷ b) ≡ [] → (eqb x newline ≡ false) × (whole b ≡ [])
+open-tail x b e = by-test (eqb x newline) (λ q. absurd (let l = ap length (sym (whole-newline x b q .0) ∙ e) in omega arith)) (λ q. (q, inner (whole b) (sym (whole-other x b q .0) ∙ e)))
+  where
+    inner : (ls : List (List ℕ)) → joinLines x ls ≡ [] → ls ≡ []
+    inner [] f = refl
+    inner (l ∷ ls) f = absurd (let k = ap length f in omega arith)
+
+pub joined : (b u : List ℕ) → whole b ≡ [] → Joined b u
+unfolding linesBehind restBehind
+joined [] u e = let n = lines-none u in record { lines = sym (n .0); rest = sym (n .1) }
+joined (x ∷ b) u e = go (open-tail x b e) (joined b u)
+  where
+    go : (eqb x newline ≡ false) × (whole b ≡ []) → (whole b ≡ [] → Joined b u) → Joined (x ∷ b) u
+    go t r =
+        let j = r (t .1) in
+        let f = whole-other x (b ++ u) (t .0) in
+        let k = joined-byte x b (split newline u) (split-some newline u) in
+        record {
+          lines = f .0 ∙ ap (joinLines x) (j .lines) ∙ k .0;
+          rest = f .1 ∙ ap (λ (ls : List (List ℕ)). joinRest x ls (begun (b ++ u))) (j .lines) ∙ ap (joinRest x (linesBehind b u)) (j .rest) ∙ k .1;
+        }
+
+-- What is kept of a line serves as the line.
+
+kept-front : (b p : List ℕ) → (readLine (take keptRoom b ++ p) ≡ readLine (b ++ p)) × (take keptRoom (take keptRoom b ++ p) ≡ take keptRoom (b ++ p))
+kept-front b p =
+    elim (decLt keptRoom (length b)) [
+      | yes h ↦
+          let l = length-take-le keptRoom b (omega arith) in
+          let front = length-append (take keptRoom b) p in
+          let all = length-append b p in (
+            reads-long (take keptRoom b ++ p) (omega arith) ∙ sym (reads-long (b ++ p) (omega arith)),
+            take-append-le keptRoom (take keptRoom b) p (omega arith) ∙ take-take keptRoom keptRoom b (omega arith) ∙ sym (take-append-le keptRoom b p (omega arith)),
+          )
+      | no h ↦
+          let e : take keptRoom b ≡ b = take-all keptRoom b (omega arith) in
+          (ap (λ (x : List ℕ). readLine (x ++ p)) e, ap (λ (x : List ℕ). take keptRoom (x ++ p)) e)
+    ]
+
+pub record Serves (b u : List ℕ) : Type 0 where
+  pub listed : (i : ℕ) (m : List ℕ) → listMemory i m (linesBehind (take keptRoom b) u) ≡ listMemory i m (linesBehind b u)
+  pub memory : (m : List ℕ) → afterLines m (linesBehind (take keptRoom b) u) ≡ afterLines m (linesBehind b u)
+  pub many : length (linesBehind (take keptRoom b) u) ≡ length (linesBehind b u)
+  pub rest : take keptRoom (restBehind (take keptRoom b) u) ≡ take keptRoom (restBehind b u)
+
+pub serves : (b u : List ℕ) → Serves b u
+unfolding linesBehind restBehind joinFirst allButLast lastPart listMemory afterLines
+serves b u = go (split newline u) (split-some newline u) refl
+  where
+    go : (ps : List (List ℕ)) → 1 ≤ length ps → split newline u ≡ ps → Serves b u
+    go [] some e = absurd (omega arith)
+    go (p ∷ []) some e = (record { listed = λ i m. rw e; memory = λ m. rw e; many = rw e; rest = rw e (kept-front b p .1) })
+    go (p ∷ q ∷ ps) some e =
+        let r = kept-front b p .0 in
+        record {
+          listed = λ i m. rw e (ap (λ (o : Operation). reportLine i (stepMemory m o .report) ++ listMemory (suc i) (stepMemory m o .memory) (allButLast (q ∷ ps))) r);
+          memory = λ m. rw e (ap (λ (o : Operation). afterLines (stepMemory m o .memory) (allButLast (q ∷ ps))) r);
+          many = rw e;
+          rest = rw e;
+        }
+
+-- Portions one behind the other, the first where a line b has begun.
+
+pub portions : (ps : List Portion) (m b : List ℕ) (st : State·rt) → whole b ≡ [] → keptLine st ≡ take keptRoom b → Feeds m st ps
+    → listedBytes ps ≡ listMemory (st .lines + 1) m (whole (b ++ usedBytes ps))
+unfolding Feeds listedBytes usedBytes listedOf usedOf listMemory
+portions [] m b st open-line kept feeds = sym (ap (listMemory (st .lines + 1) m) (ap whole (append-nil b) ∙ open-line))
+portions (p ∷ ps) m b st open-line kept feeds =
+    let f = subst (λ (k : List ℕ). BegunFed m k (st .lines) (p .input) (p .output) (p .memory-after) (p .output-after) (p .fed)) kept (feeds .0 .enough (feeds .1 .0)) in
+    let u = take (p .fed .used) (p .input) in
+    let j = joined b u open-line in
+    let k = serves b u in
+    let rest = usedBytes ps in
+    let next-memory : p .memory-after ≡ afterLines m (whole (b ++ u)) = f .memory ∙ k .memory m ∙ ap (afterLines m) (sym (j .lines)) in
+    let next-lines : p .fed .state .lines ≡ st .lines + length (whole (b ++ u)) =
+    f .counted ∙ ap (λ (n : ℕ). st .lines + n) (k .many ∙ ap length (sym (j .lines))) in
+    let next-kept : keptLine (p .fed .state) ≡ take keptRoom (begun (b ++ u)) = f .kept ∙ k .rest ∙ ap (take keptRoom) (sym (j .rest)) in
+    let ih = portions ps (p .memory-after) (begun (b ++ u)) (p .fed .state) (begun-open (b ++ u)) next-kept (feeds .1 .1) in
+    let here : take (p .fed .written) (p .output-after) ≡ listMemory (st .lines + 1) m (whole (b ++ u)) =
+    f .listed .written ∙ k .listed (st .lines + 1) m ∙ ap (listMemory (st .lines + 1) m) (sym (j .lines)) in
+    let number : p .fed .state .lines + 1 ≡ st .lines + 1 + length (whole (b ++ u)) = omega arith in
+    ap (λ (x : List ℕ). x ++ listedBytes ps) here
+    ∙ ap (λ (x : List ℕ). listMemory (st .lines + 1) m (whole (b ++ u)) ++ x)
+    (ih ∙ ap (λ (n : ℕ). listMemory n (p .memory-after) (whole (begun (b ++ u) ++ rest))) number
+    ∙ ap (λ (x : List ℕ). listMemory (st .lines + 1 + length (whole (b ++ u))) x (whole (begun (b ++ u) ++ rest))) next-memory)
+    ∙ sym (list-append (st .lines + 1) m (whole (b ++ u)) (whole (begun (b ++ u) ++ rest)))
+    ∙ ap (listMemory (st .lines + 1) m) (sym (joins (b ++ u) rest .lines) ∙ ap whole (append-assoc b u rest))
+
+-- The script's lines are whole where its last has its newline.
+
+one-ended : (b : List ℕ) → linesBehind b (newline ∷ []) ≡ b ∷ []
+unfolding linesBehind joinFirst allButLast split
+one-ended b = ap (λ (l : List ℕ). l ∷ []) (append-nil b)
+
+last-some : (b : List ℕ) (x : ℕ) (c : List ℕ) → b ≡ x ∷ c → lastLine b ≡ b ∷ []
+unfolding lastLine
+last-some b x c e = rw e
+
+pub ended-lines : (s : List ℕ) → whole (endedScript s) ≡ scriptLines s
+unfolding endedScript lastLine
+ended-lines s = go (begun s) refl
+  where
+    go : (b : List ℕ) → begun s ≡ b → whole (endedScript s) ≡ scriptLines s
+    go [] e = rw e (sym (lines-ended s ∙ rw e (append-nil (whole s))))
+    go (x ∷ b) e =
+        let o = joined (begun s) (newline ∷ []) (begun-open s) .lines ∙ one-ended (begun s) in
+        let w : whole (s ++ (newline ∷ [])) ≡ whole s ++ (begun s ∷ []) = joins s (newline ∷ []) .lines ∙ ap (λ (ls : List (List ℕ)). whole s ++ ls) o in
+        rw e (w ∙ ap (λ (ls : List (List ℕ)). whole s ++ ls) (sym (last-some (begun s) x b e)) ∙ sym (lines-ended s))
+
+pub portions-listed : PortionsListed
+portions-listed =
+    record {
+      listed = λ m s st ps long zero none feeds e.
+          ap (λ (x : List ℕ). header ++ x) (portions ps (powerOnMemory m .memory) [] st whole-nil none feeds
+          ∙ ap (λ (n : ℕ). listMemory (n + 1) (powerOnMemory m .memory) (whole (usedBytes ps))) zero
+          ∙ ap (λ (x : List ℕ). listMemory 1 (powerOnMemory m .memory) (whole x)) e ∙ ap (listMemory 1 (powerOnMemory m .memory)) (ended-lines s))
+          ∙ sym (listing-memory m s long);
+    }

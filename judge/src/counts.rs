@@ -40,6 +40,22 @@ impl Row {
             *sum += count;
         }
     }
+
+    /// What the table shows: the answers that a script can meet, then the traps.
+    fn shown(&self) -> impl Iterator<Item = &u64> {
+        let answers = self.answers.iter().enumerate();
+        let met = answers.filter(|(answer, _)| *answer != NOT_A_NODE);
+        met.map(|(_, count)| count).chain(&self.traps)
+    }
+
+    /// The columns' width: the headings have room, and the largest count with two blanks.
+    fn width(&self) -> usize {
+        let largest = self
+            .shown()
+            .max()
+            .map_or(0, |count| count.to_string().len());
+        8.max(largest + 2)
+    }
 }
 
 #[derive(Clone, Default)]
@@ -56,7 +72,7 @@ impl Counts {
         })
     }
 
-    fn add(&mut self, line: &[u8], report: &Report) {
+    pub fn add(&mut self, line: &[u8], report: &Report) {
         let row = &mut self.rows[row_of(line, report)];
         row.answers[report.answer as usize] += 1;
         if report.accepted() {
@@ -70,6 +86,10 @@ impl Counts {
             sum.add(row);
         }
         sum
+    }
+
+    pub fn lines(&self) -> u64 {
+        self.sum().answers.iter().sum()
     }
 
     /// The answers 2 to 15 and traps 0 to 3 that were not met.
@@ -95,27 +115,21 @@ fn row_of(line: &[u8], report: &Report) -> usize {
 
 impl Display for Counts {
     fn fmt(&self, f: &mut Formatter) -> fmt::Result {
+        let sum = self.sum();
+        let width = sum.width();
         write!(f, "{:<10}", "answer")?;
         for answer in (0..ANSWERS).filter(|&answer| answer != NOT_A_NODE) {
-            write!(f, "{answer:>8}")?;
+            write!(f, "{answer:>width$}")?;
         }
         for trap in 0..TRAPS {
-            write!(f, "{:>8}", format!("trap {trap}"))?;
+            write!(f, "{:>width$}", format!("trap {trap}"))?;
         }
-        let sum = self.sum();
         for (name, row) in ROWS.iter().zip(&self.rows).chain([(&"all", &sum)]) {
-            write_row(f, name, row)?;
+            write!(f, "\n{name:<10}")?;
+            for count in row.shown() {
+                write!(f, "{count:>width$}")?;
+            }
         }
         Ok(())
     }
-}
-
-fn write_row(f: &mut Formatter, name: &str, row: &Row) -> fmt::Result {
-    write!(f, "\n{name:<10}")?;
-    let answers = row.answers.iter().enumerate();
-    let shown = answers.filter(|(answer, _)| *answer != NOT_A_NODE);
-    for count in shown.map(|(_, count)| count).chain(&row.traps) {
-        write!(f, "{count:>8}")?;
-    }
-    Ok(())
 }

@@ -5,10 +5,14 @@
 //! - [`script`]: a script's lines read to operations, reports written as a listing.
 //! - [`generator`]: random scripts in flavours, made of bursts and fixed by a seed.
 //! - [`counts`]: which answers and traps scripts have met.
-//! - [`program`]: how the two programs end.
+//! - [`feed`]: a script on its way to the judge and to a program at once.
+//! - [`comparison`]: a program's listing held against the judge's.
+//! - [`program`]: what the programs share.
 
 mod bursts;
+pub mod comparison;
 pub mod counts;
+pub mod feed;
 pub mod generator;
 pub mod memory;
 pub mod node;

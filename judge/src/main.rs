@@ -3,7 +3,7 @@
 use std::io::{self, BufWriter, Write};
 use std::process::ExitCode;
 
-use judge::program::{finish, misused};
+use judge::program::{finish, misused, print};
 use judge::script::write_listing;
 
 const NAME: &str = "judge";
@@ -17,7 +17,7 @@ fn main() -> ExitCode {
     let arguments: Vec<_> = std::env::args_os().skip(1).collect();
     match arguments.as_slice() {
         [] => finish(NAME, list()),
-        [help] if help == "--help" => finish(NAME, print_usage()),
+        [help] if help == "--help" => finish(NAME, print(USAGE)),
         _ => misused(NAME, "takes no arguments", USAGE),
     }
 }
@@ -26,10 +26,5 @@ fn list() -> io::Result<ExitCode> {
     let mut output = BufWriter::new(io::stdout().lock());
     write_listing(io::stdin().lock(), &mut output)?;
     output.flush()?;
-    Ok(ExitCode::SUCCESS)
-}
-
-fn print_usage() -> io::Result<ExitCode> {
-    writeln!(io::stdout(), "{USAGE}")?;
     Ok(ExitCode::SUCCESS)
 }

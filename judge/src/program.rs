@@ -1,22 +1,71 @@
-//! How the programs end.
+//! What the programs share: their arguments, how they end, and where the project's own program is.
 
-use std::io::{self, ErrorKind};
-use std::process::ExitCode;
+use std::io::{self, ErrorKind, Write};
+use std::path::{Path, PathBuf};
+use std::process::{Command, ExitCode, Stdio};
+
+use crate::counts::Counts;
+
+/// The arguments of the call.
+pub fn arguments() -> Vec<String> {
+    std::env::args_os()
+        .skip(1)
+        .map(|argument| argument.to_string_lossy().into_owned())
+        .collect()
+}
+
+pub fn number(argument: &str) -> Result<u64, String> {
+    argument
+        .parse()
+        .map_err(|_| format!("not a number: {argument}"))
+}
+
+/// Writes a text to standard output; that is all there was to do.
+pub fn print(text: &str) -> io::Result<ExitCode> {
+    writeln!(io::stdout(), "{text}")?;
+    Ok(ExitCode::SUCCESS)
+}
 
 /// The exit code of a run. A reader that has gone away has seen what it wanted: that ends quietly.
 pub fn finish(name: &str, result: io::Result<ExitCode>) -> ExitCode {
     match result {
         Ok(code) => code,
         Err(error) if error.kind() == ErrorKind::BrokenPipe => ExitCode::SUCCESS,
-        Err(error) => {
-            eprintln!("{name}: {error}");
-            ExitCode::FAILURE
-        }
+        Err(error) => failed(name, &error.to_string()),
     }
+}
+
+/// The exit code of a run that found something wrong.
+pub fn failed(name: &str, reason: &str) -> ExitCode {
+    eprintln!("{name}: {reason}");
+    ExitCode::FAILURE
 }
 
 /// The exit code of a call that cannot be understood.
 pub fn misused(name: &str, reason: &str, usage: &str) -> ExitCode {
     eprintln!("{name}: {reason}\n{usage}");
     ExitCode::from(2)
+}
+
+/// The exit code of scripts that were to meet every answer and every trap.
+pub fn met_all(name: &str, counts: &Counts) -> ExitCode {
+    let missing = counts.missing();
+    if missing.is_empty() {
+        return ExitCode::SUCCESS;
+    }
+    failed(name, &format!("not met: {}", missing.join(", ")))
+}
+
+/// The project's own program. It is called by its wrapper once, which builds it if need be.
+pub fn fugu(project: &Path) -> Result<PathBuf, String> {
+    let wrapper = project.join("bin/fugu");
+    let built = Command::new(&wrapper)
+        .stdin(Stdio::null())
+        .stdout(Stdio::null())
+        .status();
+    match built {
+        Ok(status) if status.success() => Ok(project.join("target/bin/fugu")),
+        Ok(status) => Err(format!("{}: {status}", wrapper.display())),
+        Err(error) => Err(format!("{}: {error}", wrapper.display())),
+    }
 }

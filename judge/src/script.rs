@@ -60,10 +60,10 @@ fn operation(letter: &[u8], numbers: &[u32]) -> Option<Operation> {
 
 /// Runs a script from power-on and hands each line, kept to its first 129 bytes, on with its
 /// report.
-pub fn run(
+pub fn run<E: From<io::Error>>(
     mut input: impl BufRead,
-    mut each: impl FnMut(&[u8], &Report) -> io::Result<()>,
-) -> io::Result<()> {
+    mut each: impl FnMut(&[u8], &Report) -> Result<(), E>,
+) -> Result<(), E> {
     let mut node = Node::power_on();
     let mut line = Vec::new();
     while next_line(&mut input, &mut line)? {
@@ -99,7 +99,7 @@ pub fn write_listing(input: impl BufRead, output: &mut impl Write) -> io::Result
 
 /// "line number from 1, answer (0 accepted), value, trap, upcall group or 0, moved; an accepted L
 /// adds node, group, words"
-fn write_report(output: &mut impl Write, number: u64, report: &Report) -> io::Result<()> {
+pub fn write_report(output: &mut impl Write, number: u64, report: &Report) -> io::Result<()> {
     let (answer, value, trap) = (report.answer, report.value, report.trap as u32);
     let (upcall, moved) = (report.upcall, report.moved);
     write!(output, "{number},{answer},{value},{trap},{upcall},{moved}")?;

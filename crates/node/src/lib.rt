@@ -12,7 +12,7 @@ use rules::Operation;
 use rules::Report;
 use validate::is_node;
 ghost use mathlib.Core.Path.{_≡_};
-ghost use Rattle.rules.specs.MemoryTest.{stepMemory, headPart, headWords};
+ghost use Rattle.rules.specs.MemoryTest.{isMemory, stepMemory, headPart, headWords};
 ghost use Rattle.rules.specs.Types.{operationOf};
 ghost use Rattle.memory.specs.Answers.{Answers};
 ghost use Rattle.node.specs.Parts.{partOf};
@@ -22,10 +22,8 @@ ghost use Rattle.node.specs.Steps.{IsNode, Steps, Requests};
 pub fn step(memory: &mut [u32], op: Operation, words: &[u32]) -> Report
     ensures { λ rep. ⌜ Answers (now (memory .exit)) rep (stepMemory (now (memory .entry)) (operationOf op (now (words .entry)))) ⌝ }
 {
-    if !is_node(memory) {
-        return Report::refused(Report::NOT_NODE);
-    }
-    step_node(memory, op, words)
+    let good = is_node(memory);
+    step_known(memory, good, op, words)
 }
 
 // The words of the running group's first message as a part of the lent memory: empty if there is none or the memory is no node.
@@ -46,6 +44,17 @@ pub fn head_part(memory: &[u32]) -> Part
         return Part { start: 0, len: 0 };
     }
     message::first(memory)
+}
+
+// A step on memory of which it is known whether it is a node.
+pub fn step_known(memory: &mut [u32], good: bool, op: Operation, words: &[u32]) -> Report
+    requires { ⌜ isMemory (now memory) ≡ good ⌝ }
+    ensures { λ rep. ⌜ Answers (now (memory .exit)) rep (stepMemory (now (memory .entry)) (operationOf op (now (words .entry)))) ⌝ }
+{
+    if !good {
+        return Report::refused(Report::NOT_NODE);
+    }
+    step_node(memory, op, words)
 }
 
 // A step on memory that holds a node, untested: it leaves one.

@@ -3,6 +3,7 @@
 use Prim.Native.Nat.{ℕ, _+_, _≤_, _<_}
 use native.Mathlib.Nat.{add-zero}
 use native.Mathlib.Numerals.{add-one}
+use native.Mathlib.Decide.{decLt}
 use native.Mathlib.Omega.{arith}
 use mathlib.Core.List.{List, [], _∷_, _++_, append-nil, append-assoc}
 use mathlib.Core.Path.{_≡_, refl, sym, subst, ap, _∙_}
@@ -44,6 +45,16 @@ module _ {o o′ : List ℕ} {a a′ : ℕ} {bs : List ℕ} (w : Appended o a o�
   -- a byte written behind those written
   pub appended-next : (b : ℕ) → a′ < length o → Appended o a (set o′ a′ b) (a′ + 1) (bs ++ (b ∷ []))
   appended-next b h = appended-then (appended-byte o′ a′ b (omega (arith, w .same-length)))
+
+-- what is written is inside
+pub appended-within : {o o′ : List ℕ} {a a′ : ℕ} {bs : List ℕ} → Appended o a o′ a′ bs → a ≤ length o → a′ ≤ length o
+appended-within {o} {o′} {a} {a′} {bs} w inside =
+    elim (decLt (length o) a′) [
+      | yes h ↦
+          let l = ap length (sym (take-all a′ o′ (omega (arith, w .same-length))) ∙ w .written) ∙ length-append (take a o) bs in
+          omega (arith, length-take-le a o inside, w .same-length, w .end)
+      | no h ↦ omega arith
+    ]
 
 -- bytes of xs are copied, one more
 pub appended-copy : (xs : List ℕ) (a j : ℕ) {o o′ : List ℕ} → Appended o a o′ (a + j) (take j xs) → j < length xs → a + j < length o → (x : ℕ) → getD xs j 0 ≡ x

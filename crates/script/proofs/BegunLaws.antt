@@ -3,7 +3,7 @@ use Prim.Native.Nat.{ℕ, suc, _+_, _-_, _≤_, _<_}
 use native.Mathlib.Decide.{decLt}
 use native.Mathlib.Omega.{arith}
 use mathlib.Core.List.{List, [], _∷_, _++_, append-nil}
-use mathlib.Core.Path.{_≡_, refl, sym, ap, _∙_}
+use mathlib.Core.Path.{_≡_, refl, sym, ap, subst, _∙_}
 use mathlib.Core.Bool.{Bool, false}
 use lib.Dec.{eqb}
 use lib.ListN.{length, take, drop}
@@ -12,47 +12,20 @@ use borrow.Author.Tests.{eqb-true}
 use Rattle.rules.specs.MemoryTest.{isMemory, stepMemory}
 use Rattle.rules.specs.Operation.{Operation}
 use Rattle.rules.specs.Script.{newline, readLine, reportLine}
-use Rattle.rules.specs.Text.{split, extendFirst}
+use Rattle.rules.specs.Text.{split}
 use Rattle.script.specs.Feeding.{whole, begun, linesBehind, restBehind, joinFirst, allButLast, lastPart, afterLines, listMemory}
 use Rattle.script.specs.Feed.{keptRoom, keptLine, LinesFeedable, LinesFed, BegunFed}
 use Rattle.script.specs.Play.{part, TextPlayed}
-use Rattle.script.specs.Read.{lineOf, lineEnd}
-use Rattle.script.specs.Written.{Countable, lineRoom}
+use Rattle.script.specs.Read.{OneLine, lineOf}
+use Rattle.script.specs.Written.{lineRoom}
 use Rattle.script.specs.declared.play.Played.{Played as Played·rt}
 use Rattle.script.specs.declared.feed.Fed.{Fed as Fed·rt}
 use Rattle.script.proofs.AppendedLaws.{appended-as, appended-none, appended-then}
 use Rattle.script.proofs.LineEndLaws.{by-test}
+use Rattle.script.proofs.OneLineLaws.{ended-split, line-front, one-append, one-long, one-of, one-split, one-take}
 use Rattle.script.proofs.PlayLaws.{known-stays}
 use Rattle.script.proofs.PortionLaws.{last-behind, split-some}
 use Rattle.script.proofs.ReadLaws.{reads-long}
-
--- a text without a newline is one part
-split-open : (u : List ℕ) → length (lineOf u) ≡ length u → split newline u ≡ u ∷ []
-unfolding split lineOf extendFirst
-split-open [] e = refl
-split-open (x ∷ xs) e =
-    by-test (eqb x newline)
-    (λ q. absurd (let f : 0 ≡ suc (length xs) = rw (q, lineOf) at e in omega arith))
-    (λ q. let f : suc (length (lineOf xs)) ≡ suc (length xs) = rw (q, lineOf) at e in
-    rw (q, split, split-open xs (omega arith)))
-
-line-other : (x : ℕ) (xs : List ℕ) → eqb x newline ≡ false → lineOf (x ∷ xs) ≡ x ∷ lineOf xs
-unfolding lineOf
-line-other x xs q = rw (q, lineOf)
-
-split-other : (x : ℕ) (xs : List ℕ) → eqb x newline ≡ false → split newline (x ∷ xs) ≡ extendFirst x (split newline xs)
-unfolding split
-split-other x xs q = rw (q, split)
-
--- a line and its newline are the first part
-split-line : (t r : List ℕ) → split newline (lineOf t ++ (newline ∷ r)) ≡ lineOf t ∷ split newline r
-unfolding split lineOf extendFirst
-split-line [] r = refl
-split-line (x ∷ xs) r =
-    by-test (eqb x newline)
-    (λ q. rw (q, lineOf))
-    (λ q. ap (λ (l : List ℕ). split newline (l ++ (newline ∷ r))) (line-other x xs q) ∙ split-other x (lineOf xs ++ (newline ∷ r)) q
-    ∙ ap (extendFirst x) (split-line xs r) ∙ ap (λ (l : List ℕ). l ∷ split newline r) (sym (line-other x xs q)))
 
 -- a text with a newline is its line, the newline and what follows
 line-ends : (u : List ℕ) → length (lineOf u) < length u → u ≡ lineOf u ++ (newline ∷ drop (suc (length (lineOf u))) u)
@@ -64,25 +37,11 @@ line-ends (x ∷ xs) h =
     (λ q. let f : suc (length (lineOf xs)) < suc (length xs) = rw (q, lineOf) at h in
     rw (q, lineOf) (ap (λ (ys : List ℕ). x ∷ ys) (line-ends xs (omega arith))))
 
--- a text begins with its line
-line-front : (u : List ℕ) → take (length (lineOf u)) u ≡ lineOf u
-unfolding lineOf
-line-front [] = refl
-line-front (x ∷ xs) =
-    by-test (eqb x newline)
-    (λ q. rw (q, lineOf))
-    (λ q. rw (q, lineOf) (ap (λ (ys : List ℕ). x ∷ ys) (line-front xs)))
-
--- from its beginning it ends with its line
-pub end-first : (u : List ℕ) → lineEnd u 0 ≡ length (lineOf u)
-unfolding lineEnd
-end-first u = omega arith
-
 -- The line does not end.
 
-pub behind-open : (b u : List ℕ) → length (lineOf u) ≡ length u → (linesBehind b u ≡ []) × (restBehind b u ≡ b ++ u)
+pub behind-open : (b u : List ℕ) → OneLine u → (linesBehind b u ≡ []) × (restBehind b u ≡ b ++ u)
 unfolding linesBehind restBehind joinFirst allButLast lastPart
-behind-open b u e = rw (split-open u e) (refl, refl)
+behind-open b u one = rw (one-split u one) (refl, refl)
 
 -- The line ends, and others follow it.
 
@@ -102,12 +61,19 @@ behind-ended b u used ends more =
     ap (λ (j : ℕ). take j u) n ∙ ap (take (length l + suc k)) (line-ends u ends) ∙ take-append-add l (newline ∷ r) (suc k) in
     let d : take k r ≡ part u (length l + 1) used = ap (λ (j : ℕ). take k (drop j u)) s in
     let p : split newline (take used u) ≡ l ∷ split newline (part u (length l + 1) used) =
-    ap (split newline) t ∙ split-line u (take k r) ∙ ap (λ (y : List ℕ). l ∷ split newline y) d in
+    ap (split newline) t ∙ ended-split l (take k r) (one-of u) ∙ ap (λ (y : List ℕ). l ∷ split newline y) d in
     let q = last-behind (split newline (part u (length l + 1) used)) (split-some newline (part u (length l + 1) used)) (b ++ l) in
     record {
       lines = ap (λ (ps : List (List ℕ)). allButLast (joinFirst b ps)) p ∙ q .0;
       rest = ap (λ (ps : List (List ℕ)). lastPart (joinFirst b ps)) p ∙ q .1;
     }
+
+-- What is kept of the line that goes on is one.
+pub grown-one : {b : List ℕ} (input : List ℕ) {line : List ℕ} {end : ℕ} → OneLine b → end ≡ length (lineOf input) → line ≡ take keptRoom (b ++ take end input) → OneLine line
+grown-one {b} input {line} {end} one e k =
+    let t : take end input ≡ lineOf input = ap (λ (n : ℕ). take n input) e ∙ line-front input in
+    let l : line ≡ take keptRoom (b ++ lineOf input) = k ∙ ap (λ (x : List ℕ). take keptRoom (b ++ x)) t in
+    subst OneLine (sym l) (one-take keptRoom (b ++ lineOf input) (one-append b (lineOf input) one (one-of input)))
 
 -- What is kept is read as the line is.
 pub kept-reads : (l : List ℕ) → readLine (take keptRoom l) ≡ readLine l
@@ -119,38 +85,40 @@ kept-reads l =
 
 module _ {m b : List ℕ} {lines : ℕ} {input out : List ℕ} where
   -- the line goes on
-  pub fed-open : {kept : List ℕ} {count end : ℕ} → length (lineOf input) ≡ length input → end ≡ length input
+  pub fed-open : {kept : List ℕ} {count end : ℕ} → OneLine b → length (lineOf input) ≡ length input → end ≡ length input
       → take count kept ≡ take keptRoom (b ++ take end input)
       → BegunFed m b lines input out m out (record { state = record { lines = lines; kept = kept; count = count }; used = end; written = 0; stop = 0 })
   unfolding keptLine afterLines listMemory
-  fed-open {end = end} whole-line e k =
+  fed-open {kept} {count} {end} one same e k =
       let t : take end input ≡ input = take-all end input (omega arith) in
-      let f = behind-open b input whole-line in
+      let more = one-long input same in
+      let f = behind-open b input more in
+      let l : take keptRoom (take count kept) ≡ take keptRoom (b ++ input) =
+      ap (take keptRoom) k ∙ take-take keptRoom keptRoom (b ++ take end input) (omega arith) ∙ ap (λ (x : List ℕ). take keptRoom (b ++ x)) t in
       let none : linesBehind b (take end input) ≡ [] = ap (linesBehind b) t ∙ f .0 in
       record {
         inside = omega arith;
         memory = rw none;
         listed = rw none (appended-none out 0);
         counted = rw none (omega arith);
-        kept = ap (take keptRoom) k ∙ take-take keptRoom keptRoom (b ++ take end input) (omega arith)
-            ∙ ap (λ (x : List ℕ). take keptRoom (b ++ x)) t ∙ sym (ap (take keptRoom) (ap (restBehind b) t ∙ f .1));
+        kept = ap lineOf l ∙ one-take keptRoom (b ++ input) (one-append b input one more) ∙ sym (ap (take keptRoom) (ap (restBehind b) t ∙ f .1));
         all-used = λ z. e;
         no-room = λ z. omega arith;
         stops = omega arith;
       }
 
   -- it ends and there is no room
-  pub fed-none : {kept : List ℕ} {count : ℕ} → take count kept ≡ b → length out < lineRoom
+  pub fed-none : {kept : List ℕ} {count : ℕ} → OneLine b → take count kept ≡ b → length out < lineRoom
       → BegunFed m b lines input out m out (record { state = record { lines = lines; kept = kept; count = count }; used = 0; written = 0; stop = 1 })
   unfolding keptLine afterLines listMemory lineOf
-  fed-none k room =
+  fed-none one k room =
       let f = behind-open b [] refl in
       record {
         inside = omega arith;
         memory = rw (f .0);
         listed = rw (f .0) (appended-none out 0);
         counted = rw (f .0) (omega arith);
-        kept = ap (take keptRoom) (k ∙ sym (append-nil b) ∙ sym (f .1));
+        kept = ap (λ (x : List ℕ). lineOf (take keptRoom x)) k ∙ one-take keptRoom b one ∙ ap (take keptRoom) (sym (append-nil b) ∙ sym (f .1));
         all-used = λ z. omega arith;
         no-room = λ z. omega arith;
         stops = omega arith;
@@ -188,19 +156,15 @@ module _ {m b : List ℕ} {lines : ℕ} {input out : List ℕ} where
 
 -- The lines behind one that was played.
 
-pub begun-countable : {m : List ℕ} {good : Bool} {input : List ℕ} {start : ℕ} {out : List ℕ} {at : ℕ} {digits : List ℕ} {len lines : ℕ}
-    → LinesFeedable m good input start out at digits len lines → Countable digits len
-begun-countable {lines = lines} h = record { number = lines; counts = h .counts; below = let f = h .few in omega arith }
-
 pub lines-behind : {m : List ℕ} {good : Bool} {input out digits : List ℕ} {len lines : ℕ} → LinesFeedable m good input 0 out 0 digits len lines
     → {text m₁ out₁ digits₁ : List ℕ} {p : Played·rt} → TextPlayed m text out digits len m₁ out₁ digits₁ p
-    → {end : ℕ} → end < length input → length out₁ ≡ length out → lineRoom ≤ length out
+    → {end : ℕ} → end < length input → length out₁ ≡ length out
     → LinesFeedable m₁ good input (end + 1) out₁ (p .at) digits₁ (p .len) (lines + 1)
-lines-behind {m} {lines = lines} h {text} q ends same room =
+lines-behind {m} {lines = lines} h {text} q ends same =
     record {
       known = ap isMemory (q .memory) ∙ known-stays m (readLine text) ∙ h .known;
       inside = omega arith;
-      within = let a = q .at-most in omega arith;
+      within = let a = q .within in omega arith;
       counts = q .counted lines (h .counts);
       few = let f = h .few in omega arith;
     }

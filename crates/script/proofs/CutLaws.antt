@@ -12,16 +12,9 @@ use Rattle.rules.specs.Script.{newline}
 use Rattle.script.specs.Play.{part}
 use Rattle.script.specs.Feeding.{begun, whole}
 use Rattle.script.specs.Read.{lineOf}
+use Rattle.script.proofs.OneLineLaws.{line-newline, line-other}
 use Rattle.script.proofs.PortionLaws.{joinLines, joinRest, joins, whole-newline, whole-nil, whole-other, begun-nil}
 use Rattle.validate.proofs.ListedLaws.{behind}
-
-line-newline : (x : ℕ) (xs : List ℕ) → eqb x newline ≡ true → lineOf (x ∷ xs) ≡ []
-unfolding lineOf
-line-newline x xs q = rw (q, lineOf)
-
-line-other : (x : ℕ) (xs : List ℕ) → eqb x newline ≡ false → lineOf (x ∷ xs) ≡ x ∷ lineOf xs
-unfolding lineOf
-line-other x xs q = rw (q, lineOf)
 
 -- l is the first line of t, and whole lines follow it
 pub record First (t l : List ℕ) : Type 0 where
@@ -104,6 +97,10 @@ one-more c t none =
 pub part-none : (s : List ℕ) (from : ℕ) → part s from from ≡ []
 unfolding part
 part-none s from = let e : from - from ≡ 0 = omega arith in rw e
+
+pub part-front : (s : List ℕ) (used : ℕ) → part s 0 used ≡ take used s
+unfolding part
+part-front s used = let e : used - 0 ≡ used = omega arith in rw e
 
 pub record Grown (s : List ℕ) (from used : ℕ) : Type 0 where
   pub inside : used + length (lineOf (drop used s)) + 1 ≤ length s

@@ -12,12 +12,14 @@ use Rattle.rules.specs.Script.{newline}
 use Rattle.script.specs.Feeding.{whole, begun, afterLines, listMemory}
 use Rattle.script.specs.Feed.{keptRoom, keptLine, Cut, LinesFeedable, LinesFed}
 use Rattle.script.specs.Play.{part, Playable, PlayedTo}
+use Rattle.script.specs.Read.{lineEnd, lineOf}
 use Rattle.script.specs.Written.{Appended}
 use Rattle.script.specs.declared.play.Played.{Played as Played·rt}
 use Rattle.script.proofs.AppendedLaws.{appended-as}
-use Rattle.script.proofs.LineEndLaws.{by-test}
+use Rattle.script.proofs.LineEndLaws.{by-test, end-inside}
 use Rattle.script.proofs.PortionLaws.{whole-newline, whole-other, whole-nil, begun-nil, joinLines, joinRest, joins, begun-all}
 use Rattle.script.proofs.CutLaws.{part-none}
+use Rattle.script.proofs.OneLineLaws.{end-first, line-front, one-begun, one-take}
 
 -- What is kept: a text behind another, as far as there is room.
 
@@ -30,7 +32,7 @@ kept-some xs ys k h =
     ap (λ (n : ℕ). take n (xs ++ ys)) (sym e) ∙ take-append-add xs ys (k - length xs)
 
 pub appended-some : {kept kept′ t : List ℕ} (text : List ℕ) {count end : ℕ} → Appended kept count kept′ end t → t ≡ take (keptRoom - count) text
-    → length kept ≡ keptRoom → count ≤ keptRoom → keptRoom - count ≤ length text
+    → keptRoom ≤ length kept → count ≤ keptRoom → keptRoom - count ≤ length text
     → (take end kept′ ≡ take keptRoom (take count kept ++ text)) × (end ≤ keptRoom)
 appended-some {kept} text {count} a front whole few long =
     let l : length (take count kept) ≡ count = length-take-le count kept (omega arith) in
@@ -39,12 +41,24 @@ appended-some {kept} text {count} a front whole few long =
     (a .written ∙ ap (λ (y : List ℕ). take count kept ++ y) front ∙ ap (λ (n : ℕ). take count kept ++ take (keptRoom - n) text) (sym l) ∙ sym (kept-some (take count kept) text keptRoom (omega arith)), omega arith)
 
 pub appended-all : {kept kept′ text : List ℕ} {count end : ℕ} → Appended kept count kept′ end text
-    → length kept ≡ keptRoom → count ≤ keptRoom → length text ≤ keptRoom - count
+    → keptRoom ≤ length kept → count ≤ keptRoom → length text ≤ keptRoom - count
     → (take end kept′ ≡ take keptRoom (take count kept ++ text)) × (end ≤ keptRoom)
 appended-all {kept} {text = text} {count = count} a whole few short =
     let l : length (take count kept) ≡ count = length-take-le count kept (omega arith) in
     let e = a .end in
     (a .written ∙ sym (kept-all (take count kept) text keptRoom (omega arith)), omega arith)
+
+-- What a state keeps: its bytes up to a newline.
+pub kept-counted : (kept : List ℕ) (count n : ℕ) {r : ℕ} → keptRoom ≤ length kept → take n kept ≡ take keptRoom (take count kept) → n ≤ keptRoom
+    → r ≡ lineEnd (take n kept) 0 → (r ≤ keptRoom) × (take r kept ≡ lineOf (take keptRoom (take count kept)))
+kept-counted kept count n {r} room same few e =
+    let t = take n kept in
+    let l = length-take-le n kept (omega arith) in
+    let i = end-inside t 0 (omega arith) in
+    let f : r ≡ length (lineOf t) = e ∙ end-first t in (
+      omega arith,
+      sym (take-take r n kept (omega arith)) ∙ ap (λ (k : ℕ). take k t) f ∙ line-front t ∙ ap lineOf same,
+    )
 
 -- Where a portion is cut: behind its last newline.
 
@@ -172,10 +186,10 @@ module _ {m : List ℕ} {good : Bool} {s : List ℕ} {start : ℕ} {out : List �
     same-part : part (take to s) start (p .used) ≡ part s start (p .used)
     same-part = part-taken s start (p .used) to (q .forward) used-inside (c .inside)
 
-    -- it stopped for want of room
+    -- it stopped for want of room: nothing has begun
     pub lines-stopped : (p .stop ≡ 0 → ⊥) → (kept : List ℕ)
         → LinesFed m s start out at lines m′ out′ (record { state = record { lines = lines + p .lines; kept = kept; count = 0 }; used = p .used; written = p .at; stop = p .stop })
-    unfolding keptLine
+    unfolding keptLine lineOf
     lines-stopped stopped kept =
         record {
           forward = q .forward;
@@ -204,7 +218,8 @@ module _ {m : List ℕ} {good : Bool} {s : List ℕ} {start : ℕ} {out : List �
           memory = q .memory ∙ ap (afterLines m) w;
           listed = appended-as (q .listed lines (h .counts)) (ap (listMemory (lines + 1) m) w);
           counted = ap (λ (n : ℕ). lines + n) (q .lines ∙ ap length w);
-          kept = ap (take keptRoom) k ∙ take-take keptRoom keptRoom (drop to s) (omega arith) ∙ sym (ap (take keptRoom) (l .rest));
+          kept = ap (λ (t : List ℕ). lineOf (take keptRoom t)) k ∙ ap lineOf (take-take keptRoom keptRoom (drop to s) (omega arith))
+              ∙ one-take keptRoom (drop to s) (one-begun (drop to s) (c .rest)) ∙ sym (ap (take keptRoom) (l .rest));
           all-used = λ e. refl;
           no-room = λ e. omega arith;
           stops = omega arith;

@@ -11,6 +11,7 @@ pub mod CounterLaws
 pub mod CarryLaws
 pub mod ListingLaws
 pub mod PortionLaws
+pub mod OneLineLaws
 pub mod CutLaws
 pub mod PlayLaws
 pub mod FeedLaws

@@ -1,30 +1,34 @@
 -- Lines played one after the other: what holds at each turn of the loop. Assumes nothing.
 use Prim.Native.Nat.{_+_, _<_, _≤_, ℕ, _-_}
 use native.Mathlib.Nat.{add-zero}
+use native.Mathlib.Numerals.{add-one}
+use native.Mathlib.Decide.{decLt}
 use native.Mathlib.Omega.{arith}
 use mathlib.Core.Bool.{Bool, false, true}
 use mathlib.Core.List.{List, [], _++_, _∷_, append-nil}
 use mathlib.Core.Path.{_∙_, _≡_, ap, refl, subst, sym}
-use lib.ListN.{drop, length, length-append, take}
+use lib.ListN.{drop, length, length-append, length-set, set, take}
+use lib.Seq.{length-take-le, take-all, take-append-le, take-suc-set}
 use Rattle.rules.specs.Build.{wordLimit}
 use Rattle.rules.specs.MemoryTest.{MemoryStep, isMemory, stepMemory}
 use Rattle.rules.specs.Operation.{Operation, notNode, refused}
-use Rattle.rules.specs.Script.{readLine, reportLine}
+use Rattle.rules.specs.Script.{newline, readLine, reportLine}
 use Rattle.rules.specs.Types.{operationOf, reportOf}
 use Rattle.rules.specs.declared.Report.{Report as Report·rt}
 use Rattle.rules.proofs.DemandOneLaws.{demand-one}
 use Rattle.rules.proofs.MapLaws.{test-valid}
 use Rattle.rules.proofs.RunMemory.{step-tested}
 use Rattle.memory.specs.Answers.{Answers}
-use Rattle.script.specs.Play.{part, Playable, LinePlayed, TextPlayed, PlayedTo}
+use Rattle.script.specs.Play.{part, Playable, LinePlayed, TextPlayable, TextPlayed, PlayedTo}
 use Rattle.script.specs.Feeding.{afterLines, begun, listMemory, whole}
-use Rattle.script.specs.Read.{LineRead, TextRead, lineEnd, lineOf}
-use Rattle.script.specs.Written.{Listed, silent, Counts, Appended, lineRoom}
+use Rattle.script.specs.Read.{LineRead, OneLine, lineEnd, lineOf}
+use Rattle.script.specs.Written.{Listed, silent, Counts, Counting, Appended, lineRoom}
 use Rattle.script.specs.declared.play.Played.{Played as Played·rt}
 use Rattle.script.specs.declared.read.Line.{Line as Line·rt}
-use Rattle.script.proofs.AppendedLaws.{appended-none, appended-as, appended-then}
-use Rattle.script.proofs.CutLaws.{grown, one-more, part-none}
+use Rattle.script.proofs.AppendedLaws.{appended-none, appended-as, appended-then, appended-within}
+use Rattle.script.proofs.CutLaws.{grown, one-more, part-front, part-none}
 use Rattle.script.proofs.ListingLaws.{step-listed, listed-few}
+use Rattle.script.proofs.OneLineLaws.{begun-one, ended-begun, one-take, whole-one}
 use Rattle.script.proofs.PortionLaws.{begun-nil, whole-nil, after-append, list-append}
 use Rattle.script.specs.Written as Written
 
@@ -166,22 +170,6 @@ line-played {m} {s} {from} read answers counts line few =
     }
 
 -- the same of a text of its own
-pub text-played : {m text fields out digits : List ℕ} {len : ℕ} {m′ out′ digits′ : List ℕ} {l : Line·rt} {r : Report·rt} {end len′ : ℕ}
-    → TextRead text fields l
-    → Answers m′ r (stepMemory m (operationOf (l .op) (take (l .count - 1) (drop 1 fields))))
-    → ((i : ℕ) → Counts digits len i → Counts digits′ len′ (i + 1))
-    → Written.Line digits′ len′ out 0 out′ end r → end ≤ lineRoom
-    → TextPlayed m text out digits len m′ out′ digits′ (record { used = l .next; at = end; len = len′; lines = 1; stop = 0 })
-text-played {m} {text} read answers counts line few =
-    let op = readLine text in
-    let e = ap (stepMemory m) (read .operation) in
-    record {
-      memory = answers .left ∙ ap (λ (x : MemoryStep). x .memory) e;
-      listed = λ i c. line (i + 1) (stepMemory m op .report) (counts i c) (answers .reported ∙ ap (λ (x : MemoryStep). reportOf (x .report)) e) (report-listed m op);
-      counted = counts;
-      at-most = few;
-    }
-
 -- the report has room
 pub answered-few : (m : List ℕ) (op : Operation) {m′ : List ℕ} {r : Report·rt} → Answers m′ r (stepMemory m op) → r .sent .len ≤ wordLimit
 answered-few m op a = subst (λ (x : Report·rt). x .sent .len ≤ wordLimit) (sym (a .reported)) (listed-few (report-listed m op))
@@ -214,3 +202,59 @@ played-to p q all room stops =
       no-room = λ e. subst (λ (k : ℕ). k < p .at + lineRoom) (q .same-length) (room e);
       stops = stops;
     }
+
+-- A line kept apart.
+
+-- with its newline it is a text of whole lines
+pub text-line : (text : List ℕ) (count : ℕ) → count < length text → take (count + 1) (set text count newline) ≡ take count text ++ (newline ∷ [])
+text-line text count inside = ap (λ (k : ℕ). take k (set text count newline)) (add-one count) ∙ take-suc-set text count newline inside
+
+pub text-playable : {m : List ℕ} {good : Bool} {text : List ℕ} {count : ℕ} {out digits : List ℕ} {len : ℕ} → TextPlayable m good text count out digits len
+    → Playable m good (take (count + 1) (set text count newline)) 0 out 0 digits len
+text-playable {text = text} {count = count} h =
+    let t = text-line text count (h .inside) in
+    let l : length (take (count + 1) (set text count newline)) ≡ count + 1 = length-take-le (count + 1) (set text count newline) (let s = length-set text count newline in let i = h .inside in omega arith) in
+    record {
+      known = h .known;
+      inside = omega arith;
+      lines = ap begun t ∙ ended-begun (take count text) (h .one);
+      within = omega arith;
+      counting = h .counting;
+      few = let f = h .few in omega arith;
+    }
+
+-- all of it is played, since there is room for it
+module _ {m line out digits : List ℕ} {len : ℕ} {m′ out′ digits′ : List ℕ} {p : Played·rt} (one : OneLine line) (room : lineRoom ≤ length out)
+    (counting : Counting digits len) (q : PlayedTo m (line ++ (newline ∷ [])) 0 out 0 digits len m′ out′ digits′ p) where
+  -- up to a position in the line no newline has come
+  stopped : p .used ≤ length line → ⊥
+  unfolding listMemory
+  stopped early =
+      let t : part (line ++ (newline ∷ [])) 0 (p .used) ≡ take (p .used) line =
+      part-front (line ++ (newline ∷ [])) (p .used) ∙ take-append-le (p .used) line (newline ∷ []) early in
+      let none : take (p .used) line ≡ [] = sym (begun-one (take (p .used) line) (one-take (p .used) line one)) ∙ ap begun (sym t) ∙ q .cut in
+      let w : whole (part (line ++ (newline ∷ [])) 0 (p .used)) ≡ [] = ap whole (t ∙ none) ∙ whole-nil in
+      let at = q .listed (counting .number) (counting .counts) .end in
+      let l : length (listMemory (counting .number + 1) m (whole (part (line ++ (newline ∷ [])) 0 (p .used)))) ≡ 0 =
+      ap (λ (ls : List (List ℕ)). length (listMemory (counting .number + 1) m ls)) w in
+      elim (decLt (p .stop) 1) [
+        | yes h ↦ let u = q .all-used (omega arith) in let k = length-append line (newline ∷ []) in omega arith
+        | no h ↦ let s = q .stops in let r = q .no-room (omega arith) in omega arith
+      ]
+
+  all-played : part (line ++ (newline ∷ [])) 0 (p .used) ≡ line ++ (newline ∷ [])
+  all-played =
+      part-front (line ++ (newline ∷ [])) (p .used)
+      ∙ take-all (p .used) (line ++ (newline ∷ []))
+      (let l = length-append line (newline ∷ []) in elim (decLt (length line) (p .used)) [ yes h ↦ omega arith | no h ↦ absurd (stopped (omega arith)) ])
+
+  pub text-played : TextPlayed m line out digits len m′ out′ digits′ p
+  unfolding afterLines listMemory
+  text-played =
+      let w : whole (part (line ++ (newline ∷ [])) 0 (p .used)) ≡ line ∷ [] = ap whole all-played ∙ whole-one line one in
+      record {
+        memory = q .memory ∙ ap (afterLines m) w;
+        listed = λ i c. appended-as (q .listed i c) (ap (listMemory (i + 1) m) w ∙ append-nil (reportLine (i + 1) (stepMemory m (readLine line) .report)));
+        counted = λ i c. subst (λ (ls : List (List ℕ)). Counts digits′ (p .len) (i + length ls)) w (q .counted i c);
+        within = appended-within (q .listed (counting .number) (counting .counts)) (omega arith);
+      }

@@ -7,6 +7,7 @@ use lib.ListN.{length, take, drop}
 use Rattle.rules.specs.MemoryTest.{isMemory}
 use Rattle.script.specs.Feeding.{whole, begun, linesBehind, restBehind, listMemory, afterLines}
 use Rattle.script.specs.Play.{part}
+use Rattle.script.specs.Read.{lineOf}
 use Rattle.script.specs.Written.{Appended, Counts, lineRoom}
 use Rattle.script.specs.declared.feed.State.{State as State·rt}
 use Rattle.script.specs.declared.feed.Fed.{Fed as Fed·rt}
@@ -15,9 +16,13 @@ use Rattle.script.specs.declared.feed.Fed.{Fed as Fed·rt}
 abbrev pub keptRoom : ℕ
 keptRoom = 129
 
--- the bytes that a state keeps
+-- the line that a state keeps: what has begun has no newline, and what stands behind one in a state made by hand is not looked at
 unfoldable pub keptLine : State·rt → List ℕ
-keptLine st = take keptRoom (take (st .count) (st .kept))
+keptLine st = lineOf (take keptRoom (take (st .count) (st .kept)))
+
+-- the largest line number that is counted to
+abbrev pub lastNumber : ℕ
+lastNumber = 18_446_744_073_709_551_615
 
 -- a script cut behind its last newline from a position on: up to the cut all lines are whole, and behind it there is no newline
 pub record Cut (s : List ℕ) (from to : ℕ) : Type 0 where
@@ -33,7 +38,7 @@ pub record LinesFeedable (m : List ℕ) (good : Bool) (input : List ℕ) (start 
   pub inside : start ≤ length input
   pub within : at ≤ length out
   pub counts : Counts digits len lines
-  pub few : lines + (length input - start) < 18_446_744_073_709_551_615
+  pub few : lines + (length input - start) < lastNumber
 
 -- the lines of the part that was used are played, listed and counted, and of the line that has begun behind them the first bytes are kept
 pub record LinesFed (m input : List ℕ) (start : ℕ) (out : List ℕ) (at lines : ℕ) (m′ out′ : List ℕ) (f : Fed·rt) : Type 0 where
@@ -60,6 +65,6 @@ pub record BegunFed (m b : List ℕ) (lines : ℕ) (input out m′ out′ : List
 
 -- the same for any state and memory; where fewer line numbers are left than the portion has bytes, nothing of it is used
 pub record FedTo (m : List ℕ) (st : State·rt) (input out m′ out′ : List ℕ) (f : Fed·rt) : Type 0 where
-  pub enough : st .lines + length input < 18_446_744_073_709_551_615 → BegunFed m (keptLine st) (st .lines) input out m′ out′ f
-  pub last-number : 18_446_744_073_709_551_615 ≤ st .lines + length input
+  pub enough : st .lines + length input < lastNumber → BegunFed m (keptLine st) (st .lines) input out m′ out′ f
+  pub last-number : lastNumber ≤ st .lines + length input
       → (m′ ≡ m) × ((out′ ≡ out) × (f ≡ record { state = st; used = 0; written = 0; stop = 2 }))

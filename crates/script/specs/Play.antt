@@ -8,7 +8,7 @@ use Rattle.rules.specs.MemoryTest.{isMemory, stepMemory}
 use Rattle.rules.specs.Script.{readLine, reportLine}
 use Rattle.script.specs.Feeding.{whole, begun, listMemory, afterLines}
 use Rattle.script.specs.Written.{Appended, Counts, Counting, Countable, lastCount, lineRoom}
-use Rattle.script.specs.Read.{fieldRoom, lineOf, lineEnd}
+use Rattle.script.specs.Read.{OneLine, fieldRoom, lineOf, lineEnd}
 use Rattle.script.specs.declared.play.Played.{Played as Played·rt}
 
 -- memory of which it is known whether it is a node, whole lines from a position on, an output written up to a place, and a line
@@ -38,17 +38,21 @@ pub record LinePlayed (m s : List ℕ) (from : ℕ) (out : List ℕ) (at : ℕ) 
   pub at-most : p .at ≤ at + lineRoom
   pub going : p .stop ≡ 0
 
--- the same for a line that is a text of its own, listed at the beginning of the output
-pub record TextPlayable (m : List ℕ) (good : Bool) (out digits : List ℕ) (len : ℕ) : Type 0 where
+-- the same for a line kept apart, which fills the first `count` places of a text with a place for its newline; it is listed at the beginning
+-- of the output
+pub record TextPlayable (m : List ℕ) (good : Bool) (text : List ℕ) (count : ℕ) (out digits : List ℕ) (len : ℕ) : Type 0 where
   pub known : isMemory m ≡ good
+  pub inside : count < length text
+  pub one : OneLine (take count text)
   pub room : lineRoom ≤ length out
-  pub countable : Countable digits len
+  pub counting : Counting digits len
+  pub few : counting .number + count < lastCount
 
-pub record TextPlayed (m text out digits : List ℕ) (len : ℕ) (m′ out′ digits′ : List ℕ) (p : Played·rt) : Type 0 where
-  pub memory : m′ ≡ stepMemory m (readLine text) .memory
-  pub listed : (i : ℕ) → Counts digits len i → Appended out 0 out′ (p .at) (reportLine (i + 1) (stepMemory m (readLine text) .report))
+pub record TextPlayed (m line out digits : List ℕ) (len : ℕ) (m′ out′ digits′ : List ℕ) (p : Played·rt) : Type 0 where
+  pub memory : m′ ≡ stepMemory m (readLine line) .memory
+  pub listed : (i : ℕ) → Counts digits len i → Appended out 0 out′ (p .at) (reportLine (i + 1) (stepMemory m (readLine line) .report))
   pub counted : (i : ℕ) → Counts digits len i → Counts digits′ (p .len) (i + 1)
-  pub at-most : p .at ≤ lineRoom
+  pub within : p .at ≤ length out
 
 -- the bytes from one position to another
 unfoldable pub part : List ℕ → ℕ → ℕ → List ℕ

@@ -10,7 +10,7 @@ use Rattle.rules.specs.Memory.{size}
 use Rattle.rules.specs.MemoryTest.{powerOnMemory}
 use Rattle.rules.specs.Script.{header, listing, newline}
 use Rattle.script.specs.Feeding.{begun}
-use Rattle.script.specs.Feed.{keptLine, FedTo}
+use Rattle.script.specs.Feed.{keptLine, lastNumber, FedTo}
 use Rattle.script.specs.declared.feed.Fed.{Fed as Fed·rt}
 use Rattle.script.specs.declared.feed.State.{State as State·rt}
 
@@ -43,7 +43,7 @@ unfoldable pub Feeds : List ℕ → State·rt → List Portion → Type 0
 Feeds m st [] = Unit
 Feeds m st (p ∷ ps) =
     FedTo m st (p .input) (p .output) (p .memory-after) (p .output-after) (p .fed)
-    × ((st .lines + length (p .input) < 18_446_744_073_709_551_615) × Feeds (p .memory-after) (p .fed .state) ps)
+    × ((st .lines + length (p .input) < lastNumber) × Feeds (p .memory-after) (p .fed .state) ps)
 
 -- a script whose last line has its newline: at the end of the input one is fed where a line has begun
 unfoldable pub endedScript : List ℕ → List ℕ

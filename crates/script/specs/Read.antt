@@ -26,6 +26,10 @@ unfoldable pub lineOf : List ℕ → List ℕ
 lineOf [] = []
 lineOf (x ∷ xs) = elim (eqb x newline) [ true ↦ [] | false ↦ x ∷ lineOf xs ]
 
+-- a text without a newline is the line that it begins with
+abbrev pub OneLine : List ℕ → Type 0
+OneLine t = lineOf t ≡ t
+
 -- where the line ends that begins at a position: at its newline, or at the end of the text
 unfoldable pub lineEnd : List ℕ → ℕ → ℕ
 lineEnd s at = at + length (lineOf (drop at s))

@@ -11,10 +11,11 @@ use crate::write::put_number;
 use crate::write::put_text;
 use validate::is_node;
 ghost use mathlib.Core.Path.{_≡_};
-ghost use mathlib.Core.List.{List, [], _++_};
-ghost use Prim.Native.Nat.{ℕ, _≤_};
+ghost use mathlib.Core.List.{[], _++_};
+ghost use Prim.Native.Nat.{_≤_, _<_};
 ghost use lib.ListN.{length, take};
 ghost use Rattle.script.specs.Feed.{keptRoom, keptLine, Cut, LinesFeedable, LinesFed, BegunFed, FedTo};
+ghost use Rattle.script.specs.Read.{OneLine, lineOf};
 
 // Feeding stopped because fewer line numbers are left than the portion has bytes.
 pub const LAST_NUMBER: u32 = 2;
@@ -22,10 +23,13 @@ pub const LAST_NUMBER: u32 = 2;
 // How many bytes of a line that has begun are kept: one more than a line may have, since a longer one can't be read whatever follows.
 pub const KEPT: usize = 129;
 
+// And a place for its newline.
+pub const KEPT_LINE: usize = 130;
+
 // What is carried from portion to portion: how many lines were played, and what is kept of the line that has begun.
 pub struct State {
     pub lines: u64,
-    pub kept: [u8; KEPT],
+    pub kept: [u8; KEPT_LINE],
     pub count: usize,
 }
 
@@ -44,7 +48,7 @@ impl State {
     {
         State {
             lines: 0,
-            kept: [0u8; KEPT],
+            kept: [0u8; KEPT_LINE],
             count: 0,
         }
     }
@@ -52,7 +56,7 @@ impl State {
 
 // A text behind what is kept, as far as there is room.
 fn keep(kept: &mut [u8], count: usize, text: &[u8]) -> usize
-    requires { ⌜ (length (now kept) ≡ keptRoom) × (count ≤ keptRoom) ⌝ }
+    requires { ⌜ (keptRoom ≤ length (now kept)) × (count ≤ keptRoom) ⌝ }
     ensures { λ r. ⌜ (take r (now (kept .exit)) ≡ take keptRoom (take count (now (kept .entry)) ++ now (text .entry))) × (r ≤ keptRoom) ⌝ }
 {
     let room = KEPT - count;
@@ -98,7 +102,7 @@ fn feed_lines(
         return Fed {
             state: State {
                 lines: lines + p.lines as u64,
-                kept: [0u8; KEPT],
+                kept: [0u8; KEPT_LINE],
                 count: 0,
             },
             used: p.used,
@@ -106,7 +110,7 @@ fn feed_lines(
             stop: p.stop,
         };
     }
-    let mut kept = [0u8; KEPT];
+    let mut kept = [0u8; KEPT_LINE];
     let count = keep(&mut kept, 0, &input[last..]);
     Fed {
         state: State {
@@ -124,7 +128,7 @@ fn feed_lines(
 fn feed_begun(
     memory: &mut [u32],
     good: bool,
-    kept: [u8; KEPT],
+    kept: [u8; KEPT_LINE],
     count: usize,
     lines: u64,
     input: &[u8],
@@ -132,7 +136,8 @@ fn feed_begun(
     digits: &mut [u8; PLACES],
     len: usize,
 ) -> Fed
-    requires { ⌜ (count ≤ keptRoom) × (length kept ≡ keptRoom) ⌝ }
+    requires { ⌜ (count ≤ keptRoom) × (keptRoom < length kept) ⌝ }
+    requires { ⌜ OneLine (take count kept) ⌝ }
     requires { ⌜ LinesFeedable (now memory) good (now input) 0 (now out) 0 (now digits) len lines ⌝ }
     ensures { λ f. ⌜ BegunFed (now (memory .entry)) (take count kept) lines (now (input .entry)) (now (out .entry)) (now (memory .exit)) (now (out .exit)) f ⌝ }
 {
@@ -163,7 +168,7 @@ fn feed_begun(
             stop: NO_ROOM,
         };
     }
-    let p = play_text(memory, good, &line[0..grown], out, digits, len);
+    let p = play_text(memory, good, &mut line, grown, out, digits, len);
     feed_lines(
         memory,
         good,
@@ -177,14 +182,15 @@ fn feed_begun(
     )
 }
 
-// A count of bytes kept, which may be any in a state that was made by hand: at most all.
-fn at_most_kept(count: usize) -> usize
-    ensures { λ r. ⌜ (r ≤ keptRoom) × ((l : List ℕ) → length l ≡ keptRoom → take r l ≡ take keptRoom (take count l)) ⌝ }
+// How long the line is that a state keeps: a state made by hand may have any count, and a newline among its bytes.
+fn kept_count(kept: &[u8], count: usize) -> usize
+    requires { ⌜ keptRoom ≤ length (now kept) ⌝ }
+    ensures { λ r. ⌜ (r ≤ keptRoom) × (take r (now (kept .entry)) ≡ lineOf (take keptRoom (take count (now (kept .entry))))) ⌝ }
 {
     if count > KEPT {
-        return KEPT;
+        return end_of_line(&kept[0..KEPT], 0);
     }
-    count
+    end_of_line(&kept[0..count], 0)
 }
 
 // The next portion of a script: the lines that it completes are stepped on the memory and listed from the beginning of the output, and the line
@@ -213,7 +219,7 @@ pub fn feed(memory: &mut [u32], state: State, input: &[u8], out: &mut [u8]) -> F
     if state.count == 0 {
         return feed_lines(memory, good, input, 0, out, 0, &mut digits, len, lines);
     }
-    let count = at_most_kept(state.count);
+    let count = kept_count(&kept, state.count);
     feed_begun(
         memory,
         good,

@@ -1,17 +1,13 @@
 // Lines of a script played on lent memory: each read to its operation, stepped, and listed.
 use crate::read;
 use crate::read::FIELDS;
+use crate::read::NEWLINE;
 use crate::write;
 use crate::write::PLACES;
-use node::step_node;
-use rules::Operation;
-use rules::Report;
+use node::step_known;
 ghost use mathlib.Core.Path.{_≡_};
 ghost use Prim.Native.Nat.{_-_, _≤_};
 ghost use lib.ListN.{length, take, drop};
-ghost use Rattle.rules.specs.MemoryTest.{isMemory, stepMemory};
-ghost use Rattle.rules.specs.Types.{operationOf};
-ghost use Rattle.memory.specs.Answers.{Answers};
 ghost use Rattle.script.specs.Play.{LinePlayable, LinePlayed, TextPlayable, TextPlayed, Playable, PlayedTo};
 
 // Why playing stopped: all was used, or the output has no room for one more line.
@@ -27,17 +23,6 @@ pub struct Played {
     pub len: usize,
     pub lines: usize,
     pub stop: u32,
-}
-
-// A step on memory of which it is known whether it is a node.
-pub fn step_known(memory: &mut [u32], good: bool, op: Operation, words: &[u32]) -> Report
-    requires { ⌜ isMemory (now memory) ≡ good ⌝ }
-    ensures { λ rep. ⌜ Answers (now (memory .exit)) rep (stepMemory (now (memory .entry)) (operationOf op (now (words .entry)))) ⌝ }
-{
-    if !good {
-        return Report::refused(Report::NOT_NODE);
-    }
-    step_node(memory, op, words)
 }
 
 // The words of an arrival: the fields behind the first.
@@ -72,34 +57,6 @@ fn play_line(
     let r = step_known(memory, good, op, words_of(fields, count));
     let digits_len = write::next(digits, len);
     let end = write::put_line(out, at, digits, digits_len, r);
-    Played {
-        used: l.next,
-        at: end,
-        len: digits_len,
-        lines: 1,
-        stop: ALL_USED,
-    }
-}
-
-// One line that is a text of its own: read, stepped and listed at the beginning of the output.
-pub fn play_text(
-    memory: &mut [u32],
-    good: bool,
-    text: &[u8],
-    out: &mut [u8],
-    digits: &mut [u8; PLACES],
-    len: usize,
-) -> Played
-    requires { ⌜ TextPlayable (now memory) good (now out) (now digits) len ⌝ }
-    ensures { λ p. ⌜ TextPlayed (now (memory .entry)) (now (text .entry)) (now (out .entry)) (now (digits .entry)) len (now (memory .exit)) (now (out .exit)) (now (digits .exit)) p ⌝ }
-{
-    let mut fields = [0u32; FIELDS];
-    let l = read::read(text, &mut fields);
-    let op = l.op;
-    let count = l.count;
-    let r = step_known(memory, good, op, words_of(&fields, count));
-    let digits_len = write::next(digits, len);
-    let end = write::put_line(out, 0, digits, digits_len, r);
     Played {
         used: l.next,
         at: end,
@@ -151,4 +108,21 @@ pub fn play(
         p.lines = lines;
     }
     p
+}
+
+// A line kept apart: it gets its newline, and is played as any text is, so that the step has one place in the code.
+pub fn play_text(
+    memory: &mut [u32],
+    good: bool,
+    text: &mut [u8],
+    count: usize,
+    out: &mut [u8],
+    digits: &mut [u8; PLACES],
+    len: usize,
+) -> Played
+    requires { ⌜ TextPlayable (now memory) good (now text) count (now out) (now digits) len ⌝ }
+    ensures { λ p. ⌜ TextPlayed (now (memory .entry)) (take count (now (text .entry))) (now (out .entry)) (now (digits .entry)) len (now (memory .exit)) (now (out .exit)) (now (digits .exit)) p ⌝ }
+{
+    text[count] = NEWLINE;
+    play(memory, good, &text[0..count + 1], 0, out, 0, digits, len)
 }

@@ -12,11 +12,11 @@ pub const FIELDS: usize = 64;
 
 pub const NEWLINE: u8 = 10;
 
-const COMMA: u8 = 44;
+pub const COMMA: u8 = 44;
 
-const ZERO: u8 = 48;
+pub const ZERO: u8 = 48;
 
-const NINE: u8 = 57;
+pub const NINE: u8 = 57;
 
 // A line is read up to this many bytes, its newline not counted.
 const LINE_LIMIT: usize = 128;

@@ -1,4 +1,8 @@
 // The listing written: numbers, the line number kept as text, a report's line and the header.
+use crate::read::COMMA;
+use crate::read::NEWLINE;
+use crate::read::NINE;
+use crate::read::ZERO;
 use rules::Report;
 use rules::Sent;
 ghost use Prim.Native.Nat.{ℕ, _+_, _≤_, _<_};
@@ -12,15 +16,7 @@ ghost use Rattle.script.specs.Written.{fields, sentNumbers, behindNumber
 // The places that a line number has.
 pub const PLACES: usize = 20;
 
-const ZERO: u8 = 48;
-
 const ONE: u8 = 49;
-
-const NINE: u8 = 57;
-
-const COMMA: u8 = 44;
-
-const NEWLINE: u8 = 10;
 
 // The decimal digits of n: those of its tenth, then the last.
 pub fn put_number(out: &mut [u8], at: usize, n: u64) -> usize
@@ -68,14 +64,16 @@ pub fn next(digits: &mut [u8; PLACES], len: usize) -> usize
     len
 }
 
-// The line number. All twenty places are copied, which is faster than to copy some; what stands behind the number is written over next.
+// The line number. All twenty places are copied, from an array that the output can't overlap, which is faster than to copy some; what stands
+// behind the number is written over next.
 pub fn put_counter(out: &mut [u8], at: usize, digits: &[u8; PLACES], len: usize) -> usize
     requires { ⌜ at + places ≤ length (now out) ⌝ ∗ ⌜ Counting (now digits) len ⌝ }
     ensures { λ end. ⌜ ((i : ℕ) → Counts (now (digits .entry)) len i → Appended (now (out .entry)) at (now (out .exit)) end (decimal i)) ⌝ }
 {
+    let text = *digits;
     let mut j = 0;
     while j < PLACES {
-        out[at + j] = digits[j];
+        out[at + j] = text[j];
         j += 1;
     }
     at + len

@@ -4,6 +4,7 @@ pub mod PartLaws
 pub mod ListedLaws
 pub mod OnceLaws
 pub mod WalkLaws
+pub mod MaskLaws
 pub mod PlaceLaws
 pub mod CountLaws
 pub mod LineLaws

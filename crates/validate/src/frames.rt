@@ -10,21 +10,25 @@ use memory::map::WORDS;
 use memory::map::group_at;
 use memory::map::group_word;
 use memory::map::place_at;
-use memory::words::zeros;
 ghost use mathlib.Core.Path.{_≡_};
 ghost use mathlib.Core.Bool.{true};
-ghost use Prim.Native.Nat.{ℕ, _+_, _≤_};
+ghost use Prim.Native.Nat.{ℕ, _+_, _-_, _≤_};
 ghost use lib.Dec.{eqb};
 ghost use lib.ListN.{length};
 ghost use Rattle.rules.specs.Lists.{all, upFrom};
 ghost use Rattle.rules.specs.Build.{groupCount};
 ghost use Rattle.rules.specs.Memory.{size, placeStride, placeAt, nodeAt};
+ghost use Rattle.rules.specs.MemoryTest.{zeroAt};
 ghost use Rattle.rules.specs.Valid.{isWaiting, frameNumbers};
 ghost use Rattle.validate.specs.Clauses.{listStart, listCount, framesOnce, waitingGood, numbersGood, framesGood};
 ghost use Rattle.validate.specs.Known.{Counted, Framed};
+ghost use Rattle.validate.specs.Masks.{pastMasks};
 
 // How many frames there are, for an array of them.
 const FRAMES: usize = 32;
+
+// How many masks there are: twice a message's words.
+const MASKS: usize = 16;
 
 // Where list g of frame numbers begins: the free line for 0, else the list of group g.
 fn list_at(g: u32) -> usize
@@ -95,9 +99,51 @@ fn frames_once(m: &[u32]) -> bool
     once
 }
 
+// Masks: eight that leave nothing of a word, then eight that leave all of it. The eight from WORDS - len on hide the first len words of a message.
+fn past_masks() -> [u32; MASKS]
+    ensures { λ r. ⌜ r ≡ pastMasks ⌝ }
+{
+    [
+        0,
+        0,
+        0,
+        0,
+        0,
+        0,
+        0,
+        0,
+        u32::MAX,
+        u32::MAX,
+        u32::MAX,
+        u32::MAX,
+        u32::MAX,
+        u32::MAX,
+        u32::MAX,
+        u32::MAX,
+    ]
+}
+
+// Of the eight words from address a on, those past the first len are 0: the | of all eight is, each under its mask. No branch depends on the
+// length or on a word.
+fn past_zero(m: &[u32], a: usize, len: usize, masks: &[u32; MASKS]) -> bool
+    requires { ⌜ a + 8 ≤ length (now m) ⌝ }
+    requires { ⌜ len ≤ 8 ⌝ }
+    requires { ⌜ now masks ≡ pastMasks ⌝ }
+    ensures { λ t. ⌜ zeroAt (now (m .entry)) (a + len) (8 - len) ≡ t ⌝ }
+{
+    let mut sum: u32 = 0;
+    let mut j: usize = 0;
+    while j < WORDS {
+        sum = sum | (m[a + j] & masks[WORDS - len + j]);
+        j += 1;
+    }
+    sum == 0
+}
+
 // A message waits in the place at address a: its length is 1 to 8, and the words past it are 0.
-fn place_waiting(m: &[u32], a: usize) -> bool
+fn place_waiting(m: &[u32], a: usize, masks: &[u32; MASKS]) -> bool
     requires { ⌜ a + placeStride ≤ length (now m) ⌝ }
+    requires { ⌜ now masks ≡ pastMasks ⌝ }
     ensures { λ t. ⌜ isWaiting (placeAt (now (m .entry)) a) ≡ t ⌝ }
 {
     let len = m[a];
@@ -107,12 +153,13 @@ fn place_waiting(m: &[u32], a: usize) -> bool
     if len > Node::WORDS {
         return false;
     }
-    zeros(m, a + 1 + len as usize, WORDS - len as usize)
+    past_zero(m, a + 1, len as usize, masks)
 }
 
 // "waiting messages' lengths"; "a waiting message's words past its length are 0": of those in the buffer of group g
-fn waiting_good(m: &[u32], g: u32) -> bool
+fn waiting_good(m: &[u32], g: u32, masks: &[u32; MASKS]) -> bool
     requires { ⌜ Framed (now m) g ⌝ }
+    requires { ⌜ now masks ≡ pastMasks ⌝ }
     ensures { λ t. ⌜ waitingGood (now (m .entry)) g ≡ t ⌝ }
 {
     let used = group_word(m, g, USED);
@@ -121,7 +168,7 @@ fn waiting_good(m: &[u32], g: u32) -> bool
     while p < end {
         let f = group_word(m, g, LIST + (p / Node::PER_FRAME) as usize);
         let at = place_at(f, p % Node::PER_FRAME);
-        if !place_waiting(m, at) {
+        if !place_waiting(m, at, masks) {
             return false;
         }
         p += 1;
@@ -134,9 +181,10 @@ fn waitings_good(m: &[u32]) -> bool
     requires { ⌜ ((g : ℕ) → 1 ≤ g → g ≤ groupCount → Framed (now m) g) ⌝ }
     ensures { λ t. ⌜ all (waitingGood (now (m .entry))) (upFrom 1 groupCount) ≡ t ⌝ }
 {
+    let masks = past_masks();
     let mut g: u32 = 1;
     while g <= Node::GROUPS {
-        if !waiting_good(m, g) {
+        if !waiting_good(m, g, &masks) {
             return false;
         }
         g += 1;

@@ -5,7 +5,7 @@ use std::process::ExitCode;
 
 use judge::counts::Counts;
 use judge::generator::{Flavour, FLAVOURS};
-use judge::program::{finish, misused};
+use judge::program::{arguments, finish, met_all, misused, number};
 
 const NAME: &str = "scripts";
 const USAGE: &str = "\
@@ -25,10 +25,7 @@ enum Call {
 }
 
 fn main() -> ExitCode {
-    let arguments: Vec<String> = std::env::args_os()
-        .skip(1)
-        .map(|argument| argument.to_string_lossy().into_owned())
-        .collect();
+    let arguments = arguments();
     let arguments: Vec<&str> = arguments.iter().map(String::as_str).collect();
     match understand(&arguments) {
         Ok(call) => finish(NAME, run(call, BufWriter::new(io::stdout().lock()))),
@@ -50,12 +47,6 @@ fn understand(arguments: &[&str]) -> Result<Call, String> {
     })
 }
 
-fn number(argument: &str) -> Result<u64, String> {
-    argument
-        .parse()
-        .map_err(|_| format!("not a number: {argument}"))
-}
-
 fn flavour(name: &str) -> Result<&'static Flavour, String> {
     Flavour::named(name).ok_or_else(|| format!("no such flavour: {name}"))
 }
@@ -71,7 +62,7 @@ fn run(call: Call, mut output: impl Write) -> io::Result<ExitCode> {
             writeln!(output, "{counts}")?;
             // One flavour alone need not meet everything.
             if flavours.len() == FLAVOURS.len() {
-                code = verdict(&counts);
+                code = met_all(NAME, &counts);
             }
         }
     }
@@ -92,13 +83,4 @@ fn count(seed: u64, lines: u64, flavours: &[Flavour]) -> io::Result<Counts> {
         counts.add_script(flavour.script(seed, lines).as_slice())?;
     }
     Ok(counts)
-}
-
-fn verdict(counts: &Counts) -> ExitCode {
-    let missing = counts.missing();
-    if missing.is_empty() {
-        return ExitCode::SUCCESS;
-    }
-    eprintln!("{NAME}: not met: {}", missing.join(", "));
-    ExitCode::FAILURE
 }

@@ -1,5 +1,7 @@
 //! The random scripts: fixed by their seed, and leading where their flavour says.
 
+use std::io;
+
 use judge::counts::Counts;
 use judge::generator::{Flavour, FLAVOURS};
 use judge::random::Random;
@@ -35,7 +37,7 @@ fn a_script_has_as_many_lines_as_asked_for() {
             let script = flavour.script(lines, lines);
             script::run(script.as_slice(), |_, _| {
                 met += 1;
-                Ok(())
+                Ok::<(), io::Error>(())
             })
             .expect("memory is read without error");
             assert_eq!(met, lines, "{}", flavour.name);

@@ -1,6 +1,7 @@
 //! The judge's own tests: every case that the paper gives.
 
 mod cases;
+mod comparisons;
 mod generator;
 mod memory;
 mod private_line;

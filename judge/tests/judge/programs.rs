@@ -1,4 +1,4 @@
-//! The two programs as they are called: streams, arguments and exit codes.
+//! `judge` and `scripts` as they are called: streams, arguments and exit codes.
 
 use std::io::Write;
 use std::process::{Command, Output, Stdio};

@@ -1,31 +1,35 @@
--- `script::play::play_text` meets its contract: the text is read, stepped and listed with the next number. Assumes nothing.
-use Rattle.script.proofs.PlayLaws.{answered-few, text-played}
+-- `script::play::play_text` meets its contract: with its newline the line is a text of one line. Assumes nothing.
+use Prim.Native.Nat.{_+_, _-_}
+use native.Mathlib.Omega.{arith}
+use mathlib.Core.List.{[], _∷_, _++_}
+use mathlib.Core.Path.{_≡_}
+use lib.ListN.{length-set, set, take}
+use Rattle.rules.specs.Script.{newline}
+use Rattle.script.proofs.PlayLaws.{text-line, text-playable, text-played}
 use borrow.Author.Needs.{needs}
 use Rattle.script.proofs.play.play_text.Statement.{statement}
 use Rattle.script.proofs.play.play_text.Tie as tie
 
-slice-aggregate-read : tie.Need-slice-aggregate-read
-slice-aggregate-read c = search needs
+slice-write-text : tie.Need-slice-write-text
+slice-write-text c = search needs
 
-read-requires : tie.Need-read-requires
-read-requires c κs = search needs
+add-play : tie.Need-add-play
+add-play c = search needs
 
-slice-aggregate-words-of : tie.Need-slice-aggregate-words-of
-slice-aggregate-words-of c = search needs
+sub-play : tie.Need-sub-play
+sub-play c = search needs
 
-words-of-requires : tie.Need-words-of-requires
-words-of-requires c κs = search needs
+part-play-start : tie.Need-part-play-start
+part-play-start c = search needs
 
-step-known-requires : tie.Need-step-known-requires
-step-known-requires c κs = search needs
+part-play-end : tie.Need-part-play-end
+part-play-end c = let s = c .before .before .before .before .before in let i = s .pre .inside in let l = length-set (s .args .text .now) (s .args .count) newline in omega arith
 
-next-requires : tie.Need-next-requires
-next-requires c κs = search needs
-
-put-line-requires : tie.Need-put-line-requires
-put-line-requires c κs =
-    let s = c .before .before .before .before .before .before .before .before .before .before .before .before .before .before .before .before in
-    (s .pre .room, (record { number = _; counts = c .before .before .next .ensures _ (s .pre .countable .counts) }, answered-few _ _ (c .before .before .before .before .before .before .step-known .ensures)))
+play-requires : tie.Need-play-requires
+play-requires c κs =
+    let s = c .before .before .before .before .before .before .before .before in
+    let z : s .args .count + 1 - 0 ≡ s .args .count + 1 = omega arith in
+    rw z (text-playable (s .pre))
 
 same-length : tie.Need-same-length
 same-length c = search needs
@@ -33,22 +37,28 @@ same-length c = search needs
 same-length-2 : tie.Need-same-length-2
 same-length-2 c = search needs
 
+same-length-3 : tie.Need-same-length-3
+same-length-3 c = search needs
+
 returns : tie.Need-returns
 returns c =
-    text-played (c .before .before .before .before .before .before .before .before .before .before .before .before .before .before .read .ensures) (rw (c .before .before .before .before .before .before .before .before .before .before .words-of .ensures) at (c .before .before .before .before .before .before .before .before .before .step-known .ensures)) (c .before .before .before .before .before .next .ensures) (c .before .before .put-line .ensures .0)
-    (c .before .before .put-line .ensures .1)
+    let s = c .before .before .before .before .before .before .before .before .before .before .before .before .before in
+    let z : s .args .count + 1 - 0 ≡ s .args .count + 1 = omega arith in
+    let l : take (s .args .count + 1 - 0) (set (s .args .text .now) (s .args .count) newline) ≡ take (s .args .count) (s .args .text .now) ++ (newline ∷ []) =
+    rw z (text-line (s .args .text .now) (s .args .count) (s .pre .inside)) in
+    text-played (s .pre .one) (s .pre .room) (s .pre .counting) (rw l at (c .before .before .before .before .play .ensures))
 
 pub play-text-spec : {M : Type 1} → statement M
 play-text-spec =
     tie.close
     (tie.spec
-    slice-aggregate-read
-    read-requires
-    slice-aggregate-words-of
-    words-of-requires
-    step-known-requires
-    next-requires
-    put-line-requires
+    slice-write-text
+    add-play
+    sub-play
+    part-play-start
+    part-play-end
+    play-requires
     same-length
     same-length-2
+    same-length-3
     returns)

@@ -19,30 +19,21 @@ returns-2 : tie.Need-returns-2
 unfolding word
 returns-2 c = let s = c .before .before .before .before .args in place-over (s .m .now) (s .a) (c .before .if1 .left) (c .if2 .taken)
 
-add-zeros : tie.Need-add-zeros
-add-zeros c = search needs
+add-past-zero : tie.Need-add-past-zero
+add-past-zero c = search needs
 
-cast-zeros : tie.Need-cast-zeros
-cast-zeros c = search needs
+cast-past-zero : tie.Need-cast-past-zero
+cast-past-zero c = search needs
 
-add-zeros-2 : tie.Need-add-zeros-2
-add-zeros-2 c = search needs
-
-cast-zeros-2 : tie.Need-cast-zeros-2
-cast-zeros-2 c = search needs
-
-sub-zeros : tie.Need-sub-zeros
-sub-zeros c = search needs
-
-zeros-requires : tie.Need-zeros-requires
-zeros-requires c κs = search needs
+past-zero-requires : tie.Need-past-zero-requires
+past-zero-requires c κs = search needs
 
 returns-3 : tie.Need-returns-3
 unfolding word
 returns-3 c =
     let d = c .before in
     let s = d .before .before .before .before .args in
-    place-within (s .m .now) (s .a) _ (d .before .if1 .left) (d .if2 .left) (c .zeros .ensures)
+    place-within (s .m .now) (s .a) _ (d .before .if1 .left) (d .if2 .left) (c .past-zero .ensures)
 
 pub place-waiting-spec : {M : Type 1} → statement M
 place-waiting-spec =
@@ -52,10 +43,7 @@ place-waiting-spec =
     shared-slice-read-len
     returns
     returns-2
-    add-zeros
-    cast-zeros
-    add-zeros-2
-    cast-zeros-2
-    sub-zeros
-    zeros-requires
+    add-past-zero
+    cast-past-zero
+    past-zero-requires
     returns-3)

@@ -11,10 +11,10 @@ use Rattle.validate.proofs.frames.waiting_good.Statement.{statement}
 use Rattle.validate.proofs.frames.waiting_good.Tie as tie
 
 abbrev Inv-loop : tie.InvT-loop
-Inv-loop m g used end p₀ p = (used ≤ p) × ((p ≤ end) × Passed (waitingAt m g) used p)
+Inv-loop m g masks used end p₀ p = (used ≤ p) × ((p ≤ end) × Passed (waitingAt m g) used p)
 
 abbrev μ-loop : tie.MeasureT-loop
-μ-loop m g used end p₀ p = end - p
+μ-loop m g masks used end p₀ p = end - p
 
 group-word-requires : tie.Need-group-word-requires Inv-loop μ-loop
 group-word-requires c κs = search needs
@@ -25,7 +25,7 @@ group-word-requires-2 c κs = search needs
 add-end : tie.Need-add-end Inv-loop μ-loop
 add-end c =
     let s = c .before .before .before in
-    omega (arith, room (s .args .m .now) (s .args .g) (s .pre))
+    omega (arith, room (s .args .m .now) (s .args .g) (s .pre .0))
 
 loop-holds : tie.Need-loop-holds Inv-loop μ-loop
 loop-holds c = (omega arith, (omega arith, passed-none _ _))
@@ -42,20 +42,20 @@ cast-group-word c = omega arith
 add-group-word : tie.Need-add-group-word Inv-loop μ-loop
 add-group-word c =
     let s = c .before .before .before .before .before in
-    omega (arith, listed-inside (s .args .m .now) (s .args .g) (s .pre) (c .before .loop .p) (within c))
+    omega (arith, listed-inside (s .args .m .now) (s .args .g) (s .pre .0) (c .before .loop .p) (within c))
 
 group-word-requires-3 : tie.Need-group-word-requires-3 Inv-loop μ-loop
 group-word-requires-3 c κs =
     let s = c .before .before .before .before .before in
-    let inside = listed-inside (s .args .m .now) (s .args .g) (s .pre) (c .before .loop .p) (within c) in
-    record { long = s .pre .long; low = s .pre .low; high = s .pre .high; inside = inside }
+    let inside = listed-inside (s .args .m .now) (s .args .g) (s .pre .0) (c .before .loop .p) (within c) in
+    record { long = s .pre .0 .long; low = s .pre .0 .low; high = s .pre .0 .high; inside = inside }
 
 -- the frame of place p
 frame : (c : tie.After-group-word3 Inv-loop μ-loop) → c .group-word3 .result < 32
 frame c =
     let d = c .before in
     let s = d .before .before .before .before .before in
-    listed-frame (s .args .m .now) (s .args .g) (s .pre) (d .before .loop .p) (within d) (c .group-word3 .result) (c .group-word3 .ensures)
+    listed-frame (s .args .m .now) (s .args .g) (s .pre .0) (d .before .loop .p) (within d) (c .group-word3 .result) (c .group-word3 .ensures)
 
 place-at-requires : tie.Need-place-at-requires Inv-loop μ-loop
 place-at-requires c κs = (frame c, omega arith)
@@ -63,7 +63,8 @@ place-at-requires c κs = (frame c, omega arith)
 place-waiting-requires : tie.Need-place-waiting-requires Inv-loop μ-loop
 place-waiting-requires c κs =
     let d = c .before in
-    omega (arith, place-inside (d .group-word3 .result) _ (c .place-at .result) (frame d) (omega arith) (c .place-at .ensures))
+    let masks = d .before .before .before .before .before .before .pre .1 in
+    (omega (arith, place-inside (d .group-word3 .result) _ (c .place-at .result) (frame d) (omega arith) (c .place-at .ensures)), masks)
 
 -- what the test of place p tells
 tested : (c : tie.After-place-waiting Inv-loop μ-loop)
@@ -73,7 +74,7 @@ tested : (c : tie.After-place-waiting Inv-loop μ-loop)
 tested c =
     let d = c .before .before .before in
     let s = d .before .before .before .before .before in
-    place-tested (s .args .m .now) (s .args .g) (s .pre) (d .before .loop .p) (within d) (c .before .before .group-word3 .result)
+    place-tested (s .args .m .now) (s .args .g) (s .pre .0) (d .before .loop .p) (within d) (c .before .before .group-word3 .result)
     (c .before .place-at .result) _ (c .before .before .group-word3 .ensures) (c .before .place-at .ensures) (c .place-waiting .ensures)
 
 returns : tie.Need-returns Inv-loop μ-loop
@@ -82,14 +83,14 @@ returns c =
     let s = d .before .before .before .before .before in
     let m = s .args .m .now in
     let a = groupAddress (s .args .g) in
-    waiting-places m (s .args .g) (s .pre)
+    waiting-places m (s .args .g) (s .pre .0)
     ∙ failed-all (waitingAt m (s .args .g)) (word m (a + usedOffset)) (d .before .loop .p) (word m (a + countOffset)) (omega arith) (omega arith)
     (refused (tested (c .before)) (c .if1 .taken))
 
 add-p : tie.Need-add-p Inv-loop μ-loop
 add-p c =
     let s = c .before .before .before .before .before .before .before .before .before in
-    omega (arith, room (s .args .m .now) (s .args .g) (s .pre), s .pre .few)
+    omega (arith, room (s .args .m .now) (s .args .g) (s .pre .0), s .pre .0 .few)
 
 loop-less : tie.Need-loop-less Inv-loop μ-loop
 loop-less c = omega arith
@@ -104,7 +105,7 @@ returns-2 c =
     let s = c .before .before .before .before .before in
     let first = c .before .before .before .group-word .ensures in
     let many = c .before .before .group-word2 .ensures in
-    waiting-places (s .args .m .now) (s .args .g) (s .pre)
+    waiting-places (s .args .m .now) (s .args .g) (s .pre .0)
     ∙ rw (← first, ← many) (passed-all _ _ _ (c .before .before .group-word2 .result) (c .before .loop .inv .1 .1) (omega arith))
 
 pub waiting-good-spec : {M : Type 1} → statement M

@@ -1,10 +1,10 @@
--- `script::play::step_known` meets its contract: what is known of the memory decides between the refusal and the untested step. Assumes nothing.
-use Rattle.node.proofs.TestedLaws.{untested-answers, tested-node, tested-answers}
+-- `node::step_known` meets its contract: what is known of the memory decides between the refusal and the untested step. Assumes nothing.
 use mathlib.Core.Path.{_∙_}
 use borrow.Author.Needs.{needs}
 use borrow.Author.Tests.{not-true, not-false}
-use Rattle.script.proofs.play.step_known.Statement.{statement}
-use Rattle.script.proofs.play.step_known.Tie as tie
+use Rattle.node.proofs.TestedLaws.{untested-answers, tested-node, tested-answers}
+use Rattle.node.proofs.step_known.Statement.{statement}
+use Rattle.node.proofs.step_known.Tie as tie
 
 refused-requires : tie.Need-refused-requires
 refused-requires c κs = search needs

@@ -1,4 +1,5 @@
-# Sourced by the checks of the programs: the project's folder, a scratch folder, checks that are counted, and scripts with their listings.
+# Sourced by the checks of the programs: the project's folder, a scratch folder, checks that are counted, scripts with their listings, and a
+# memory with its state.
 root=$(dirname -- "$(dirname -- "$(readlink -f -- "${BASH_SOURCE[0]}")")")
 scratch=$(mktemp -d) || exit 1
 trap 'rm -rf -- "$scratch"' EXIT
@@ -26,6 +27,24 @@ summary() {
     test "$failed" -eq 0
 }
 
+# cargo_tests FOLDER: the tests of a crate in Rust, each counted from cargo's "test result:" lines. One that waits for ever ends them.
+cargo_tests() {
+    local status ran=0 ok bad
+    (cd -- "$root/$1" && timeout 1800 cargo test --release --offline --no-fail-fast --target-dir target) >"$scratch/tests" 2>&1
+    status=$?
+    while read -r ok bad; do
+        passed=$((passed + ok))
+        failed=$((failed + bad))
+        ran=$((ran + ok + bad))
+    done < <(sed -nE 's/^test result: .* ([0-9]+) passed; ([0-9]+) failed;.*/\1 \2/p' "$scratch/tests")
+    if ((status != 0)); then
+        cat -- "$scratch/tests"
+    fi
+    printf '%s: %s tests of its own\n' "$1" "$ran"
+    check 'cargo test succeeds' test "$status" -eq 0
+    check 'cargo test runs tests' test "$ran" -gt 0
+}
+
 # listing_agrees PROGRAM SCRIPT: the program's listing is the one beside the script, byte for byte.
 listing_agrees() {
     "$root/bin/$1" <"$2" >"$scratch/listing" && cmp -- "$scratch/listing" "${2%.script}.listing"
@@ -44,4 +63,44 @@ listings() {
     for script in "${scripts[@]}"; do
         check "${script##*/}" listing_agrees "$1" "$script"
     done
+}
+
+# put FILE ADDRESS WORD..: 32-bit words from an address on, the lowest byte first.
+put() {
+    local file=$1 at=$2 word bytes=''
+    shift 2
+    for word in "$@"; do
+        printf -v bytes '%s\\x%02x\\x%02x\\x%02x\\x%02x' "$bytes" $((word & 255)) $((word >> 8 & 255)) $((word >> 16 & 255)) $((word >> 24))
+    done
+    printf '%b' "$bytes" | dd of="$file" bs=4 seek="$at" conv=notrunc status=none
+}
+
+# The memory that the whole case leaves, written by docs/MEMORY.md, and what it holds.
+whole_case() {
+    head -c 11472 /dev/zero >"$scratch/memory"
+    put "$scratch/memory" 0 2 0 0 32
+    put "$scratch/memory" 164 {2..31} 0 1
+    put "$scratch/memory" 242 1
+    put "$scratch/memory" 564 1 7
+    put "$scratch/memory" 636 2 5 6
+    cat >"$scratch/state" <<'END'
+running 2
+timer 0
+free 2 3 4 5 6 7 8 9 10 11 12 13 14 15 16 17 18 19 20 21 22 23 24 25 26 27 28 29 30 31 0 1
+group 1 atomic 0 pending 0 h 0 n 0 pages descriptor
+group 2 atomic 1 pending 0 h 0 n 0 pages descriptor
+group 3 atomic 0 pending 0 h 0 n 0 pages descriptor
+group 4 atomic 0 pending 0 h 0 n 0 pages descriptor
+group 5 atomic 0 pending 0 h 0 n 0 pages descriptor
+group 6 atomic 0 pending 0 h 0 n 0 pages descriptor
+group 7 atomic 0 pending 0 h 0 n 0 pages descriptor
+group 8 atomic 0 pending 0 h 0 n 0 pages descriptor
+f0 place 0 length 1 words 7 0 0 0 0 0 0 0
+f1 place 0 length 2 words 5 6 0 0 0 0 0 0
+END
+}
+
+# holds FILE: the judge tells the whole case's state of it, and no more.
+holds() {
+    "$root/bin/judge" --state "$1" >"$scratch/told" 2>"$scratch/message" && cmp -- "$scratch/told" "$scratch/state" && ! test -s "$scratch/message"
 }

@@ -70,6 +70,7 @@ impl Counts {
             self.add(line, report);
             Ok(())
         })
+        .map(drop)
     }
 
     pub fn add(&mut self, line: &[u8], report: &Report) {

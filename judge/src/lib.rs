@@ -1,7 +1,9 @@
 //! The judge: the paper's node written a second time, from the paper alone.
 //!
 //! - [`node`]: the node as ordinary records, its operations, refusals, settling and upcall.
-//! - [`memory`]: the same node in lent memory, where docs/MEMORY.md puts it, and the memory test.
+//! - [`memory`]: the same node in lent memory, where docs/MEMORY.md puts it, the memory test, and
+//!   random memories to try calls on.
+//! - [`state`]: what a node holds, as text, and a node read from the bytes of its memory.
 //! - [`script`]: a script's lines read to operations, reports written as a listing.
 //! - [`generator`]: random scripts in flavours, made of bursts and fixed by a seed.
 //! - [`counts`]: which answers and traps scripts have met.
@@ -19,3 +21,4 @@ pub mod node;
 pub mod program;
 pub mod random;
 pub mod script;
+pub mod state;

@@ -4,10 +4,12 @@
 
 mod clauses;
 mod map;
+pub mod trials;
 
-use clauses::node_words;
-pub use clauses::{broken_clause, clauses};
-pub use map::SIZE;
+pub use clauses::{broken_clause, clauses, Fault};
+pub use map::{what_stands_at, SIZE};
+
+use std::ops::Range;
 
 use crate::node::{Frame, Group, Message, Node, Operation, Place, Refusal, Report};
 use map::{
@@ -28,7 +30,7 @@ pub fn power_on(memory: &mut [u32]) -> u32 {
 /// One step. Answer 1 is "Tested first, at every step", and of a refused step "nothing in memory
 /// changes".
 pub fn step(memory: &mut [u32], operation: &Operation) -> Report {
-    let Some(mut node) = read(memory) else {
+    let Ok(mut node) = read(memory) else {
         return Report::refused(Refusal::NotANode);
     };
     let report = node.step(operation);
@@ -41,28 +43,33 @@ pub fn step(memory: &mut [u32], operation: &Operation) -> Report {
 /// The words of the running group's first message "as a part of the lent memory, no copy", "an
 /// empty part if there is none or the memory is no node".
 pub fn head(memory: &[u32]) -> &[u32] {
-    let runner = node_words(memory).filter(|words| words.running() > 0);
-    let first = runner.and_then(|words| words.waiting_of(words.running()).next());
-    first.map_or(&[], message)
+    &memory[head_part(memory)]
 }
 
-/// The records that stand in the memory, if it is a node.
-pub fn read(memory: &[u32]) -> Option<Node> {
-    let words = node_words(memory)?;
-    Some(Node {
+/// Where that part stands; an empty one stands at 0.
+pub fn head_part(memory: &[u32]) -> Range<usize> {
+    let runner = clauses::test(memory).ok().filter(|w| w.running() > 0);
+    let first = runner.and_then(|w| w.waiting_of(w.running()).next());
+    first.map_or(0..0, |at| at + 1..at + 1 + memory[at] as usize)
+}
+
+/// The records that stand in the memory, or why it is no node.
+pub fn read(memory: &[u32]) -> Result<Node, Fault> {
+    let words = clauses::test(memory)?;
+    Ok(Node {
         running: words.running(),
         timer: words.timer(),
-        queue: words.queued().map(read_queued).collect(),
+        queue: words.queued().map(|at| read_queued(&words, at)).collect(),
         free: words.free().iter().map(|&frame| frame as usize).collect(),
         groups: std::array::from_fn(|at| read_group(&words.group(at + 1))),
         frames: std::array::from_fn(|frame| read_frame(&words, frame)),
     })
 }
 
-fn read_queued(queued: &[u32]) -> Message {
+fn read_queued(words: &Words, at: usize) -> Message {
     Message {
-        group: queued[0] as usize,
-        words: message(&queued[1..]).to_vec(),
+        group: words.0[at] as usize,
+        words: message(words.kept(at + 1)).to_vec(),
     }
 }
 
@@ -81,12 +88,19 @@ fn read_group(record: &Record) -> Group {
 
 fn read_frame(words: &Words, frame: usize) -> Frame {
     std::array::from_fn(|place| {
-        let kept = words.place(frame, place);
+        let kept = words.kept(place_at(frame, place));
         Place {
             length: kept[0],
             words: std::array::from_fn(|word| kept[1 + word]),
         }
     })
+}
+
+/// The memory of a node, of just its size.
+pub fn words_of(node: &Node) -> Vec<u32> {
+    let mut memory = vec![0; SIZE];
+    write(node, &mut memory);
+    memory
 }
 
 /// Writes the records into the first words of the memory: unused places are 0.

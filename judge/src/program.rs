@@ -1,10 +1,21 @@
-//! What the programs share: their arguments, how they end, and where the project's own program is.
+//! What the programs share: their arguments, how they end, where the project's own program is, and
+//! the script that they are measured with.
 
+use std::fs;
 use std::io::{self, ErrorKind, Write};
 use std::path::{Path, PathBuf};
 use std::process::{Command, ExitCode, Stdio};
 
 use crate::counts::Counts;
+use crate::generator::Flavour;
+
+/// The measured script, if none is named: random, of so many lines.
+const MEASURED_SEED: u64 = 1998;
+const MEASURED_LINES: u64 = 1_000_000;
+/// What tests the memory before every step is measured with the lines that end in the script's
+/// first bytes, so many times over. The bytes are the most that target/bin/tested takes.
+const TESTED_BYTES: usize = 64 << 10;
+pub const TESTED_TIMES: usize = 64;
 
 /// The arguments of the call.
 pub fn arguments() -> Vec<String> {
@@ -47,6 +58,12 @@ pub fn misused(name: &str, reason: &str, usage: &str) -> ExitCode {
     ExitCode::from(2)
 }
 
+/// The exit code of a call whose file can't be read: nothing was found, right or wrong.
+pub fn unread(name: &str, reason: &str) -> ExitCode {
+    eprintln!("{name}: {reason}");
+    ExitCode::from(2)
+}
+
 /// The exit code of scripts that were to meet every answer and every trap.
 pub fn met_all(name: &str, counts: &Counts) -> ExitCode {
     let missing = counts.missing();
@@ -68,4 +85,22 @@ pub fn fugu(project: &Path) -> Result<PathBuf, String> {
         Ok(status) => Err(format!("{}: {status}", wrapper.display())),
         Err(error) => Err(format!("{}: {error}", wrapper.display())),
     }
+}
+
+/// The script of a file, or a mixed random one.
+pub fn measured_script(path: Option<&str>) -> Result<Vec<u8>, String> {
+    match path {
+        Some(path) => fs::read(path).map_err(|error| format!("{path}: {error}")),
+        None => {
+            let mixed = Flavour::named("mixed").expect("a flavour of this name");
+            Ok(mixed.script(MEASURED_SEED, MEASURED_LINES))
+        }
+    }
+}
+
+/// The lines of a script that end in its first 64 KiB.
+pub fn tested_lines(script: &[u8]) -> &[u8] {
+    let first = &script[..script.len().min(TESTED_BYTES)];
+    let last_newline = first.iter().rposition(|&byte| byte == b'\n');
+    &first[..last_newline.map_or(0, |at| at + 1)]
 }

@@ -39,7 +39,7 @@ fn number(field: &[u8]) -> Option<u32> {
 
 /// The letters of the paper's table, each with its count of fields; "for A, any count of words is
 /// read".
-fn operation(letter: &[u8], numbers: &[u32]) -> Option<Operation> {
+pub fn operation(letter: &[u8], numbers: &[u32]) -> Option<Operation> {
     Some(match (letter, numbers) {
         (b"A", &[group, ref words @ ..]) => Operation::Arrival {
             group,
@@ -59,18 +59,18 @@ fn operation(letter: &[u8], numbers: &[u32]) -> Option<Operation> {
 }
 
 /// Runs a script from power-on and hands each line, kept to its first 129 bytes, on with its
-/// report.
+/// report. Hands back the node after the last line.
 pub fn run<E: From<io::Error>>(
     mut input: impl BufRead,
     mut each: impl FnMut(&[u8], &Report) -> Result<(), E>,
-) -> Result<(), E> {
+) -> Result<Node, E> {
     let mut node = Node::power_on();
     let mut line = Vec::new();
     while next_line(&mut input, &mut line)? {
         let report = node.step(&read(&line));
         each(&line, &report)?;
     }
-    Ok(())
+    Ok(node)
 }
 
 /// Takes the next line without its newline; false at the end of the input. Of an over-long line
@@ -94,7 +94,8 @@ pub fn write_listing(input: impl BufRead, output: &mut impl Write) -> io::Result
     run(input, |_, report| {
         number += 1;
         write_report(output, number, report)
-    })
+    })?;
+    Ok(())
 }
 
 /// "line number from 1, answer (0 accepted), value, trap, upcall group or 0, moved; an accepted L
@@ -117,4 +118,9 @@ pub fn listing(script: &[u8]) -> Vec<u8> {
     let mut output = Vec::new();
     write_listing(script, &mut output).expect("memory reads and writes without error");
     output
+}
+
+/// The node after a script held whole.
+pub fn node_after(script: &[u8]) -> Node {
+    run(script, |_, _| Ok::<(), io::Error>(())).expect("memory is read without error")
 }

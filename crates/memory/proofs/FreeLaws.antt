@@ -151,6 +151,10 @@ free-kept {g = g} un w =
     let low = above-header g in
     w .below 3 (omega arith) ∙ un .held .below 3 (omega arith) ∙ un .list .below 3 (omega arith)
 
+-- and a frame that leaves the list leaves the flags and counts
+pub unlisted-below : {m m₂ : List ℕ} {g f : ℕ} → Unlisted m m₂ g f → (k : ℕ) → k < heldOffset → word m₂ (groupAddress g + k) ≡ word m (groupAddress g + k)
+unlisted-below {g = g} un k h = un .held .below (groupAddress g + k) (omega arith) ∙ un .list .below (groupAddress g + k) (omega arith)
+
 -- the first frame is freed
 pub freeing-held : {m m₄ m₆ : List ℕ} {n : Node} {r : List ℕ} → Holds m n r → (g : ℕ) → 1 ≤ g → g ≤ groupCount → Waits g n
     → (f : ℕ) {m₂ : List ℕ} → Unlisted m m₂ g f

@@ -3,6 +3,8 @@ pub mod PieceLaws
 pub mod PieceWrites
 pub mod CountLaws
 pub mod GroupLaws
+pub mod Lending
+pub mod Setting
 pub mod PlaceLaws
 pub mod PutLaws
 pub mod TakeLaws

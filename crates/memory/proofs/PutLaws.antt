@@ -81,6 +81,11 @@ endPlace m g =
     frameAddress (word m (groupAddress g + (14 + (word m (groupAddress g + 2) + word m (groupAddress g + 3)) / 8)))
     + placeStride * ((word m (groupAddress g + 2) + word m (groupAddress g + 3)) % 8)
 
+-- it lies above the flags of every group
+pub flags-below : (m : List ℕ) (g : ℕ) → g ≤ groupCount → groupAddress g + pendingOffset < endPlace m g
+unfolding frameAddress groupAddress
+flags-below m g high = omega arith
+
 -- the flags and counts of group g with one message more, as they are read
 abbrev pub counted : List ℕ → ℕ → List ℕ
 counted m g =

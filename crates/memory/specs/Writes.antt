@@ -50,3 +50,11 @@ groupRead m g =
       used = word m (groupAddress g + usedOffset);
       count = word m (groupAddress g + countOffset);
     }
+
+-- the same with other flags
+abbrev pub reflagged : ℕ → ℕ → Group·rt → Group·rt
+reflagged a p x = record { atomic = a; pending = p; used = x .used; count = x .count }
+
+-- and with other counts
+abbrev pub recounted : ℕ → ℕ → Group·rt → Group·rt
+recounted h n x = record { atomic = x .atomic; pending = x .pending; used = h; count = n }

@@ -2,7 +2,6 @@
 use super::Node;
 use super::frames;
 use super::group;
-use super::group::Group;
 use super::map;
 use super::words;
 ghost use Prim.Native.Nat.{_≤_};
@@ -20,13 +19,12 @@ pub fn put(m: &mut [u32], g: u32, len: u32, words: [u32; 8])
     requires { ⌜ Some (now m) (Room g) ⌝ }
     ensures { λ _. ⌜ ((x : Message) → Kept g len words x → Becomes (now (m .entry)) (now (m .exit)) (Room g) (putting x)) ⌝ }
 {
-    let mut x = group::read(m, g);
+    let x = group::read(m, g);
     let end = x.used + x.count;
     let last = map::group_word(m, g, map::LIST + (end / Node::PER_FRAME) as usize);
     let at = map::place_at(last, end % Node::PER_FRAME);
     words::put_message(&mut m[at..], len, words);
-    x.count += 1;
-    group::write(m, g, x);
+    group::set_counts(m, g, x.used, x.count + 1);
 }
 
 // A message moves to the end of group g's buffer.
@@ -49,10 +47,8 @@ pub fn use_up(m: &mut [u32], g: u32)
     requires { ⌜ Some (now m) (Waits g) ⌝ }
     ensures { λ _. ⌜ Becomes (now (m .entry)) (now (m .exit)) (Waits g) (usingUp g) ⌝ }
 {
-    let mut x = group::read(m, g);
-    x.used += 1;
-    x.count -= 1;
-    group::write(m, g, x);
+    let x = group::read(m, g);
+    group::set_counts(m, g, x.used + 1, x.count - 1);
 }
 
 // The first frame of group g's buffer is freed, and its first message with it.
@@ -61,11 +57,9 @@ pub fn free_first(m: &mut [u32], g: u32)
     requires { ⌜ Some (now m) (Waits g) ⌝ }
     ensures { λ _. ⌜ Becomes (now (m .entry)) (now (m .exit)) (Waits g) (freeing g) ⌝ }
 {
-    let mut x = group::read(m, g);
-    x.used = 0;
-    x.count -= 1;
+    let x = group::read(m, g);
     let f = frames::unlist(m, g);
-    group::write(m, g, x);
+    group::set_counts(m, g, 0, x.count - 1);
     frames::give_frame(m, f);
 }
 

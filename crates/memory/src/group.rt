@@ -1,4 +1,4 @@
-// The flags and counts of a group, by value: they stand first in its record.
+// The flags and counts of a group, which stand first in its record: a value that is read, lent to be changed, and written.
 use super::map;
 ghost use mathlib.Core.Path.{_≡_};
 ghost use mathlib.Core.Bool.{Bool};
@@ -6,7 +6,7 @@ ghost use mathlib.Core.List.{List, [], _∷_};
 ghost use Prim.Native.Nat.{ℕ};
 ghost use Rattle.rules.specs.Node.{Node, buffered};
 ghost use Rattle.rules.specs.Memory.{groupAddress, flagWord};
-ghost use Rattle.memory.specs.Writes.{Wrote, InGroup, groupRead};
+ghost use Rattle.memory.specs.Writes.{Wrote, InGroup, groupRead, reflagged, recounted};
 ghost use Rattle.memory.specs.Holds.{Holds, Becomes, Any, flagging};
 
 pub struct Group {
@@ -18,6 +18,24 @@ pub struct Group {
     pub used: u32,
     // n, the buffer's messages
     pub count: u32,
+}
+
+impl Group {
+    // The flags are set.
+    pub fn set_flags(&mut self, atomic: u32, pending: u32)
+        ensures { λ _. ⌜ now (self .exit) ≡ reflagged atomic pending (now (self .entry)) ⌝ }
+    {
+        self.atomic = atomic;
+        self.pending = pending;
+    }
+
+    // The counts are set.
+    pub fn set_counts(&mut self, used: u32, count: u32)
+        ensures { λ _. ⌜ now (self .exit) ≡ recounted used count (now (self .entry)) ⌝ }
+    {
+        self.used = used;
+        self.count = count;
+    }
 }
 
 // Those of group g.
@@ -60,7 +78,16 @@ pub fn set_flags(m: &mut [u32], g: u32, atomic: u32, pending: u32)
     ensures { λ _. ⌜ ((a p : Bool) → atomic ≡ flagWord a → pending ≡ flagWord p → Becomes (now (m .entry)) (now (m .exit)) Any (flagging g a p)) ⌝ }
 {
     let mut x = read(m, g);
-    x.atomic = atomic;
-    x.pending = pending;
+    x.set_flags(atomic, pending);
+    write(m, g, x);
+}
+
+// And its counts.
+pub fn set_counts(m: &mut [u32], g: u32, used: u32, count: u32)
+    requires { ⌜ InGroup (now m) g 3 ⌝ }
+    ensures { λ _. ⌜ Wrote (now (m .entry)) (now (m .exit)) (groupAddress g) (groupRead (now (m .entry)) g .atomic ∷ groupRead (now (m .entry)) g .pending ∷ used ∷ count ∷ []) ⌝ }
+{
+    let mut x = read(m, g);
+    x.set_counts(used, count);
     write(m, g, x);
 }

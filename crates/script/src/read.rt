@@ -167,7 +167,7 @@ pub fn end_of_line(s: &[u8], from: usize) -> usize
 }
 
 // The operation of a letter and its numbers, by their count and the first.
-fn operation(letter: u8, count: usize, first: u32) -> Operation
+pub fn operation(letter: u8, count: usize, first: u32) -> Operation
     ensures { λ op. ⌜ Lettered letter count first op ⌝ }
 {
     if count == 0 {

@@ -7,8 +7,9 @@ use std::path::{Path, PathBuf};
 use std::process::{Command, ExitCode, Stdio};
 use std::time::{Duration, Instant};
 
-use judge::generator::Flavour;
-use judge::program::{arguments, failed, finish, fugu, misused, print};
+use judge::program::{
+    arguments, failed, finish, fugu, measured_script, misused, print, tested_lines, TESTED_TIMES,
+};
 use judge::script::write_listing;
 
 const NAME: &str = "bench";
@@ -23,13 +24,12 @@ memory before every step, by the judge, which keeps no memory to test, and by `P
 which is to test its own.
 
 The listings must be the judge's, else the exit status is 1. The programs then run by turns, their
-standard output to /dev/null; the time told is the best of fifteen runs, of five for the judge.";
+standard output to /dev/null; the time told is the best of fifteen runs, of five for the judge.
 
-const SEED: u64 = 1998;
-const LINES: u64 = 1_000_000;
-/// The longest script that target/bin/tested takes, and how often it plays it.
-const TESTED_BYTES: usize = 64 << 10;
-const TESTED_TIMES: usize = 64;
+Last come the calls of target/staticlib/libcapi.a on the same lines, 64 times over, against the
+judge's step on words and its memory test: PROGRAM is asked nothing there. They are left out if the
+library is not there.";
+
 const ROUNDS: u32 = 15;
 const JUDGE_ROUNDS: u32 = 5;
 
@@ -68,13 +68,7 @@ fn understand<'a>(arguments: &[&'a str]) -> Result<Call<'a>, String> {
 
 /// Both parts: the program, and the calls that test the memory.
 fn bench(project: &Path, call: &Call) -> Result<ExitCode, String> {
-    let script = match call.script {
-        Some(path) => fs::read(path).map_err(|error| format!("{path}: {error}"))?,
-        None => {
-            let mixed = Flavour::named("mixed").expect("a flavour of this name");
-            mixed.script(SEED, LINES)
-        }
-    };
+    let script = measured_script(call.script)?;
     let whole = Scratch::holding("whole", &script).map_err(told)?;
     race(
         Runner::new("fugu", &fugu(project)?, &whole),
@@ -89,7 +83,7 @@ fn bench(project: &Path, call: &Call) -> Result<ExitCode, String> {
             "target/bin/tested is not there, so the tested calls are left out: rt check builds it";
         return print(absent).map_err(told);
     }
-    let first = first_lines(&script);
+    let first = tested_lines(&script);
     let repeated = first.repeat(TESTED_TIMES);
     let first = Scratch::holding("first", first).map_err(told)?;
     let whole = Scratch::holding("repeated", &repeated).map_err(told)?;
@@ -104,13 +98,6 @@ fn bench(project: &Path, call: &Call) -> Result<ExitCode, String> {
 
 fn told(error: io::Error) -> String {
     error.to_string()
-}
-
-/// The lines of a script that end in its first 64 KiB.
-fn first_lines(script: &[u8]) -> &[u8] {
-    let first = &script[..script.len().min(TESTED_BYTES)];
-    let last_newline = first.iter().rposition(|&byte| byte == b'\n');
-    &first[..last_newline.map_or(0, |at| at + 1)]
 }
 
 /// Runs the project's program, the judge's and another by turns, and tells their best times.

@@ -1,27 +1,36 @@
 //! The paper's memory test, clause by clause.
 
-use super::map::{queued_at, Words, DESCRIPTOR_AT, FREE_AT, GROUPS_AT, LIST_AT, SIZE};
+use std::fmt::{self, Display, Formatter};
+use std::ops::RangeInclusive;
+
+use super::map::{
+    group_at, what_stands_at, Words, ATOMIC, DESCRIPTOR_COUNT, FREE_COUNT, LIST_COUNT, MESSAGES,
+    PENDING, QUEUE_COUNT, RUNNING, SIZE, TIMER, USED_UP,
+};
 use crate::node::{
     frames_for, DESCRIPTOR_WORDS, FRAMES, FRAME_PLACES, GROUPS, MESSAGE_WORDS, QUEUE_PLACES,
     TIMEOUT,
 };
 
-type Clause = (&'static str, fn(&Words) -> bool);
+/// A clause in the paper's words, and how it is asked: the addresses of the words that break it,
+/// none if it holds.
+type Clause = (&'static str, fn(&Words) -> Vec<usize>);
 
-/// "Memory is a node when": the sentence clause by clause. The bounds stand first, and lengths
-/// after the lists, since what comes later is found by them.
+/// "Memory is a node when": the sentence clause by clause, in its order. Lengths come before the
+/// clauses that see to it that all waiting messages are found; a message that is not found breaks
+/// one of these.
 const CLAUSES: [Clause; 21] = [
     ("running is 0 to 8", running_in_bounds),
     ("counts are within the bounds", counts_in_bounds),
     ("groups are within the bounds", groups_in_bounds),
-    ("h is within the bounds", used_up_in_bounds),
-    ("timer is within the bounds", timer_in_bounds),
-    ("each frame stands once", frames_stand_once),
-    ("each list has its rounded-up length", lists_rounded_up),
     (
         "waiting messages' lengths are within the bounds",
         lengths_in_bounds,
     ),
+    ("h is within the bounds", used_up_in_bounds),
+    ("timer is within the bounds", timer_in_bounds),
+    ("each frame stands once", frames_stand_once),
+    ("each list has its rounded-up length", lists_rounded_up),
     ("flags are 0 or 1", flags_are_bits),
     ("unused places of the queue are 0", queue_rest_zero),
     ("unused places of the free line are 0", free_rest_zero),
@@ -46,145 +55,235 @@ const CLAUSES: [Clause; 21] = [
     ("if the queue is empty the timer is 0", idle_timer_zero),
 ];
 
-/// The names of the clauses, in the order that they are asked in.
+/// The clauses, in the paper's order.
 pub fn clauses() -> impl Iterator<Item = &'static str> {
-    CLAUSES.iter().map(|(name, _)| *name)
+    CLAUSES.iter().map(|(clause, _)| *clause)
 }
 
-/// Why the memory is no node: the first clause that does not hold.
-pub fn broken_clause(memory: &[u32]) -> Option<&'static str> {
-    let Some(words) = memory.get(..SIZE).map(Words) else {
-        return Some("memory too short");
-    };
-    let broken = CLAUSES.iter().find(|(_, holds)| !holds(&words));
-    broken.map(|(name, _)| *name)
+/// Why a memory is no node.
+#[derive(Clone, Debug, PartialEq, Eq)]
+pub enum Fault {
+    /// "memory too short": it has so many words.
+    TooShort(usize),
+    /// The first clause that does not hold, and the words that break it: address and value.
+    Broken(&'static str, Vec<(usize, u32)>),
 }
 
-/// The words of a node, if the memory is one.
-pub fn node_words(memory: &[u32]) -> Option<Words<'_>> {
-    match broken_clause(memory) {
-        None => Some(Words(&memory[..SIZE])),
-        Some(_) => None,
+impl Fault {
+    /// In the paper's words.
+    pub fn clause(&self) -> &'static str {
+        match self {
+            Fault::TooShort(_) => "memory too short",
+            Fault::Broken(clause, _) => clause,
+        }
     }
 }
 
-fn running_in_bounds(words: &Words) -> bool {
-    words.running() <= GROUPS
+impl Display for Fault {
+    fn fmt(&self, f: &mut Formatter) -> fmt::Result {
+        match self {
+            Fault::TooShort(words) => {
+                write!(f, "{}: {words} words, a node has {SIZE}", self.clause())
+            }
+            Fault::Broken(clause, words) => {
+                write!(f, "this does not hold: {clause}")?;
+                words.iter().try_for_each(|&(at, value)| {
+                    write!(f, "\n  word {at}, {}: {value}", what_stands_at(at))
+                })
+            }
+        }
+    }
 }
 
-fn counts_in_bounds(words: &Words) -> bool {
-    words.queue_count() <= QUEUE_PLACES
-        && words.free_count() <= FRAMES
-        && words.groups().all(|record| {
-            record.list_count() <= FRAMES && record.descriptor_count() <= DESCRIPTOR_WORDS
-        })
+/// The words of a node, or why the memory is none.
+pub fn test(memory: &[u32]) -> Result<Words<'_>, Fault> {
+    let words = memory.get(..SIZE).map(Words);
+    let words = words.ok_or(Fault::TooShort(memory.len()))?;
+    for (clause, breaking) in CLAUSES {
+        let at = breaking(&words);
+        if !at.is_empty() {
+            let standing = at.into_iter().map(|at| (at, words.0[at]));
+            return Err(Fault::Broken(clause, standing.collect()));
+        }
+    }
+    Ok(words)
 }
 
-fn groups_in_bounds(words: &Words) -> bool {
-    words.queued().all(|q| (1..=GROUPS as u32).contains(&q[0]))
+/// The clause by which the memory is no node, in the paper's words.
+pub fn broken_clause(memory: &[u32]) -> Option<&'static str> {
+    test(memory).err().map(|fault| fault.clause())
 }
 
-fn used_up_in_bounds(words: &Words) -> bool {
-    words
-        .groups()
-        .all(|record| record.used_up() < FRAME_PLACES as u64)
+fn running_in_bounds(words: &Words) -> Vec<usize> {
+    outside(words, 0..=GROUPS, [RUNNING])
 }
 
-fn timer_in_bounds(words: &Words) -> bool {
-    words.timer() < TIMEOUT
+fn counts_in_bounds(words: &Words) -> Vec<usize> {
+    let lines = [(QUEUE_COUNT, QUEUE_PLACES), (FREE_COUNT, FRAMES)];
+    let records = records().flat_map(|at| {
+        [
+            (at + LIST_COUNT, FRAMES),
+            (at + DESCRIPTOR_COUNT, DESCRIPTOR_WORDS),
+        ]
+    });
+    let mut counts = lines.into_iter().chain(records);
+    let broken = counts.find(|&(at, most)| words.0[at] as usize > most);
+    broken.map(|(at, _)| at).into_iter().collect()
 }
 
-fn frames_stand_once(words: &Words) -> bool {
-    let lists = words.groups().flat_map(|record| record.list());
-    let mut standing: Vec<u32> = words.free().iter().chain(lists).copied().collect();
-    standing.sort_unstable();
-    standing.into_iter().eq(0..FRAMES as u32)
+fn groups_in_bounds(words: &Words) -> Vec<usize> {
+    outside(words, 1..=GROUPS, words.queued())
 }
 
-fn lists_rounded_up(words: &Words) -> bool {
-    words.groups().all(|record| {
-        frames_for(record.used_up() + record.messages()) == record.list_count() as u64
-    })
+fn lengths_in_bounds(words: &Words) -> Vec<usize> {
+    outside(words, 1..=MESSAGE_WORDS, words.waiting())
 }
 
-fn lengths_in_bounds(words: &Words) -> bool {
-    words
-        .waiting()
-        .all(|kept| (1..=MESSAGE_WORDS as u32).contains(&kept[0]))
+fn used_up_in_bounds(words: &Words) -> Vec<usize> {
+    outside(
+        words,
+        0..=FRAME_PLACES - 1,
+        records().map(|at| at + USED_UP),
+    )
 }
 
-fn flags_are_bits(words: &Words) -> bool {
-    words
-        .groups()
-        .all(|record| record.atomic() <= 1 && record.pending() <= 1)
+fn timer_in_bounds(words: &Words) -> Vec<usize> {
+    outside(words, 0..=TIMEOUT as usize - 1, [TIMER])
 }
 
-fn queue_rest_zero(words: &Words) -> bool {
-    all_zero(&words.0[queued_at(words.queue_count())..FREE_AT])
+/// Broken by a number that is no frame's, by two that are the same, or by counts that leave a
+/// frame out.
+fn frames_stand_once(words: &Words) -> Vec<usize> {
+    let mut stands = [None; FRAMES];
+    for at in words.free_line().chain(words.listed()) {
+        match stands.get_mut(words.0[at] as usize) {
+            None => return vec![at],
+            Some(Some(before)) => return vec![*before, at],
+            Some(stands) => *stands = Some(at),
+        }
+    }
+    if stands.iter().all(Option::is_some) {
+        return Vec::new();
+    }
+    let lists = records().map(|at| at + LIST_COUNT);
+    std::iter::once(FREE_COUNT).chain(lists).collect()
 }
 
-fn free_rest_zero(words: &Words) -> bool {
-    all_zero(&words.0[FREE_AT + words.free_count()..GROUPS_AT])
-}
-
-fn list_rest_zero(words: &Words) -> bool {
-    words
-        .groups()
-        .all(|record| all_zero(&record.0[LIST_AT + record.list_count()..]))
-}
-
-fn descriptor_rest_zero(words: &Words) -> bool {
-    words
-        .groups()
-        .all(|record| all_zero(&record.0[DESCRIPTOR_AT + record.descriptor_count()..LIST_AT]))
-}
-
-fn message_rest_zero(words: &Words) -> bool {
-    words
-        .waiting()
-        .all(|kept| all_zero(&kept[1 + kept[0] as usize..]))
-}
-
-fn pledges_fit(words: &Words) -> bool {
-    (1..=GROUPS).map(|group| words.pledge(group)).sum::<u64>() <= FRAMES as u64
-}
-
-fn empty_buffer_unused(words: &Words) -> bool {
-    words
-        .groups()
-        .all(|record| record.messages() > 0 || record.used_up() == 0)
-}
-
-fn pending_has_cause(words: &Words) -> bool {
-    (1..=GROUPS).all(|group| {
+fn lists_rounded_up(words: &Words) -> Vec<usize> {
+    first_group(|group| {
         let record = words.group(group);
-        record.pending() == 0 || (record.atomic() == 1 && !words.line_is_empty(group))
+        let frames = frames_for(record.used_up() + record.messages());
+        let broken = frames != record.list_count() as u64;
+        broken.then_some([USED_UP, MESSAGES, LIST_COUNT])
     })
 }
 
-fn runner_atomic(words: &Words) -> bool {
+fn flags_are_bits(words: &Words) -> Vec<usize> {
+    let flags = records().flat_map(|at| [at + ATOMIC, at + PENDING]);
+    outside(words, 0..=1, flags)
+}
+
+fn queue_rest_zero(words: &Words) -> Vec<usize> {
+    outside(words, 0..=0, words.queue_rest())
+}
+
+fn free_rest_zero(words: &Words) -> Vec<usize> {
+    outside(words, 0..=0, words.free_rest())
+}
+
+fn list_rest_zero(words: &Words) -> Vec<usize> {
+    outside(words, 0..=0, words.list_rest())
+}
+
+fn descriptor_rest_zero(words: &Words) -> Vec<usize> {
+    outside(words, 0..=0, words.descriptor_rest())
+}
+
+fn message_rest_zero(words: &Words) -> Vec<usize> {
+    outside(words, 0..=0, words.message_rest())
+}
+
+/// Broken by all that is counted in a pledge.
+fn pledges_fit(words: &Words) -> Vec<usize> {
+    let sum: u64 = (1..=GROUPS).map(|group| words.pledge(group)).sum();
+    if sum <= FRAMES as u64 {
+        return Vec::new();
+    }
+    let buffers = records().flat_map(|at| [at + USED_UP, at + MESSAGES]);
+    buffers.chain(words.queued()).collect()
+}
+
+fn empty_buffer_unused(words: &Words) -> Vec<usize> {
+    first_group(|group| {
+        let record = words.group(group);
+        let broken = record.messages() == 0 && record.used_up() > 0;
+        broken.then_some([USED_UP, MESSAGES])
+    })
+}
+
+fn pending_has_cause(words: &Words) -> Vec<usize> {
+    first_group(|group| {
+        let record = words.group(group);
+        let has_cause = record.atomic() == 1 && !words.line_is_empty(group);
+        let broken = record.pending() == 1 && !has_cause;
+        broken.then_some([ATOMIC, PENDING, MESSAGES])
+    })
+}
+
+fn runner_atomic(words: &Words) -> Vec<usize> {
     let running = words.running();
-    running == 0 || words.line_is_empty(running) || words.group(running).atomic() == 1
+    if running == 0 || words.line_is_empty(running) || words.group(running).atomic() == 1 {
+        return Vec::new();
+    }
+    vec![RUNNING, group_at(running) + ATOMIC]
 }
 
-fn head_is_runners(words: &Words) -> bool {
-    words
-        .queued()
-        .next()
-        .is_none_or(|head| head[0] as usize == words.running())
+fn head_is_runners(words: &Words) -> Vec<usize> {
+    match words.queued().next() {
+        Some(head) if words.0[head] as usize != words.running() => vec![RUNNING, head],
+        _ => Vec::new(),
+    }
 }
 
-fn head_is_direct(words: &Words) -> bool {
-    words
-        .queued()
-        .next()
-        .is_none_or(|head| words.group(head[0] as usize).messages() == 0)
+fn head_is_direct(words: &Words) -> Vec<usize> {
+    let Some(head) = words.queued().next() else {
+        return Vec::new();
+    };
+    let messages = group_at(words.0[head] as usize) + MESSAGES;
+    if words.0[messages] == 0 {
+        return Vec::new();
+    }
+    vec![head, messages]
 }
 
-fn idle_timer_zero(words: &Words) -> bool {
-    words.queue_count() > 0 || words.timer() == 0
+fn idle_timer_zero(words: &Words) -> Vec<usize> {
+    if words.queue_count() > 0 || words.timer() == 0 {
+        return Vec::new();
+    }
+    vec![TIMER, QUEUE_COUNT]
 }
 
-fn all_zero(words: &[u32]) -> bool {
-    words.iter().all(|&word| word == 0)
+/// Where the groups' records begin.
+fn records() -> impl Iterator<Item = usize> {
+    (1..=GROUPS).map(group_at)
+}
+
+/// The first of the addresses whose word is out of the bounds.
+fn outside(
+    words: &Words,
+    bounds: RangeInclusive<usize>,
+    at: impl IntoIterator<Item = usize>,
+) -> Vec<usize> {
+    let mut at = at.into_iter();
+    let broken = at.find(|&at| !bounds.contains(&(words.0[at] as usize)));
+    broken.into_iter().collect()
+}
+
+/// The words of the first group's record that are at odds.
+fn first_group<const N: usize>(at_odds: impl Fn(usize) -> Option<[usize; N]>) -> Vec<usize> {
+    let mut records = (1..=GROUPS).filter_map(|group| {
+        let offsets = at_odds(group)?;
+        Some(offsets.map(|offset| group_at(group) + offset))
+    });
+    records.next().map_or(Vec::new(), |at| at.to_vec())
 }

@@ -1,5 +1,7 @@
 //! docs/MEMORY.md: where each number stands, and a memory seen by that map.
 
+use std::ops::Range;
+
 use crate::node::{
     frames_for, DESCRIPTOR_WORDS, FRAMES, FRAME_PLACES, GROUPS, MESSAGE_WORDS, QUEUE_PLACES,
 };
@@ -51,8 +53,60 @@ pub fn message(kept: &[u32]) -> &[u32] {
     &kept[1..][..kept[0] as usize]
 }
 
-/// The words of a node's size, seen by the map. The parts that counts and frame numbers point to
-/// are there once the clauses that bound these hold.
+/// What stands at an address, in words.
+pub fn what_stands_at(at: usize) -> String {
+    match at {
+        RUNNING => "the running group".to_string(),
+        TIMER => "the timer".to_string(),
+        QUEUE_COUNT => "messages in the hardware queue".to_string(),
+        FREE_COUNT => "frames in the free line".to_string(),
+        QUEUE_AT..FREE_AT => {
+            let (place, word) = part(at - QUEUE_AT, QUEUED_WORDS);
+            let what = word.checked_sub(1).map_or("group".to_string(), kept_word);
+            format!("{what} at place {place} of the hardware queue")
+        }
+        FREE_AT..GROUPS_AT => format!("place {} of the free line", at - FREE_AT),
+        GROUPS_AT..FRAMES_AT => {
+            let (group, word) = part(at - GROUPS_AT, GROUP_WORDS);
+            format!("{} of group {}", record_word(word), group + 1)
+        }
+        FRAMES_AT..SIZE => {
+            let (place, word) = part(at - FRAMES_AT, PLACE_WORDS);
+            let (frame, place) = part(place, FRAME_PLACES);
+            format!("{} at place {place} of frame {frame}", kept_word(word))
+        }
+        _ => "past the node".to_string(),
+    }
+}
+
+/// Which of the parts of so many words, and which word of it.
+fn part(word: usize, words: usize) -> (usize, usize) {
+    (word / words, word % words)
+}
+
+fn kept_word(word: usize) -> String {
+    match word {
+        0 => "length".to_string(),
+        _ => format!("word {}", word - 1),
+    }
+}
+
+fn record_word(word: usize) -> String {
+    match word {
+        ATOMIC => "atomic".to_string(),
+        PENDING => "pending".to_string(),
+        USED_UP => "h".to_string(),
+        MESSAGES => "n".to_string(),
+        LIST_COUNT => "frames in the list".to_string(),
+        DESCRIPTOR_COUNT => "words in the descriptor".to_string(),
+        DESCRIPTOR_AT..LIST_AT => format!("descriptor word {}", word - DESCRIPTOR_AT),
+        _ => format!("place {} of the list", word - LIST_AT),
+    }
+}
+
+/// The words of a node's size, seen by the map. They need be no node: what a count reaches ends
+/// with the room there is, and a message is found only where its frame is one. A node has neither.
+#[derive(Clone, Copy)]
 pub struct Words<'a>(pub &'a [u32]);
 
 impl<'a> Words<'a> {
@@ -64,56 +118,111 @@ impl<'a> Words<'a> {
         self.0[TIMER]
     }
 
+    /// The used places of the hardware queue.
     pub fn queue_count(&self) -> usize {
-        self.0[QUEUE_COUNT] as usize
+        QUEUE_PLACES.min(self.0[QUEUE_COUNT] as usize)
     }
 
+    /// The used places of the free line.
     pub fn free_count(&self) -> usize {
-        self.0[FREE_COUNT] as usize
+        FRAMES.min(self.0[FREE_COUNT] as usize)
     }
 
-    /// The hardware queue's messages, ten words each.
-    pub fn queued(&self) -> impl Iterator<Item = &'a [u32]> {
-        let used = &self.0[QUEUE_AT..queued_at(self.queue_count())];
-        used.chunks_exact(QUEUED_WORDS)
+    /// Where the hardware queue's messages begin, each with its group.
+    pub fn queued(&self) -> impl Iterator<Item = usize> {
+        (0..self.queue_count()).map(queued_at)
+    }
+
+    /// Where those of one group do.
+    pub fn queued_of(&self, group: usize) -> impl Iterator<Item = usize> + 'a {
+        let words = self.0;
+        self.queued().filter(move |&at| words[at] == group as u32)
     }
 
     pub fn free(&self) -> &'a [u32] {
-        &self.0[FREE_AT..][..self.free_count()]
+        &self.0[self.free_line()]
     }
 
     pub fn group(&self, group: usize) -> Record<'a> {
         Record(&self.0[group_at(group)..][..GROUP_WORDS])
     }
 
-    pub fn groups(&self) -> impl Iterator<Item = Record<'a>> + '_ {
-        (1..=GROUPS).map(|group| self.group(group))
+    /// A length and the eight words that follow it.
+    pub fn kept(&self, at: usize) -> &'a [u32] {
+        &self.0[at..][..PLACE_WORDS]
     }
 
-    pub fn place(&self, frame: usize, place: usize) -> &'a [u32] {
-        &self.0[place_at(frame, place)..][..PLACE_WORDS]
-    }
-
-    /// The messages of a group's buffer, nine words each: place p of the buffer is "place p mod 8
-    /// of the list's frame number p / 8".
-    pub fn buffered(&self, group: usize) -> impl Iterator<Item = &'a [u32]> + '_ {
+    /// Where the messages of a group's buffer are kept: place p of the buffer is "place p mod 8 of
+    /// the list's frame number p / 8".
+    pub fn buffered(&self, group: usize) -> impl Iterator<Item = usize> + 'a {
         let record = self.group(group);
-        let places = record.used_up()..record.used_up() + record.messages();
-        places.map(move |at| {
-            let (number, place) = (at as usize / FRAME_PLACES, at as usize % FRAME_PLACES);
-            self.place(record.list()[number] as usize, place)
+        let room = (record.list_count() * FRAME_PLACES) as u64;
+        let end = room.min(record.used_up() + record.messages());
+        (record.used_up()..end).filter_map(move |at| {
+            let (number, place) = part(at as usize, FRAME_PLACES);
+            let frame = record.list()[number] as usize;
+            (frame < FRAMES).then(|| place_at(frame, place))
         })
     }
 
-    /// A group's line, nine words for each message.
-    pub fn waiting_of(&self, group: usize) -> impl Iterator<Item = &'a [u32]> + '_ {
-        let queued = self.queued().filter(move |q| q[0] == group as u32);
-        self.buffered(group).chain(queued.map(|q| &q[1..]))
+    /// Where the messages of a group's line are kept.
+    pub fn waiting_of(&self, group: usize) -> impl Iterator<Item = usize> + 'a {
+        self.buffered(group)
+            .chain(self.queued_of(group).map(|at| at + 1))
     }
 
-    /// All waiting messages, nine words each.
-    pub fn waiting(&self) -> impl Iterator<Item = &'a [u32]> + '_ {
-        (1..=GROUPS).flat_map(|group| self.waiting_of(group))
+    /// Where all waiting messages are kept.
+    pub fn waiting(&self) -> impl Iterator<Item = usize> + 'a {
+        let words = *self;
+        (1..=GROUPS).flat_map(move |group| words.waiting_of(group))
+    }
+
+    /// Where the frame numbers of the free line stand.
+    pub fn free_line(&self) -> Range<usize> {
+        FREE_AT..FREE_AT + self.free_count()
+    }
+
+    /// Where those of the lists do.
+    pub fn listed(&self) -> impl Iterator<Item = usize> + 'a {
+        self.each_group(|at, record| at + LIST_AT..at + LIST_AT + record.list_count())
+    }
+
+    /// The unused places of the queue.
+    pub fn queue_rest(&self) -> Range<usize> {
+        queued_at(self.queue_count())..FREE_AT
+    }
+
+    /// The unused places of the free line.
+    pub fn free_rest(&self) -> Range<usize> {
+        self.free_line().end..GROUPS_AT
+    }
+
+    /// The unused places of the lists.
+    pub fn list_rest(&self) -> impl Iterator<Item = usize> + 'a {
+        self.each_group(|at, record| at + LIST_AT + record.list_count()..at + GROUP_WORDS)
+    }
+
+    /// The unused descriptor words.
+    pub fn descriptor_rest(&self) -> impl Iterator<Item = usize> + 'a {
+        self.each_group(|at, record| at + DESCRIPTOR_AT + record.descriptor_count()..at + LIST_AT)
+    }
+
+    /// The waiting messages' words past their lengths.
+    pub fn message_rest(&self) -> impl Iterator<Item = usize> + 'a {
+        let words = *self;
+        self.waiting().flat_map(move |at| {
+            let length = MESSAGE_WORDS.min(words.0[at] as usize);
+            at + 1 + length..at + PLACE_WORDS
+        })
+    }
+
+    /// A part of each group's record, which begins at the address that is handed on.
+    fn each_group(
+        &self,
+        part: impl Fn(usize, Record<'a>) -> Range<usize> + 'a,
+    ) -> impl Iterator<Item = usize> + 'a {
+        let words = *self;
+        (1..=GROUPS).flat_map(move |group| part(group_at(group), words.group(group)))
     }
 
     pub fn line_is_empty(&self, group: usize) -> bool {
@@ -122,12 +231,13 @@ impl<'a> Words<'a> {
 
     pub fn pledge(&self, group: usize) -> u64 {
         let record = self.group(group);
-        let queued = self.queued().filter(|q| q[0] == group as u32).count();
+        let queued = self.queued_of(group).count();
         frames_for(record.used_up() + record.messages() + queued as u64)
     }
 }
 
 /// A group's record in the memory.
+#[derive(Clone, Copy)]
 pub struct Record<'a>(pub &'a [u32]);
 
 impl<'a> Record<'a> {
@@ -147,12 +257,14 @@ impl<'a> Record<'a> {
         self.0[MESSAGES].into()
     }
 
+    /// The used places of the list.
     pub fn list_count(&self) -> usize {
-        self.0[LIST_COUNT] as usize
+        FRAMES.min(self.0[LIST_COUNT] as usize)
     }
 
+    /// The used words of the descriptor.
     pub fn descriptor_count(&self) -> usize {
-        self.0[DESCRIPTOR_COUNT] as usize
+        DESCRIPTOR_WORDS.min(self.0[DESCRIPTOR_COUNT] as usize)
     }
 
     pub fn list(&self) -> &'a [u32] {

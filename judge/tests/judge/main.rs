@@ -7,4 +7,6 @@ mod memory;
 mod private_line;
 mod programs;
 mod readings;
+mod state;
 mod support;
+mod trials;

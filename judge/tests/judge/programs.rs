@@ -1,9 +1,13 @@
-//! `judge` and `scripts` as they are called: streams, arguments and exit codes.
+//! `judge` and `scripts` as they are called: streams, arguments, files and exit codes.
 
+use std::fs;
 use std::io::Write;
+use std::path::PathBuf;
 use std::process::{Command, Output, Stdio};
 
-use crate::support::listing;
+use judge::state;
+
+use crate::support::{bytes, listing, memory_after};
 
 fn judge() -> Command {
     Command::new(env!("CARGO_BIN_EXE_judge"))
@@ -94,15 +98,93 @@ fn judge_tells_errors_of_input_and_output() {
 }
 
 #[test]
-fn judge_takes_no_arguments_but_help() {
+fn judge_tells_how_it_is_used() {
     let help = judge().arg("--help").output().expect("the program runs");
     assert!(help.status.success());
     assert!(text(&help.stdout).starts_with("usage: judge"));
+    assert!(text(&help.stdout).contains("--state FILE"));
 
-    let misused = judge().arg("file").output().expect("the program runs");
-    assert_eq!(misused.status.code(), Some(2));
-    assert!(misused.stdout.is_empty());
-    assert!(text(&misused.stderr).contains("usage: judge"));
+    for arguments in [
+        "file",
+        "--state",
+        "--state one two",
+        "--help --state",
+        "--what",
+    ] {
+        let misused = judge().args(arguments.split(' ')).output();
+        let misused = misused.expect("the program runs");
+        assert_eq!(misused.status.code(), Some(2), "{arguments}");
+        assert!(misused.stdout.is_empty(), "{arguments}");
+        assert!(
+            text(&misused.stderr).contains("usage: judge"),
+            "{arguments}"
+        );
+    }
+}
+
+/// A file of these bytes, which stays in the folder that cargo has for tests.
+fn file(name: &str, bytes: &[u8]) -> PathBuf {
+    let path = PathBuf::from(env!("CARGO_TARGET_TMPDIR")).join(name);
+    fs::write(&path, bytes).expect("a file is written");
+    path
+}
+
+/// What the judge tells of a file: standard output, standard error and the exit code.
+fn told(path: &PathBuf) -> (String, String, Option<i32>) {
+    let told = judge().arg("--state").arg(path).output();
+    let told = told.expect("the program runs");
+    let (output, error) = (text(&told.stdout), text(&told.stderr));
+    (output.to_string(), error.to_string(), told.status.code())
+}
+
+#[test]
+fn judge_tells_the_state_of_a_node() {
+    let memory = memory_after("A,2,5,6 S,1 A,1,7 T,9");
+    let node = judge::memory::read(&memory).expect("a node");
+    let longer = [memory.clone(), vec![9; 5]].concat();
+    for (name, memory) in [("exact", memory), ("longer", longer)] {
+        let told = told(&file(name, &bytes(&memory)));
+        assert_eq!(told, (state::text(&node), String::new(), Some(0)));
+    }
+}
+
+#[test]
+fn judge_tells_why_a_file_holds_no_node() {
+    let mut memory = memory_after("A,2,5,6 S,1 A,1,7 T,9");
+    let whole = bytes(&memory);
+    memory[1] = 256;
+    let ragged = [whole.as_slice(), &[0]].concat();
+    let cases: [(&str, &[u8], &str); 4] = [
+        ("empty", &[], "memory too short: 0 words, a node has 2868"),
+        (
+            "short",
+            &whole[..11_471],
+            "memory too short: 2867 words, a node has 2868",
+        ),
+        ("ragged", &ragged, "the last word is cut short: 11473 bytes"),
+        (
+            "damaged",
+            &bytes(&memory),
+            "this does not hold: timer is within the bounds\n  word 1, the timer: 256",
+        ),
+    ];
+    for (name, bytes, why) in cases {
+        let path = file(name, bytes);
+        let error = format!("judge: {} is no node: {why}\n", path.display());
+        assert_eq!(told(&path), (String::new(), error, Some(1)));
+    }
+}
+
+#[test]
+fn judge_tells_a_file_that_it_cannot_read() {
+    let folder = PathBuf::from(env!("CARGO_MANIFEST_DIR"));
+    for path in [folder.join("no-such-file"), folder] {
+        let (output, error, code) = told(&path);
+        assert_eq!((output.as_str(), code), ("", Some(2)));
+        let begun = format!("judge: {}: ", path.display());
+        assert!(error.starts_with(&begun), "{error}");
+        assert!(!error.contains("usage"), "{error}");
+    }
 }
 
 #[test]

@@ -85,3 +85,8 @@ pub fn memory_after(script: &str) -> Vec<u32> {
     }
     memory
 }
+
+/// A memory as a file has it.
+pub fn bytes(memory: &[u32]) -> Vec<u8> {
+    memory.iter().flat_map(|word| word.to_le_bytes()).collect()
+}

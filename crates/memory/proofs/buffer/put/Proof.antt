@@ -7,10 +7,10 @@ use lib.ListN.{length, length-drop, length-take}
 use borrow.Author.Needs.{needs}
 use borrow.Rule.Slice.PartMut.{putMid}
 use Rattle.rules.specs.Build.{paper01}
-use Rattle.rules.specs.Memory.{frameAddress, groupStride, size}
+use Rattle.rules.specs.Memory.{frameAddress, groupAddress, groupStride, size}
 use Rattle.memory.specs.Writes.{InGroup, Wrote}
 use Rattle.memory.proofs.AppendLaws.{Ends, ends, last-frame, room-end}
-use Rattle.memory.proofs.PutLaws.{endPlace, putting-kept}
+use Rattle.memory.proofs.PutLaws.{endPlace, flags-below, putting-kept}
 use Rattle.memory.proofs.WriteLaws.{wrote-as, wrote-at, wrote-part}
 use Rattle.memory.proofs.buffer.put.Statement.{statement}
 use Rattle.memory.proofs.buffer.put.Tie as tie
@@ -84,11 +84,11 @@ part-put-message-end c = search needs
 put-message-requires : tie.Need-put-message-requires
 put-message-requires c κs = let w = inside (c .before) in let f = facts (c .before .before .before .before .before .before .before .before) in simp (length-take, length-drop) (omega arith)
 
-add-x : tie.Need-add-x
-add-x c = let b = below (c .before .before .before .before .before .before .before .before .before) in omega arith
+add-set-counts : tie.Need-add-set-counts
+add-set-counts c = let b = below (c .before .before .before .before .before .before .before .before .before .before) in omega arith
 
-write-requires : tie.Need-write-requires
-write-requires c κs = in-group (c .before .before .before .before .before .before .before .before .before .before .before .before .before) _ 3 (wrote (c .before .before .before .before) .same-length) (omega arith)
+set-counts-requires : tie.Need-set-counts-requires
+set-counts-requires c κs = in-group (c .before .before .before .before .before .before .before .before .before .before .before .before .before) _ 3 (wrote (c .before .before .before .before) .same-length) (omega arith)
 
 same-length : tie.Need-same-length
 same-length c = search needs
@@ -96,7 +96,10 @@ same-length c = search needs
 returns : tie.Need-returns
 returns c x kept n r h room =
     let s = (c .before .before .before .before .before .before .before .before .before .before .before .before .before .before .before .before) in
-    putting-kept h x (s .args .g) (kept .group) (s .pre .0 .0) (s .pre .0 .1) room (wrote-as (wrote (c .before .before .before .before .before .before .before)) (sym (kept .words))) (rw (c .before .before .before .before .before .before .before .before .before .before .before .before .before .read .ensures) at (c .before .before .write .ensures))
+    let w = wrote (c .before .before .before .before .before .before .before) in
+    let above = flags-below (s .args .m .now) (s .args .g) (s .pre .0 .1) in
+    putting-kept h x (s .args .g) (kept .group) (s .pre .0 .0) (s .pre .0 .1) room (wrote-as w (sym (kept .words)))
+    (rw (w .below (groupAddress (s .args .g) + 0) (omega arith), w .below (groupAddress (s .args .g) + 1) (omega arith), c .before .before .before .before .before .before .before .before .before .before .before .before .before .read .ensures) at (c .before .before .set-counts .ensures))
 
 pub put-spec : {M : Type 1} → statement M
 put-spec =
@@ -113,7 +116,7 @@ put-spec =
     part-put-message-start
     part-put-message-end
     put-message-requires
-    add-x
-    write-requires
+    add-set-counts
+    set-counts-requires
     same-length
     returns)

@@ -21,20 +21,20 @@ in-group c m k l h = record { long = omega (arith, facts c .long); low = c .pre 
 read-requires : tie.Need-read-requires
 read-requires c κs = in-group (c .before .before) _ 3 refl (omega arith)
 
-add-x : tie.Need-add-x
-add-x c = let e = ap (λ (x : Group·rt). x .used) (c .before .read .ensures) in let f = facts (c .before .before .before .before) in omega arith
+add-set-counts : tie.Need-add-set-counts
+add-set-counts c = let e = ap (λ (x : Group·rt). x .used) (c .before .before .read .ensures) in let f = facts (c .before .before .before .before .before) in omega arith
 
-sub-x : tie.Need-sub-x
-sub-x c = let e = ap (λ (x : Group·rt). x .count) (c .before .before .read .ensures) in let f = facts (c .before .before .before .before .before) in omega arith
+sub-set-counts : tie.Need-sub-set-counts
+sub-set-counts c = let e = ap (λ (x : Group·rt). x .count) (c .before .before .before .read .ensures) in let f = facts (c .before .before .before .before .before .before) in omega arith
 
-write-requires : tie.Need-write-requires
-write-requires c κs = in-group (c .before .before .before .before .before .before) _ 3 refl (omega arith)
+set-counts-requires : tie.Need-set-counts-requires
+set-counts-requires c κs = in-group (c .before .before .before .before .before .before) _ 3 refl (omega arith)
 
 same-length : tie.Need-same-length
 same-length c = search needs
 
 returns : tie.Need-returns
-returns c n r h waits = let s = c .before .before .before .before .before .before .before .before .before in using-up-held h (s .args .g) (s .pre .0 .0) (s .pre .0 .1) (rw (c .before .before .before .before .before .before .read .ensures) at (c .before .before .write .ensures))
+returns c n r h waits = let s = c .before .before .before .before .before .before .before .before .before in using-up-held h (s .args .g) (s .pre .0 .0) (s .pre .0 .1) (rw (c .before .before .before .before .before .before .read .ensures) at (c .before .before .set-counts .ensures))
 
 pub use-up-spec : {M : Type 1} → statement M
-use-up-spec = tie.close (tie.spec read-requires add-x sub-x write-requires same-length returns)
+use-up-spec = tie.close (tie.spec read-requires add-set-counts sub-set-counts set-counts-requires same-length returns)

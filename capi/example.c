@@ -1,0 +1,82 @@
+/* A node from C: power-on, steps by letter and by line, the head message, and what is refused.
+ *
+ *     rt staticlib capi
+ *     cc -std=c11 -Icapi capi/example.c target/staticlib/libcapi.a -o example && ./example
+ */
+#include "fugu.h"
+
+#include <stdio.h>
+#include <string.h>
+
+static uint32_t memory[FUGU_SIZE];
+
+/* A report as a listing has it: answer, value, trap, upcall, moved, and what was sent. */
+static void print_report(const char *what, const uint32_t *report) {
+    printf("%-16s %u,%u,%u,%u,%u", what, report[FUGU_ANSWER], report[FUGU_VALUE], report[FUGU_TRAP], report[FUGU_UPCALL], report[FUGU_MOVED]);
+    if (report[FUGU_SENT_COUNT] != 0) {
+        printf(",%u,%u", report[FUGU_SENT_NODE], report[FUGU_SENT_GROUP]);
+        for (uint32_t i = 0; i < report[FUGU_SENT_COUNT]; i++) {
+            printf(",%u", report[FUGU_SENT_WORDS + i]);
+        }
+    }
+    printf("\n");
+}
+
+static void step(const char *what, uint8_t letter, const uint32_t *arguments, size_t count) {
+    uint32_t report[FUGU_REPORT];
+    if (fugu_step(memory, FUGU_SIZE, letter, arguments, count, report, FUGU_REPORT) == FUGU_REPORT) {
+        print_report(what, report);
+    }
+}
+
+static void line(const char *text) {
+    uint32_t report[FUGU_REPORT];
+    if (fugu_line(memory, FUGU_SIZE, (const uint8_t *)text, strlen(text), report, FUGU_REPORT) == FUGU_REPORT) {
+        print_report(text, report);
+    }
+}
+
+static void print_head(void) {
+    uint32_t head[FUGU_HEAD];
+    if (fugu_head(memory, FUGU_SIZE, head, FUGU_HEAD) == FUGU_HEAD) {
+        printf("head: %u words at %u:", head[1], head[0]);
+        for (uint32_t i = 0; i < head[1]; i++) {
+            printf(" %u", memory[head[0] + i]);
+        }
+        printf("\n");
+    }
+}
+
+int main(void) {
+    uint32_t report[FUGU_REPORT];
+    const uint32_t group[] = {1};
+    const uint32_t message[] = {1, 7, 8, 9};
+    const uint32_t ticks[] = {256};
+
+    printf("a node has %u words\n", fugu_size());
+    printf("before power-on: test %u\n", fugu_test(memory, FUGU_SIZE));
+    step("S,1", 'S', group, 1);
+    fugu_power_on(memory, FUGU_SIZE, report, FUGU_REPORT);
+    print_report("power-on", report);
+    printf("after power-on: test %u\n", fugu_test(memory, FUGU_SIZE));
+
+    step("S,1", 'S', group, 1);
+    print_head();
+    step("A,1,7,8,9", 'A', message, 4);
+    print_head();
+    step("T,256", 'T', ticks, 1);
+    print_head();
+    line("E,2");
+    line("D");
+    line("P,5");
+    line("L,63");
+
+    step("S, no number", 'S', group, 0);
+    step("Q", 'Q', group, 0);
+    line("S, 1");
+
+    fugu_power_on(memory, FUGU_SIZE - 1, report, FUGU_REPORT);
+    print_report("one word less", report);
+    printf("a part of 15 words: %u written\n", fugu_power_on(memory, FUGU_SIZE, report, FUGU_REPORT - 1));
+    return 0;
+}

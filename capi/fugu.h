@@ -1,0 +1,96 @@
+/* A node of the FUGU machine in lent memory, for C.
+ *
+ * The functions are those of target/staticlib/libcapi.a, which `rt staticlib capi` proves and writes, for x86-64. What each does, in full, is
+ * in the rules that crates/capi cites; docs/LISTING.md explains the operations and the numbers of a report.
+ *
+ * A node is FUGU_SIZE words of memory that the caller lends, and nothing else: it may be copied, kept and handed on as words. Memory may be
+ * longer; what stands behind the first FUGU_SIZE words is never touched. Memory may also be anything: words that are no node are refused.
+ *
+ * A call tells what it reports in a part that the caller lends beside the memory, and returns how many words it wrote there. Where the part is
+ * too short it returns 0, and neither the memory nor the part has changed. Words of the part behind those written stay as they were.
+ *
+ * What a caller owes: each pointer is not null, is aligned for its type, and has as many words or bytes behind it as the length after it says,
+ * where a length may be 0; and what a call writes overlaps nothing else that it is handed.
+ */
+#ifndef FUGU_H
+#define FUGU_H
+
+#include <stddef.h>
+#include <stdint.h>
+
+#ifdef __cplusplus
+extern "C" {
+#define FUGU_LENT
+#else
+#define FUGU_LENT restrict
+#endif
+
+enum {
+    FUGU_SIZE = 2868,  /* the words of a node */
+    FUGU_REPORT = 16,  /* the words of a report */
+    FUGU_HEAD = 2      /* the words that say where the head message stands */
+};
+
+/* Where each number stands in a report. Of a refused step all but the answer are 0. */
+enum {
+    FUGU_ANSWER = 0,      /* 0 accepted, else the number of the refusal, below */
+    FUGU_VALUE = 1,       /* what M, E, P or L hands back */
+    FUGU_TRAP = 2,        /* 1 dispose-extend, 2 atomicity-extend, 3 timeout */
+    FUGU_UPCALL = 3,      /* the group that gets an upcall, or 0 */
+    FUGU_MOVED = 4,       /* how many messages went from the hardware queue to buffers */
+    FUGU_SENT_NODE = 5,   /* an accepted L: the node, */
+    FUGU_SENT_GROUP = 6,  /* the group, */
+    FUGU_SENT_COUNT = 7,  /* how many words were sent, 0 where nothing was, */
+    FUGU_SENT_WORDS = 8   /* and eight words, 0 past that count */
+};
+
+/* The answers. */
+enum {
+    FUGU_ACCEPTED = 0,
+    FUGU_NOT_NODE = 1,
+    FUGU_UNREADABLE = 2,
+    FUGU_BAD_GROUP = 3,
+    FUGU_BAD_WORDS = 4,
+    FUGU_QUEUE_FULL = 5,
+    FUGU_NO_FRAMES = 6,
+    FUGU_NOBODY_RUNS = 7,
+    FUGU_NO_MESSAGE = 8,
+    FUGU_PAST_MESSAGE = 9,
+    FUGU_STILL_PENDING = 10,
+    FUGU_DESCRIPTOR_FULL = 11,
+    FUGU_DESCRIPTOR_EMPTY = 12,
+    FUGU_BAD_NODE = 13,
+    FUGU_BAD_SCHEDULE = 14,
+    FUGU_BAD_TICKS = 15
+};
+
+/* The words of a node: FUGU_SIZE. */
+uint32_t fugu_size(void);
+
+/* Power-on: memory of at least FUGU_SIZE words, whatever stands in it, becomes a node on which nobody runs. Shorter memory is refused with 1
+ * and left as it was. */
+uint32_t fugu_power_on(uint32_t *FUGU_LENT memory, size_t memory_length, uint32_t *FUGU_LENT report, size_t report_length);
+
+/* 1 where the memory is a node, else 0. */
+uint32_t fugu_test(const uint32_t *memory, size_t memory_length);
+
+/* One step: the operation by its letter in a script, 'A' to 'T', and its numbers, for 'A' the group and the words. Memory that is no node is
+ * refused with 1; then a letter of no operation, or a wrong count of numbers, with 2. A refused step leaves the memory as it was. */
+uint32_t fugu_step(uint32_t *FUGU_LENT memory, size_t memory_length, uint8_t letter, const uint32_t *arguments, size_t arguments_length,
+                   uint32_t *FUGU_LENT report, size_t report_length);
+
+/* The same by a line of a script, without its newline. A line that can't be read is refused with 2. */
+uint32_t fugu_line(uint32_t *FUGU_LENT memory, size_t memory_length, const uint8_t *text, size_t text_length, uint32_t *FUGU_LENT report,
+                   size_t report_length);
+
+/* The running group's first message, where it stands: into the part go the index in the memory of its first word, and how many words it has,
+ * 1 to 8; 0 and 0 where there is none or the memory is no node. */
+uint32_t fugu_head(const uint32_t *memory, size_t memory_length, uint32_t *FUGU_LENT part, size_t part_length);
+
+#undef FUGU_LENT
+
+#ifdef __cplusplus
+}
+#endif
+
+#endif

@@ -1,0 +1,101 @@
+//! The calls as `capi/fugu.h` has them, over slices: any memory and any part may be handed to them.
+//!
+//! A call that tells something returns how many words it wrote into the lent part: 0 where that is
+//! too short, and then neither the memory nor the part has changed.
+
+mod raw {
+    extern "C" {
+        pub fn fugu_size() -> u32;
+        pub fn fugu_power_on(
+            memory: *mut u32,
+            memory_length: usize,
+            report: *mut u32,
+            report_length: usize,
+        ) -> u32;
+        pub fn fugu_test(memory: *const u32, memory_length: usize) -> u32;
+        pub fn fugu_step(
+            memory: *mut u32,
+            memory_length: usize,
+            letter: u8,
+            arguments: *const u32,
+            arguments_length: usize,
+            report: *mut u32,
+            report_length: usize,
+        ) -> u32;
+        pub fn fugu_line(
+            memory: *mut u32,
+            memory_length: usize,
+            text: *const u8,
+            text_length: usize,
+            report: *mut u32,
+            report_length: usize,
+        ) -> u32;
+        pub fn fugu_head(
+            memory: *const u32,
+            memory_length: usize,
+            part: *mut u32,
+            part_length: usize,
+        ) -> u32;
+    }
+}
+
+// Each call below is safe for the same reason: it is proved to touch nothing but the slices that it
+// is handed, within their lengths, to end, and to require nothing of them. A slice's pointer is not
+// null and aligned, and no `&mut` of them overlaps another.
+
+/// The words of a node: [`crate::SIZE`].
+pub fn size() -> u32 {
+    unsafe { raw::fugu_size() }
+}
+
+/// Any memory that is long enough becomes a node; shorter memory is refused with 1.
+pub fn power_on(memory: &mut [u32], report: &mut [u32]) -> u32 {
+    unsafe {
+        raw::fugu_power_on(
+            memory.as_mut_ptr(),
+            memory.len(),
+            report.as_mut_ptr(),
+            report.len(),
+        )
+    }
+}
+
+/// 1 where the memory is a node, else 0.
+pub fn test(memory: &[u32]) -> u32 {
+    unsafe { raw::fugu_test(memory.as_ptr(), memory.len()) }
+}
+
+/// One step: the operation by its letter and its numbers, for `A` the group and the words.
+pub fn step(memory: &mut [u32], letter: u8, arguments: &[u32], report: &mut [u32]) -> u32 {
+    unsafe {
+        raw::fugu_step(
+            memory.as_mut_ptr(),
+            memory.len(),
+            letter,
+            arguments.as_ptr(),
+            arguments.len(),
+            report.as_mut_ptr(),
+            report.len(),
+        )
+    }
+}
+
+/// The same by a line of a script, without its newline.
+pub fn line(memory: &mut [u32], text: &[u8], report: &mut [u32]) -> u32 {
+    unsafe {
+        raw::fugu_line(
+            memory.as_mut_ptr(),
+            memory.len(),
+            text.as_ptr(),
+            text.len(),
+            report.as_mut_ptr(),
+            report.len(),
+        )
+    }
+}
+
+/// Where the running group's first message stands in the memory, and how many words it has; 0 and 0
+/// where there is none.
+pub fn head(memory: &[u32], part: &mut [u32]) -> u32 {
+    unsafe { raw::fugu_head(memory.as_ptr(), memory.len(), part.as_mut_ptr(), part.len()) }
+}

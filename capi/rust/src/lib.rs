@@ -1,0 +1,37 @@
+//! A node of the FUGU machine in lent memory: the proved calls of `crates/capi` behind a safe
+//! interface.
+//!
+//! - [`calls`]: the calls as they are, over slices, each with the part that it tells in.
+//! - [`Node`]: memory, owned or lent, with the calls as methods.
+//! - [`Report`]: what a step reported; [`answer`] has its answers by name.
+//! - [`listing`]: a script played on a node, with its listing.
+//! - [`kept`]: memory kept in a file. With the script it makes the program `desk`.
+//!
+//! ```
+//! use fugu::{Node, SIZE};
+//!
+//! let mut node = Node::power_on(vec![0; SIZE]).expect("the memory is long enough");
+//! node.step(b'S', &[1]);
+//! let report = node.line(b"A,1,7,8");
+//! assert_eq!((report.answer, report.upcall), (0, 1));
+//! assert_eq!(node.head(), [7, 8]);
+//! ```
+
+pub mod answer;
+pub mod calls;
+pub mod kept;
+pub mod listing;
+mod node;
+mod report;
+
+pub use node::Node;
+pub use report::{Report, Sent};
+
+/// The words of a node.
+pub const SIZE: usize = 2868;
+
+/// The words of a report.
+pub const REPORT: usize = 16;
+
+/// The words that say where the head message stands.
+pub const HEAD: usize = 2;

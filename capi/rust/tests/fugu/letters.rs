@@ -1,0 +1,80 @@
+//! Letters and counts of numbers: which are an operation, and that a line and a step by its letter
+//! are the same.
+
+use fugu::answer::UNREADABLE;
+
+use crate::support::{only, started, taken_apart};
+
+/// Whether a letter takes this count of numbers.
+fn taken(letter: u8, count: usize) -> bool {
+    match letter {
+        b'A' => count >= 1,
+        b'S' | b'T' | b'E' | b'P' | b'L' => count == 1,
+        b'M' | b'D' | b'B' | b'N' => count == 0,
+        _ => false,
+    }
+}
+
+#[test]
+fn every_letter_with_every_count() {
+    let numbers = [1; 80];
+    for letter in 0..=u8::MAX {
+        for count in [0, 1, 2, 3, 8, 9, 10, 63, 64, 65, 80] {
+            let mut node = started();
+            let report = node.step(letter, &numbers[..count]);
+            if taken(letter, count) {
+                assert_ne!(
+                    report.answer, UNREADABLE,
+                    "letter {letter}, {count} numbers"
+                );
+            } else {
+                assert_eq!(report, only(UNREADABLE), "letter {letter}, {count} numbers");
+                assert_eq!(node, started(), "letter {letter}, {count} numbers");
+            }
+        }
+    }
+}
+
+#[test]
+fn unreadable_lines() {
+    let lines: [&[u8]; 12] = [
+        b"",
+        b"m",
+        b"Q,1",
+        b"S,1\r",
+        b"S, 1",
+        b"A",
+        b"S",
+        b"M,0",
+        b"A,1,",
+        b"T,-1",
+        b"S,00000000001",
+        b"M\n",
+    ];
+    for line in lines {
+        assert_eq!(
+            started().line(line),
+            only(UNREADABLE),
+            "{}",
+            line.escape_ascii()
+        );
+    }
+}
+
+#[test]
+fn a_line_and_its_letter_are_the_same_step() {
+    let script = "\
+        S,1\nA,1,7\nA,2,5,6\nN\nE,0\nE,1\nT,256\nD\nN\n\
+        S,2\nM\nD\nP,9\nP,4294967295\nL,64\nL,3\nA,1\nA,9,1\n\
+        A,1,1,2,3,4,5,6,7,8,9\nB\nS,9\nT,0\nD";
+    let (mut by_line, mut by_letter) = (started(), started());
+    for line in script.lines() {
+        let (letter, numbers) = taken_apart(line.as_bytes()).expect("the line is readable");
+        assert_eq!(
+            by_line.line(line.as_bytes()),
+            by_letter.step(letter, &numbers),
+            "{line}"
+        );
+        assert_eq!(by_line, by_letter, "{line}");
+    }
+}

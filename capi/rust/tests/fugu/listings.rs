@@ -1,0 +1,81 @@
+//! Scripts played line by line: the reports are those of the listing beside each.
+
+use std::fs;
+use std::path::{Path, PathBuf};
+
+use crate::support::{started, taken_apart};
+
+const HEADER: &str = "line,answer,value,trap,upcall,moved\n";
+
+/// The scripts of a folder of the project that have a listing.
+fn scripts(folder: &str) -> Vec<PathBuf> {
+    let folder = Path::new(env!("CARGO_MANIFEST_DIR"))
+        .join("../..")
+        .join(folder);
+    let mut scripts: Vec<_> = fs::read_dir(&folder)
+        .unwrap_or_else(|error| panic!("{}: {error}", folder.display()))
+        .map(|entry| entry.expect("the folder is read").path())
+        .filter(|path| {
+            path.extension().is_some_and(|end| end == "script")
+                && path.with_extension("listing").exists()
+        })
+        .collect();
+    scripts.sort();
+    scripts
+}
+
+/// A script's lines: behind the last newline none begins.
+fn lines(script: &[u8]) -> Vec<&[u8]> {
+    let mut lines: Vec<_> = script.split(|&byte| byte == b'\n').collect();
+    if lines.last().is_some_and(|line| line.is_empty()) {
+        lines.pop();
+    }
+    lines
+}
+
+/// The listing of a script, each line played by its bytes, and by its letter too where it can be
+/// taken apart.
+fn listing(script: &[u8]) -> String {
+    let mut listing = HEADER.to_string();
+    let mut node = started();
+    for (index, line) in lines(script).into_iter().enumerate() {
+        let mut by_letter = node.clone();
+        let report = node.line(line);
+        // A line that can't be read may still be taken apart: by a sign, or too many digits.
+        if let Some((letter, numbers)) =
+            taken_apart(line).filter(|_| report.answer != fugu::answer::UNREADABLE)
+        {
+            assert_eq!(
+                by_letter.step(letter, &numbers),
+                report,
+                "line {}",
+                index + 1
+            );
+            assert_eq!(by_letter, node, "line {}", index + 1);
+        }
+        listing += &format!("{},{report}\n", index + 1);
+    }
+    assert!(node.test());
+    listing
+}
+
+fn play(folder: &str) {
+    let scripts = scripts(folder);
+    assert!(!scripts.is_empty(), "{folder} has scripts");
+    for script in scripts {
+        let expected =
+            fs::read_to_string(script.with_extension("listing")).expect("the listing is text");
+        let listed = listing(&fs::read(&script).expect("the script is read"));
+        assert!(listed == expected, "{}", script.display());
+    }
+}
+
+#[test]
+fn examples() {
+    play("examples");
+}
+
+#[test]
+fn vectors() {
+    play("vectors/base");
+}

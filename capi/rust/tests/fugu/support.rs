@@ -1,0 +1,37 @@
+//! What the tests share.
+
+use fugu::{Node, Report, SIZE};
+
+/// A node at power-on.
+pub fn started() -> Node<Vec<u32>> {
+    Node::power_on(vec![0; SIZE]).expect("the memory is long enough")
+}
+
+/// A node after some lines of a script, each of them accepted.
+pub fn after(lines: &[&str]) -> Node<Vec<u32>> {
+    let mut node = started();
+    for line in lines {
+        assert_eq!(node.line(line.as_bytes()).answer, 0, "{line}");
+    }
+    node
+}
+
+/// A report of nothing but its answer.
+pub fn only(answer: u32) -> Report {
+    Report {
+        answer,
+        ..Report::default()
+    }
+}
+
+/// A line's letter and numbers, where it is written with one letter and good numbers.
+pub fn taken_apart(line: &[u8]) -> Option<(u8, Vec<u32>)> {
+    let mut fields = std::str::from_utf8(line).ok()?.split(',');
+    let &[letter] = fields.next()?.as_bytes() else {
+        return None;
+    };
+    let numbers = fields
+        .map(|field| field.parse().ok())
+        .collect::<Option<_>>()?;
+    Some((letter, numbers))
+}

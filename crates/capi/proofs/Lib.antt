@@ -1,0 +1,3 @@
+pub mod ToldLaws
+pub mod NumberLaws
+pub mod HeadRange

@@ -1,0 +1,379 @@
+//! Random memories to try the calls over memory on: nodes that scripts reach, the same with words
+//! changed, and memories of any length. Whether a changed one is still a node is for the memory
+//! test to say.
+
+use super::map::{
+    group_at, place_at, queued_at, Words, ATOMIC, DESCRIPTOR_COUNT, FRAMES_AT, FREE_AT, FREE_COUNT,
+    LIST_AT, LIST_COUNT, MESSAGES, PENDING, PLACE_WORDS, QUEUE_COUNT, RUNNING, SIZE, TIMER,
+    USED_UP,
+};
+use super::words_of;
+use crate::generator::{Flavour, FLAVOURS};
+use crate::node::{
+    Operation, DESCRIPTOR_WORDS, FRAMES, FRAME_PLACES, GROUPS, MESSAGE_WORDS, QUEUE_PLACES, TIMEOUT,
+};
+use crate::random::Random;
+use crate::script;
+
+/// A script that leads to a node has at most 2 to one of these powers lines: enough to fill all
+/// frames.
+const SCRIPT_LINES: [u64; 2] = [5, 11];
+/// At most so many words are changed at random.
+const MOST_WORDS: u64 = 8;
+/// A longer memory has at most so many words past the node.
+const MOST_PAST: u64 = 100;
+
+/// A node that a script of some flavour leads to, after few lines as often as after many.
+pub fn reachable(random: &mut Random) -> Vec<u32> {
+    let flavour = &FLAVOURS[below(random, FLAVOURS.len())];
+    let power = random.between(SCRIPT_LINES[0], SCRIPT_LINES[1]);
+    let lines = random.between(0, 1 << power);
+    words_of(&script::node_after(&flavour.script(random.draw(), lines)))
+}
+
+/// Any operation, an unknown one too.
+pub fn operation(random: &mut Random) -> Operation {
+    let name = if random.one_in(20) { "bad" } else { "uniform" };
+    let flavour = Flavour::named(name).expect("a flavour of this name");
+    let line = flavour.script(random.draw(), 1);
+    script::read(line.strip_suffix(b"\n").unwrap_or(&line))
+}
+
+/// Any memory: a node or a changed one, most often of the node's size.
+pub fn any_memory(random: &mut Random) -> Vec<u32> {
+    let mut memory = reachable(random);
+    vary(&mut memory, random);
+    memory
+}
+
+/// Makes any memory of a node's.
+pub fn vary(memory: &mut Vec<u32>, random: &mut Random) {
+    match random.between(1, 8) {
+        1 | 2 => (),
+        3 => change_words(memory, random),
+        8 => (0..2).for_each(|_| any_change(memory, random)),
+        _ => any_change(memory, random),
+    }
+    let length = match random.between(1, 8) {
+        1 => Length::TooShort,
+        2 => Length::Longer,
+        _ => Length::Exact,
+    };
+    length.give(memory, random);
+}
+
+/// How long a memory is, measured by a node.
+#[derive(Clone, Copy, Debug)]
+pub enum Length {
+    TooShort,
+    Exact,
+    Longer,
+}
+
+impl Length {
+    /// Cuts the memory, or puts random words behind it.
+    pub fn give(self, memory: &mut Vec<u32>, random: &mut Random) {
+        let size = match self {
+            Length::TooShort if random.one_in(4) => SIZE - 1,
+            Length::TooShort => below(random, SIZE),
+            Length::Exact => SIZE,
+            Length::Longer => SIZE + random.between(1, MOST_PAST) as usize,
+        };
+        memory.resize_with(size, || random.draw() as u32);
+    }
+}
+
+/// Changes one to eight words of the node, most often among the numbers before the frames.
+pub fn change_words(memory: &mut [u32], random: &mut Random) {
+    let words = random.between(1, MOST_WORDS) as usize;
+    let mut changed = Vec::new();
+    while changed.len() < words {
+        let end = random.pick(&[FRAMES_AT, FRAMES_AT, SIZE]);
+        let at = below(random, end);
+        if !changed.contains(&at) {
+            changed.push(at);
+            change(memory, random, at, FRAMES);
+        }
+    }
+}
+
+/// A change at a chosen place of a node, to an edge of its bounds or beyond. The memory has at
+/// least a node's size; it need not be a node.
+pub struct Change {
+    pub name: &'static str,
+    make: fn(&mut [u32], &mut Random),
+}
+
+pub static CHANGES: [Change; 16] = [
+    Change {
+        name: "the running group",
+        make: |memory, random| change(memory, random, RUNNING, GROUPS),
+    },
+    Change {
+        name: "the timer",
+        make: |memory, random| change(memory, random, TIMER, TIMEOUT as usize - 1),
+    },
+    Change {
+        name: "counts",
+        make: change_count,
+    },
+    Change {
+        name: "used-up places",
+        make: change_used_up,
+    },
+    Change {
+        name: "messages in a buffer",
+        make: change_messages,
+    },
+    Change {
+        name: "flags",
+        make: change_flag,
+    },
+    Change {
+        name: "groups",
+        make: change_group,
+    },
+    Change {
+        name: "lengths",
+        make: change_length,
+    },
+    Change {
+        name: "the free line",
+        make: change_free,
+    },
+    Change {
+        name: "lists",
+        make: change_list,
+    },
+    Change {
+        name: "frames exchanged",
+        make: exchange_frames,
+    },
+    Change {
+        name: "unused words",
+        make: change_unused,
+    },
+    Change {
+        name: "places without a waiting message",
+        make: change_unread,
+    },
+    Change {
+        name: "a message in the queue",
+        make: forge_queued,
+    },
+    Change {
+        name: "a message in a buffer",
+        make: |memory, random| {
+            let group = runner_or_any(memory, random);
+            forge_buffered(memory, random, group);
+        },
+    },
+    Change {
+        name: "all frames filled",
+        make: fill_frames,
+    },
+];
+
+impl Change {
+    pub fn make(&self, memory: &mut [u32], random: &mut Random) {
+        (self.make)(memory, random);
+    }
+}
+
+fn any_change(memory: &mut [u32], random: &mut Random) {
+    CHANGES[below(random, CHANGES.len())].make(memory, random);
+}
+
+fn change_count(memory: &mut [u32], random: &mut Random) {
+    let record = any_record(random);
+    let (at, most) = random.pick(&[
+        (QUEUE_COUNT, QUEUE_PLACES),
+        (FREE_COUNT, FRAMES),
+        (record + LIST_COUNT, FRAMES),
+        (record + DESCRIPTOR_COUNT, DESCRIPTOR_WORDS),
+    ]);
+    change(memory, random, at, most);
+}
+
+fn change_used_up(memory: &mut [u32], random: &mut Random) {
+    let record = group_at(a_buffered(memory, random));
+    change(memory, random, record + USED_UP, FRAME_PLACES - 1);
+}
+
+/// To an edge, to about what the list has room for, so that h + n is small only in 32 bits, or to 0,
+/// which leaves h alone.
+fn change_messages(memory: &mut [u32], random: &mut Random) {
+    let group = a_buffered(memory, random);
+    let (at, used_up) = (
+        group_at(group) + MESSAGES,
+        memory[group_at(group) + USED_UP],
+    );
+    let places = words(memory).group(group).list_count() * FRAME_PLACES;
+    let sum = match random.between(1, 6) {
+        1 => below(random, places + 2),
+        2 => below(random, used_up.max(1) as usize),
+        3 => used_up as usize,
+        _ => return change(memory, random, at, places),
+    };
+    memory[at] = (sum as u32).wrapping_sub(used_up);
+}
+
+fn change_flag(memory: &mut [u32], random: &mut Random) {
+    let at = any_record(random) + random.pick(&[ATOMIC, PENDING]);
+    if random.one_in(4) {
+        change(memory, random, at, 1);
+    } else {
+        memory[at] ^= 1;
+    }
+}
+
+fn change_group(memory: &mut [u32], random: &mut Random) {
+    let queued = words(memory).queued().collect();
+    let at = one_of(random, queued, queued_at(0));
+    change(memory, random, at, GROUPS);
+}
+
+fn change_length(memory: &mut [u32], random: &mut Random) {
+    let waiting = words(memory).waiting().collect();
+    let at = one_of(random, waiting, place_at(0, 0));
+    change(memory, random, at, MESSAGE_WORDS);
+}
+
+fn change_free(memory: &mut [u32], random: &mut Random) {
+    let at = FREE_AT + below(random, FRAMES);
+    change(memory, random, at, FRAMES - 1);
+}
+
+fn change_list(memory: &mut [u32], random: &mut Random) {
+    let unused = any_record(random) + LIST_AT + below(random, FRAMES);
+    let at = one_of(random, words(memory).listed().collect(), unused);
+    change(memory, random, at, FRAMES - 1);
+}
+
+fn exchange_frames(memory: &mut [u32], random: &mut Random) {
+    let words = words(memory);
+    let standing: Vec<usize> = words.free_line().chain(words.listed()).collect();
+    let one = one_of(random, standing.clone(), FREE_AT);
+    let other = one_of(random, standing, FREE_AT);
+    memory.swap(one, other);
+}
+
+/// What is asked to be 0.
+fn change_unused(memory: &mut [u32], random: &mut Random) {
+    let words = words(memory);
+    let unused: Vec<usize> = match random.between(1, 5) {
+        1 => words.queue_rest().collect(),
+        2 => words.free_rest().collect(),
+        3 => words.list_rest().collect(),
+        4 => words.descriptor_rest().collect(),
+        _ => words.message_rest().collect(),
+    };
+    let at = one_of(random, unused, FREE_AT - 1);
+    change(memory, random, at, 1);
+}
+
+/// What a frame keeps where no message waits may be anything.
+fn change_unread(memory: &mut [u32], random: &mut Random) {
+    let waiting: Vec<usize> = words(memory).waiting().collect();
+    let places = (FRAMES_AT..SIZE).step_by(PLACE_WORDS);
+    let unread = places.filter(|at| !waiting.contains(at)).collect();
+    let at = one_of(random, unread, FRAMES_AT) + below(random, PLACE_WORDS);
+    change(memory, random, at, MESSAGE_WORDS);
+}
+
+/// A message at the end of the hardware queue, often the running group's. In a full queue it takes
+/// the place of the last.
+fn forge_queued(memory: &mut [u32], random: &mut Random) {
+    let place = words(memory).queue_count().min(QUEUE_PLACES - 1);
+    memory[QUEUE_COUNT] = place as u32 + 1;
+    let group = runner_or_any(memory, random);
+    memory[queued_at(place)] = group as u32;
+    forge(memory, random, queued_at(place) + 1);
+}
+
+/// Messages in the buffer of a group that does not run, until no frame is free: what is in the
+/// queue finds none then.
+fn fill_frames(memory: &mut [u32], random: &mut Random) {
+    let group = 1 + (words(memory).running() + below(random, GROUPS - 1)) % GROUPS;
+    for _ in 0..FRAMES * FRAME_PLACES {
+        if words(memory).free_count() == 0 {
+            break;
+        }
+        forge_buffered(memory, random, group);
+    }
+}
+
+/// A message at the end of a group's buffer. If the list needs another frame, it gets the last of
+/// the free line; if none is left, n grows all the same.
+fn forge_buffered(memory: &mut [u32], random: &mut Random, group: usize) {
+    let at = group_at(group);
+    let record = words(memory).group(group);
+    let (place, listed) = (record.used_up() + record.messages(), record.list_count());
+    let is_full = place == (listed * FRAME_PLACES) as u64;
+    if let Some(last) = words(memory).free_line().last().filter(|_| is_full) {
+        memory[FREE_COUNT] = (last - FREE_AT) as u32;
+        memory[at + LIST_COUNT] = listed as u32 + 1;
+        memory[at + LIST_AT + listed % FRAMES] = std::mem::take(&mut memory[last]);
+    }
+    memory[at + MESSAGES] = memory[at + MESSAGES].wrapping_add(1);
+    if let Some(kept) = words(memory).buffered(group).last() {
+        forge(memory, random, kept);
+    }
+}
+
+/// A message of any length: its words, and 0 past them.
+fn forge(memory: &mut [u32], random: &mut Random, at: usize) {
+    let length = random.between(1, MESSAGE_WORDS as u64) as usize;
+    memory[at] = length as u32;
+    memory[at + 1..][..MESSAGE_WORDS].fill(0);
+    memory[at + 1..][..length].fill_with(|| random.draw() as u32);
+}
+
+/// Puts another number at an address: an edge of the bounds 0 to `most` or beyond, one within them,
+/// one beside what stands there, one that differs from it in a bit, or any.
+fn change(memory: &mut [u32], random: &mut Random, at: usize, most: usize) {
+    let (now, most) = (memory[at], most as u32);
+    while memory[at] == now {
+        let edge = random.pick(&[0, 1, most, most + 1, 1 << 8, 1 << 16, 1 << 31, u32::MAX]);
+        let within = random.between(0, most.into()) as u32;
+        let beside = random.pick(&[now.wrapping_sub(1), now.wrapping_add(1)]);
+        let flipped = now ^ 1 << random.between(0, 31);
+        let any = random.draw() as u32;
+        memory[at] = random.pick(&[edge, edge, within, beside, flipped, any]);
+    }
+}
+
+fn words(memory: &[u32]) -> Words<'_> {
+    Words(&memory[..SIZE])
+}
+
+fn below(random: &mut Random, end: usize) -> usize {
+    random.between(0, end as u64 - 1) as usize
+}
+
+fn one_of(random: &mut Random, addresses: Vec<usize>, if_none: usize) -> usize {
+    if addresses.is_empty() {
+        return if_none;
+    }
+    random.pick(&addresses)
+}
+
+fn any_record(random: &mut Random) -> usize {
+    group_at(1 + below(random, GROUPS))
+}
+
+/// A group whose buffer holds a message, if there is one.
+fn a_buffered(memory: &[u32], random: &mut Random) -> usize {
+    let buffered = (1..=GROUPS).filter(|&group| words(memory).group(group).messages() > 0);
+    let any = 1 + below(random, GROUPS);
+    one_of(random, buffered.collect(), any)
+}
+
+fn runner_or_any(memory: &[u32], random: &mut Random) -> usize {
+    let any = 1 + below(random, GROUPS);
+    let running = words(memory).running();
+    if (1..=GROUPS).contains(&running) && random.one_in(2) {
+        return running;
+    }
+    any
+}

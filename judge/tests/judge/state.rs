@@ -1,0 +1,184 @@
+//! What a node holds, as text, and a node read from the bytes of its memory.
+
+use std::fs;
+use std::path::Path;
+
+use judge::memory;
+use judge::node::Node;
+use judge::script;
+use judge::state;
+
+use crate::support::{bytes, memory_after, operations, power_on};
+
+/// The node in a file of these bytes, or what is told of them.
+fn read(file: &[u8]) -> Result<Node, String> {
+    let node = state::read(file).expect("memory is read without error");
+    node.map_err(|no_node| no_node.to_string())
+}
+
+fn state_of(memory: &[u32]) -> String {
+    state::text(&read(&bytes(memory)).expect("a node"))
+}
+
+/// The groups from one to another as they are at power-on.
+fn idle(first: usize, last: usize) -> String {
+    let group = |g| format!("group {g} atomic 0 pending 0 h 0 n 0 pages descriptor\n");
+    (first..=last).map(group).collect()
+}
+
+#[test]
+fn power_on_has_32_free_frames_and_no_more() {
+    let free =
+        "0 1 2 3 4 5 6 7 8 9 10 11 12 13 14 15 16 17 18 19 20 21 22 23 24 25 26 27 28 29 30 \
+                31";
+    let expected = format!("running 0\ntimer 0\nfree {free}\n{}", idle(1, 8));
+    assert_eq!(state_of(&power_on()), expected);
+}
+
+#[test]
+fn the_whole_case() {
+    let script = include_bytes!("../../../examples/whole-case.script");
+    let expected = "\
+running 2
+timer 0
+free 2 3 4 5 6 7 8 9 10 11 12 13 14 15 16 17 18 19 20 21 22 23 24 25 26 27 28 29 30 31 0 1
+group 1 atomic 0 pending 0 h 0 n 0 pages descriptor
+group 2 atomic 1 pending 0 h 0 n 0 pages descriptor
+group 3 atomic 0 pending 0 h 0 n 0 pages descriptor
+group 4 atomic 0 pending 0 h 0 n 0 pages descriptor
+group 5 atomic 0 pending 0 h 0 n 0 pages descriptor
+group 6 atomic 0 pending 0 h 0 n 0 pages descriptor
+group 7 atomic 0 pending 0 h 0 n 0 pages descriptor
+group 8 atomic 0 pending 0 h 0 n 0 pages descriptor
+f0 place 0 length 1 words 7 0 0 0 0 0 0 0
+f1 place 0 length 2 words 5 6 0 0 0 0 0 0
+";
+    assert_eq!(state_of(&memory_of(script)), expected);
+}
+
+#[test]
+fn every_fact_has_its_place() {
+    let memory = memory_after(
+        "A,3,10,11 A,3,20 A,4,4294967295 A,3,3 A,3,4 A,3,5 A,3,6 A,3,7 A,3,8 A,3,9 S,3 D D S,1 P,9 \
+         P,8 A,1,7 A,2,5,6 A,1,4,4,4 T,5",
+    );
+    let expected = format!(
+        "\
+running 1
+timer 5
+queued 1 words 7 0 0 0 0 0 0 0
+queued 2 words 5 6 0 0 0 0 0 0
+queued 1 words 4 4 4 0 0 0 0 0
+free 3 4 5 6 7 8 9 10 11 12 13 14 15 16 17 18 19 20 21 22 23 24 25 26 27 28 29 30 31
+group 1 atomic 1 pending 1 h 0 n 0 pages descriptor 9 8
+{}group 3 atomic 1 pending 0 h 2 n 7 pages f0 f2 descriptor
+group 4 atomic 0 pending 0 h 0 n 1 pages f1 descriptor
+{}f0 place 0 length 2 words 10 11 0 0 0 0 0 0
+f0 place 1 length 1 words 20 0 0 0 0 0 0 0
+f0 place 2 length 1 words 3 0 0 0 0 0 0 0
+f0 place 3 length 1 words 4 0 0 0 0 0 0 0
+f0 place 4 length 1 words 5 0 0 0 0 0 0 0
+f0 place 5 length 1 words 6 0 0 0 0 0 0 0
+f0 place 6 length 1 words 7 0 0 0 0 0 0 0
+f0 place 7 length 1 words 8 0 0 0 0 0 0 0
+f1 place 0 length 1 words 4294967295 0 0 0 0 0 0 0
+f2 place 0 length 1 words 9 0 0 0 0 0 0 0
+",
+        idle(2, 2),
+        idle(5, 8)
+    );
+    assert_eq!(state_of(&memory), expected);
+}
+
+#[test]
+fn no_free_frame_leaves_the_line_bare() {
+    let state = state_of(&memory_after(&"A,8,1 ".repeat(256)));
+    assert_eq!(state.lines().nth(2), Some("free"));
+    assert_eq!(state.lines().count(), 3 + 8 + 256);
+}
+
+/// A place that keeps words only, or a length only, is not 0 throughout.
+#[test]
+fn a_place_is_told_for_any_of_its_words() {
+    let mut memory = power_on();
+    memory[564 + 72 * 5 + 9 * 3 + 8] = 1;
+    memory[564 + 72 * 31 + 9 * 7] = 77;
+    let expected = "f5 place 3 length 0 words 0 0 0 0 0 0 0 1\n\
+                    f31 place 7 length 77 words 0 0 0 0 0 0 0 0\n";
+    assert!(state_of(&memory).ends_with(&format!("descriptor\n{expected}")));
+}
+
+/// The memory after a script, stepped in memory.
+fn memory_of(script: &[u8]) -> Vec<u32> {
+    let mut memory = power_on();
+    for operation in operations(script) {
+        memory::step(&mut memory, &operation);
+    }
+    memory
+}
+
+#[test]
+fn memories_after_every_script_read_back_to_the_same_state() {
+    let base = Path::new(env!("CARGO_MANIFEST_DIR")).join("../vectors/base");
+    let mut scripts = 0;
+    for entry in fs::read_dir(base).expect("a folder") {
+        let path = entry.expect("an entry").path();
+        if path.extension().is_some_and(|end| end == "script") {
+            let script = fs::read(&path).expect("a script");
+            let (node, memory) = (script::node_after(&script), memory_of(&script));
+            assert_eq!(memory, memory::words_of(&node), "{}", path.display());
+            assert_eq!(read(&bytes(&memory)).as_ref(), Ok(&node));
+            assert_eq!(state_of(&memory), state::text(&node));
+            scripts += 1;
+        }
+    }
+    assert!(scripts > 60, "{scripts}");
+}
+
+#[test]
+fn words_have_their_lowest_byte_first() {
+    let mut file = bytes(&power_on());
+    file[..4].copy_from_slice(&[8, 0, 0, 0]);
+    assert_eq!(read(&file).map(|node| node.running), Ok(8));
+    file[..4].copy_from_slice(&[0, 0, 0, 8]);
+    let told = read(&file).expect_err("no node");
+    assert!(
+        told.ends_with("word 0, the running group: 134217728"),
+        "{told}"
+    );
+}
+
+#[test]
+fn a_file_shorter_than_a_node_is_told_by_its_words() {
+    let whole = bytes(&power_on());
+    for (length, words) in [
+        (0, 0),
+        (1, 0),
+        (3, 0),
+        (4, 1),
+        (11_468, 2867),
+        (11_471, 2867),
+    ] {
+        let told = format!("memory too short: {words} words, a node has 2868");
+        assert_eq!(read(&whole[..length]), Err(told));
+    }
+}
+
+#[test]
+fn a_longer_file_is_a_node_by_its_first_words() {
+    let memory = memory_after("A,1,7 S,1");
+    let node = read(&bytes(&memory)).expect("a node");
+    for past in [1, 2, 2868, 100_000] {
+        let longer = [memory.clone(), vec![u32::MAX; past]].concat();
+        assert_eq!(read(&bytes(&longer)).as_ref(), Ok(&node));
+    }
+}
+
+#[test]
+fn a_file_with_a_ragged_end_is_no_node() {
+    let memory = [power_on(), vec![7; 3]].concat();
+    for length in [11_473, 11_475, 11_477, 11_483] {
+        let told = format!("the last word is cut short: {length} bytes");
+        assert_eq!(read(&bytes(&memory)[..length]), Err(told));
+    }
+}

@@ -1,0 +1,228 @@
+//! Random memories: fixed by their seed, and leading where they are meant to.
+
+use std::collections::{BTreeMap, HashSet};
+
+use judge::memory::trials::{
+    any_memory, change_words, operation, reachable, Change, Length, CHANGES,
+};
+use judge::memory::{self, broken_clause, clauses, head, step};
+use judge::node::{Node, Operation, Refusal, Report};
+use judge::random::Random;
+
+const SIZE: usize = 2868;
+
+#[test]
+fn a_seed_fixes_memories_and_operations() {
+    let drawn = |seed| {
+        let mut random = Random::new(seed);
+        let drawn = (0..20).map(|_| (any_memory(&mut random), operation(&mut random)));
+        drawn.collect::<Vec<_>>()
+    };
+    assert_eq!(drawn(1), drawn(1));
+    assert_ne!(drawn(1), drawn(2));
+}
+
+type Kind = (&'static str, fn(&Node) -> bool);
+
+/// Nodes, and among them those that are hard to reach.
+#[test]
+fn reachable_memories_are_nodes_of_every_kind() {
+    let kinds: [Kind; 6] = [
+        ("power-on", |node| *node == Node::power_on()),
+        ("no frame free", |node| node.free.is_empty()),
+        ("a full queue", |node| node.queue.len() == 16),
+        ("a timer that counts", |node| node.timer > 0),
+        ("used-up places", |node| {
+            node.groups.iter().any(|group| group.buffer.used_up > 0)
+        }),
+        ("a full descriptor", |node| {
+            node.groups.iter().any(|group| group.descriptor.len() == 8)
+        }),
+    ];
+    let mut met = [0; 6];
+    let mut random = Random::new(1);
+    for _ in 0..1000 {
+        let node = memory::read(&reachable(&mut random)).expect("a node");
+        for (met, (_, is_one)) in met.iter_mut().zip(kinds) {
+            *met += usize::from(is_one(&node));
+        }
+    }
+    for (met, (kind, _)) in met.into_iter().zip(kinds) {
+        assert!(met >= 5, "{kind}: {met}");
+    }
+}
+
+#[test]
+fn operations_are_of_every_kind() {
+    let mut random = Random::new(1);
+    let kinds = (0..500).map(|_| std::mem::discriminant(&operation(&mut random)));
+    assert_eq!(kinds.collect::<HashSet<_>>().len(), 11);
+}
+
+#[test]
+fn one_to_eight_words_are_changed() {
+    let mut random = Random::new(1);
+    let mut counts = [0; 9];
+    for _ in 0..500 {
+        let before = reachable(&mut random);
+        let mut after = before.clone();
+        change_words(&mut after, &mut random);
+        counts[(0..SIZE).filter(|&at| before[at] != after[at]).count()] += 1;
+    }
+    assert_eq!(counts[0], 0);
+    assert!(counts[1..].iter().all(|&count| count > 20), "{counts:?}");
+}
+
+/// What a change makes of many nodes: nodes, and memories that are told by a clause.
+fn made_by(change: &Change) -> BTreeMap<&'static str, usize> {
+    let mut random = Random::new(1);
+    let mut made = BTreeMap::new();
+    for _ in 0..600 {
+        let mut memory = reachable(&mut random);
+        change.make(&mut memory, &mut random);
+        let told = broken_clause(&memory).unwrap_or("a node");
+        *made.entry(told).or_default() += 1;
+    }
+    made
+}
+
+/// What each change makes of nodes, beside other things.
+const PURPOSES: [(&str, &str); 16] = [
+    (
+        "the running group",
+        "a node; running is 0 to 8; the queue's head is the running group's",
+    ),
+    (
+        "the timer",
+        "a node; timer is within the bounds; if the queue is empty the timer is 0",
+    ),
+    (
+        "counts",
+        "a node; counts are within the bounds; each frame stands once",
+    ),
+    (
+        "used-up places",
+        "a node; h is within the bounds; each list has its rounded-up length",
+    ),
+    (
+        "messages in a buffer",
+        "a node; each list has its rounded-up length; h is 0 where n is 0",
+    ),
+    (
+        "flags",
+        "a node; flags are 0 or 1; pending only with atomic and a line not empty; a running group \
+         with a line not empty is atomic",
+    ),
+    (
+        "groups",
+        "a node; groups are within the bounds; the queue's head is the running group's",
+    ),
+    (
+        "lengths",
+        "a node; waiting messages' lengths are within the bounds; a waiting message's words past \
+         its length are 0",
+    ),
+    (
+        "the free line",
+        "each frame stands once; unused places of the free line are 0",
+    ),
+    (
+        "lists",
+        "each frame stands once; unused places of the lists are 0",
+    ),
+    (
+        "frames exchanged",
+        "a node; waiting messages' lengths are within the bounds",
+    ),
+    (
+        "unused words",
+        "unused places of the queue are 0; unused places of the free line are 0; unused places of \
+         the lists are 0; unused descriptor words are 0; a waiting message's words past its length \
+         are 0",
+    ),
+    ("places without a waiting message", "a node"),
+    (
+        "a message in the queue",
+        "a node; the queue's head is the running group's; the group of the queue's head is direct",
+    ),
+    (
+        "a message in a buffer",
+        "a node; a running group with a line not empty is atomic; the group of the queue's head is \
+         direct",
+    ),
+    ("all frames filled", "a node; pledges sum to at most 32"),
+];
+
+#[test]
+fn each_change_makes_what_it_is_for() {
+    let names = CHANGES.iter().map(|change| change.name);
+    assert!(names.eq(PURPOSES.map(|(name, _)| name)));
+    for (change, (name, purpose)) in CHANGES.iter().zip(PURPOSES) {
+        let made = made_by(change);
+        for what in purpose.split("; ") {
+            assert!(made.contains_key(what), "{name}: {what}: {made:?}");
+        }
+    }
+}
+
+#[test]
+fn places_without_a_waiting_message_may_hold_anything() {
+    let change = CHANGES
+        .iter()
+        .find(|change| change.name.starts_with("places"));
+    let made = made_by(change.expect("a change of this name"));
+    assert!(made.into_keys().eq(["a node"]));
+}
+
+#[test]
+fn lengths_are_too_short_exact_and_longer() {
+    let mut random = Random::new(1);
+    for _ in 0..200 {
+        let node = reachable(&mut random);
+        let mut lengthened = |length: Length| {
+            let mut memory = node.clone();
+            length.give(&mut memory, &mut random);
+            memory
+        };
+        let short = lengthened(Length::TooShort);
+        assert!(short.len() < SIZE);
+        assert_eq!(broken_clause(&short), Some("memory too short"));
+        assert_eq!(lengthened(Length::Exact), node);
+        let longer = lengthened(Length::Longer);
+        assert!(longer.len() > SIZE);
+        assert_eq!(longer[..SIZE], node);
+        assert_eq!(memory::read(&longer), memory::read(&node));
+    }
+}
+
+/// Nodes and memories that are none for every reason; a step on each is refused with 1 and leaves
+/// it as it was, or is that of the node, and leaves a node with the words past it as they were.
+#[test]
+fn any_memory_is_met_and_stepped() {
+    let mut random = Random::new(1);
+    let mut told = BTreeMap::new();
+    for _ in 0..10_000 {
+        let before = any_memory(&mut random);
+        let operation = operation(&mut random);
+        expect_step(&before, &operation);
+        *told.entry(broken_clause(&before)).or_insert(0) += 1;
+    }
+    for clause in clauses().chain(["memory too short"]).map(Some) {
+        assert!(told.contains_key(&clause), "{clause:?}: {told:?}");
+    }
+    assert!((3_000..7_000).contains(&told[&None]), "{told:?}");
+}
+
+fn expect_step(before: &[u32], operation: &Operation) {
+    let mut after = before.to_vec();
+    let report = step(&mut after, operation);
+    let Ok(mut node) = memory::read(before) else {
+        assert_eq!(report, Report::refused(Refusal::NotANode));
+        assert_eq!(after, before);
+        assert!(head(before).is_empty());
+        return;
+    };
+    assert_eq!(report, node.step(operation));
+    assert_eq!(memory::read(&after), Ok(node));
+    assert_eq!(after[SIZE..], before[SIZE..]);
+}

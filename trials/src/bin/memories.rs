@@ -1,0 +1,62 @@
+//! Random memories by the proved calls and by the judge.
+
+use std::process::ExitCode;
+
+use judge::program::{arguments, failed, finish, misused, number, print};
+use trials::calls::Proved;
+use trials::table::{table_of, Table};
+
+const NAME: &str = "memories";
+const USAGE: &str = "\
+usage: bin/memories COUNT SEED
+       bin/memories --help
+
+Makes COUNT random memories: nodes that scripts lead to, the same with words changed, too short and
+longer ones. Of each, the proved calls and the judge are asked for the memory test, the head message,
+and a step by a letter or by a line, or power-on. Compared are the verdict, where the head message
+stands, all words of the report, and all words of the memory after it.
+
+At the end there is a table of what was met. The exit status is 1 at the first difference, which is
+told with the number of its memory; and if COUNT is 100000 or more and some clause of the memory
+test, some place of the head message, some operation, some answer or some trap was met by none.";
+
+const PROGRESS: u64 = 1_000_000;
+
+fn main() -> ExitCode {
+    let arguments = arguments();
+    let arguments: Vec<&str> = arguments.iter().map(String::as_str).collect();
+    match understand(&arguments) {
+        Ok(None) => finish(NAME, print(USAGE)),
+        Ok(Some((count, seed))) => match table_of(&Proved, count, seed, progress) {
+            Ok(table) => tell(&table),
+            Err(reason) => failed(NAME, &reason),
+        },
+        Err(reason) => misused(NAME, &reason, USAGE),
+    }
+}
+
+/// The count and the seed; none where help is asked for.
+fn understand(arguments: &[&str]) -> Result<Option<(u64, u64)>, String> {
+    match *arguments {
+        ["--help"] => Ok(None),
+        [count, seed] => Ok(Some((number(count)?, number(seed)?))),
+        _ => Err("wrong arguments".to_string()),
+    }
+}
+
+fn progress(number: u64, count: u64) {
+    if number % PROGRESS == 0 || number == count {
+        eprintln!("{NAME}: {number} of {count}");
+    }
+}
+
+fn tell(table: &Table) -> ExitCode {
+    if let Err(error) = print(&table.to_string()) {
+        return finish(NAME, Err(error));
+    }
+    let missing = table.missing();
+    if missing.is_empty() {
+        return ExitCode::SUCCESS;
+    }
+    failed(NAME, &format!("not met: {}", missing.join(", ")))
+}

@@ -1,0 +1,124 @@
+//! What is drawn: fixed by the seed, and every edge met.
+
+use std::collections::{BTreeSet, HashSet};
+
+use judge::memory::SIZE;
+use judge::node::Operation;
+use trials::asked::{taken_apart, Asked, EDGES};
+use trials::calls::Proved;
+use trials::comparison::compare;
+use trials::memories::{Memories, Trial};
+use trials::table::Table;
+
+fn drawn(seed: u64, count: usize) -> Vec<Trial> {
+    Memories::new(seed).take(count).collect()
+}
+
+#[test]
+fn a_seed_fixes_the_memories() {
+    assert_eq!(drawn(1, 100), drawn(1, 100));
+    assert_ne!(drawn(1, 100), drawn(2, 100));
+}
+
+/// Each operation with its numbers, by a letter and by a line, at each edge.
+#[test]
+fn each_edge_is_asked_for() {
+    let mut met = HashSet::new();
+    let mut words = BTreeSet::new();
+    for trial in Memories::new(1).take(20_000) {
+        let by_line = matches!(trial.asked, Asked::Line(_));
+        let Some(operation) = trial.asked.operation() else {
+            continue;
+        };
+        let (letter, numbers) = taken_apart(&operation);
+        if letter == b'A' {
+            words.insert((by_line, numbers.len() - 1));
+        }
+        if let Some(&first) = numbers.first() {
+            met.insert((by_line, letter, first));
+        }
+    }
+    for by_line in [false, true] {
+        for letter in *b"ASTEPL" {
+            for edge in EDGES {
+                assert!(met.contains(&(by_line, letter, edge)), "{letter} {edge}");
+            }
+        }
+        assert!((0..=9).all(|count| words.contains(&(by_line, count))));
+    }
+}
+
+#[test]
+fn letters_and_counts_of_no_operation_are_asked_for() {
+    let mut letters = HashSet::new();
+    let mut counts = HashSet::new();
+    for trial in Memories::new(1).take(20_000) {
+        let unknown = trial.asked.operation() == Some(Operation::Unknown);
+        if let Asked::Step(letter, numbers) = trial.asked {
+            if unknown && b"ASTMEDBNPL".contains(&letter) {
+                counts.insert((letter, numbers.len()));
+            } else if unknown {
+                letters.insert(letter);
+            }
+        }
+    }
+    assert!(letters.len() > 200, "{}", letters.len());
+    for letter in *b"STMEDBNPL" {
+        assert!(counts.contains(&(letter, 2)), "{letter}");
+    }
+    assert!(counts.contains(&(b'A', 0)));
+}
+
+#[test]
+fn memories_are_too_short_exact_and_longer() {
+    let lengths: HashSet<_> = drawn(1, 500)
+        .iter()
+        .map(|trial| trial.memory.len().cmp(&SIZE))
+        .collect();
+    assert_eq!(lengths.len(), 3);
+}
+
+/// A letter of an operation is read back as it, so that a step by it is the judge's.
+#[test]
+fn an_operation_is_asked_for_by_its_letter() {
+    for trial in Memories::new(1).take(2_000) {
+        if let Some(operation) = trial.asked.operation() {
+            let (letter, numbers) = taken_apart(&operation);
+            let asked = Asked::Step(letter, numbers);
+            assert_eq!(asked.operation(), Some(operation));
+        }
+    }
+}
+
+#[test]
+fn a_table_knows_what_it_has_not_met() {
+    let mut table = Table::default();
+    let all = 22 + 3 + 23 + 16 + 4;
+    assert_eq!(table.not_met().len(), all);
+    let trial = Trial {
+        memory: vec![],
+        asked: Asked::Step(b'M', vec![]),
+        report_length: 16,
+        head_length: 2,
+    };
+    let met = compare(&Proved, &trial).expect("no difference");
+    table.add(&trial, &met);
+    let missing = table.not_met();
+    assert_eq!(missing.len(), all - 4);
+    for met in [
+        "clause \"memory too short\"",
+        "head none",
+        "step M",
+        "answer 1",
+    ] {
+        assert!(!missing.contains(&met.to_string()), "{met}");
+    }
+    assert!(missing.contains(&"line M".to_string()));
+
+    while table.memories() < 99_999 {
+        table.add(&trial, &met);
+    }
+    assert!(table.missing().is_empty());
+    table.add(&trial, &met);
+    assert_eq!(table.missing(), missing);
+}

@@ -1,0 +1,78 @@
+//! `memories` and `calls` as they are called: arguments, output and exit codes.
+
+use std::process::{Command, Output};
+
+fn run(program: &str, arguments: &str) -> Output {
+    let path = match program {
+        "memories" => env!("CARGO_BIN_EXE_memories"),
+        _ => env!("CARGO_BIN_EXE_calls"),
+    };
+    let mut command = Command::new(path);
+    let output = command.args(arguments.split_whitespace()).output();
+    output.expect("the program runs")
+}
+
+fn text(bytes: &[u8]) -> &str {
+    std::str::from_utf8(bytes).expect("text")
+}
+
+#[test]
+fn memories_prints_a_table() {
+    let output = run("memories", "2000 7");
+    assert!(output.status.success(), "{}", text(&output.stderr));
+    assert_eq!(text(&output.stderr), "memories: 2000 of 2000\n");
+    let table = text(&output.stdout);
+    assert!(table.starts_with("  2000 memories, "), "{table}");
+    assert!(table.contains("memory too short\n"), "{table}");
+    assert!(table.contains("\npower-on "), "{table}");
+    assert_eq!(run("memories", "2000 7").stdout, output.stdout);
+}
+
+#[test]
+fn few_memories_need_not_meet_everything() {
+    assert!(run("memories", "0 1").status.success());
+    assert!(run("memories", "1 1").status.success());
+}
+
+#[test]
+fn the_programs_tell_how_they_are_used() {
+    let wrong: [(&str, &[&str]); 2] = [
+        ("memories", &["", "1", "x 1", "1 -1", "1 1 1"]),
+        ("calls", &["--what", "--script", "--script a b", "a"]),
+    ];
+    for (program, wrong) in wrong {
+        let help = run(program, "--help");
+        assert!(help.status.success());
+        assert!(text(&help.stdout).starts_with("usage: "));
+        for arguments in wrong {
+            let misused = run(program, arguments);
+            assert_eq!(misused.status.code(), Some(2), "{program} {arguments}");
+            assert!(misused.stdout.is_empty());
+            assert!(text(&misused.stderr).contains("usage: "));
+        }
+    }
+}
+
+#[test]
+fn calls_tells_times_and_ratios() {
+    let script = std::env::temp_dir().join(format!("calls-{}.script", std::process::id()));
+    std::fs::write(&script, "S,1\nA,1,7\n?\nD\nM").expect("written");
+    let output = run("calls", &format!("--script {}", script.display()));
+    std::fs::remove_file(&script).expect("removed");
+    assert!(output.status.success(), "{}", text(&output.stderr));
+    let told = text(&output.stdout);
+    // The last line has no newline, and is left out.
+    assert!(told.starts_with("256 calls of each"), "{told}");
+    for name in ["fugu_step", "fugu_line", "fugu_test"] {
+        assert!(told.contains(&format!(" ns a call  {name}\n")), "{told}");
+        assert!(told.contains(&format!("\n{name} takes ")), "{told}");
+    }
+}
+
+#[test]
+fn calls_needs_a_script() {
+    let empty = run("calls", "--script /dev/null");
+    assert!(empty.status.success());
+    assert!(text(&empty.stdout).ends_with("the calls are left out\n"));
+    assert_eq!(run("calls", "--script /nowhere").status.code(), Some(1));
+}

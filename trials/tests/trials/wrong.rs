@@ -1,0 +1,268 @@
+//! Calls that are wrong in one word: each is found, and told by the word.
+
+use fugu::{HEAD, REPORT, SIZE};
+use trials::asked::Asked;
+use trials::calls::{Calls, Proved};
+use trials::comparison::compare;
+use trials::memories::Memories;
+use trials::table::table_of;
+
+/// Another verdict, of the memory and the right one.
+type Verdict = Box<dyn Fn(&[u32], u32) -> u32>;
+/// Another count of words written, of the part after the call and the right one.
+type Part = Box<dyn Fn(&mut [u32], u32) -> u32>;
+/// Another memory, of what is asked, the memory before it and the memory after it.
+type Memory = Box<dyn Fn(&Asked, &[u32], &mut [u32])>;
+
+/// The proved calls, and what is done behind their back.
+struct Wrong {
+    verdict: Verdict,
+    head: Part,
+    report: Part,
+    memory: Memory,
+}
+
+fn right() -> Wrong {
+    Wrong {
+        verdict: Box::new(|_, verdict| verdict),
+        head: Box::new(|_, written| written),
+        report: Box::new(|_, written| written),
+        memory: Box::new(|_, _, _| ()),
+    }
+}
+
+impl Calls for Wrong {
+    fn test(&self, memory: &[u32]) -> u32 {
+        (self.verdict)(memory, Proved.test(memory))
+    }
+
+    fn head(&self, memory: &[u32], part: &mut [u32]) -> u32 {
+        let written = Proved.head(memory, part);
+        (self.head)(part, written)
+    }
+
+    fn ask(&self, asked: &Asked, memory: &mut [u32], part: &mut [u32]) -> u32 {
+        let before = memory.to_vec();
+        let written = Proved.ask(asked, memory, part);
+        (self.memory)(asked, &before, memory);
+        (self.report)(part, written)
+    }
+}
+
+/// The first difference within so many memories of seed 1, as it is told.
+fn first_difference(calls: &impl Calls, memories: usize) -> Option<String> {
+    Memories::new(1)
+        .take(memories)
+        .find_map(|trial| compare(calls, &trial).err())
+        .map(|difference| difference.to_string())
+}
+
+/// A difference is found within ten thousand memories, and told in these words.
+fn found(calls: Wrong, told: &str) {
+    let difference = first_difference(&calls, 10_000).expect("a difference");
+    assert!(difference.starts_with(told), "{difference}, not {told}");
+}
+
+fn memory(change: impl Fn(&Asked, &[u32], &mut [u32]) + 'static) -> Wrong {
+    Wrong {
+        memory: Box::new(change),
+        ..right()
+    }
+}
+
+/// A part that has room gets another word at an index.
+fn changed(at: usize, room: usize) -> Part {
+    Box::new(move |part, written| {
+        if part.len() >= room {
+            part[at] ^= 1;
+        }
+        written
+    })
+}
+
+#[test]
+fn the_proved_calls_agree() {
+    assert_eq!(first_difference(&Proved, 5_000), None);
+    assert_eq!(first_difference(&right(), 5_000), None);
+}
+
+#[test]
+fn a_difference_is_told_with_its_seed_and_number() {
+    let wrong = memory(|asked, _, after| {
+        if let (Asked::Step(b'T', _), Some(word)) = (asked, after.get_mut(1000)) {
+            *word ^= 1;
+        }
+    });
+    let first = Memories::new(7)
+        .position(|trial| matches!(trial.asked, Asked::Step(b'T', _)) && trial.memory.len() > 1000)
+        .expect("such a memory");
+    let told = table_of(&wrong, 1000, 7, |_, _| ())
+        .err()
+        .expect("a difference");
+    let start = format!("seed 7, memory {}, step 'T' [", first + 1);
+    assert!(told.starts_with(&start), "{told}");
+    assert!(
+        told.contains("]: the memory after it differs\n  word 1000, word "),
+        "{told}"
+    );
+}
+
+#[test]
+fn each_word_of_the_memory() {
+    for at in 0..SIZE {
+        let wrong = memory(move |_, _, after| {
+            if let Some(word) = after.get_mut(at) {
+                *word ^= 1 << (at % 32);
+            }
+        });
+        found(
+            wrong,
+            &format!("the memory after it differs\n  word {at}, "),
+        );
+    }
+}
+
+#[test]
+fn a_word_past_the_node() {
+    let wrong = memory(|_, before, after| {
+        if before.len() > SIZE {
+            after[before.len() - 1] ^= 1;
+        }
+    });
+    found(wrong, "the memory after it differs\n  word 29");
+}
+
+/// What the test leaves open is compared too: a message disposed of stays in its frame.
+#[test]
+fn a_frame_cleared_when_it_is_freed() {
+    let wrong = memory(|_, before, after| {
+        if Proved.test(before) == 1 && after[3] > before[3] {
+            let frame = after[164 + before[3] as usize] as usize;
+            after[564 + 72 * frame..][..72].fill(0);
+        }
+    });
+    found(wrong, "the memory after it differs\n  word ");
+}
+
+#[test]
+fn a_refused_memory_that_is_changed() {
+    let wrong = memory(|asked, before, after| {
+        if *asked != Asked::PowerOn && before.len() == SIZE && Proved.test(before) == 0 {
+            after[1] = !after[1];
+        }
+    });
+    found(wrong, "the memory after it differs\n  word 1, the timer");
+}
+
+#[test]
+fn a_step_that_is_lost() {
+    let wrong = memory(|asked, before, after| {
+        if matches!(asked, Asked::Step(b'D', _)) {
+            after.copy_from_slice(before);
+        }
+    });
+    found(wrong, "the memory after it differs\n  word ");
+}
+
+#[test]
+fn each_word_of_the_report() {
+    let names = "answer, value, trap, upcall, moved, node sent to, group sent for, count of words \
+                 sent, word 0 sent, word 1 sent, word 2 sent, word 3 sent, word 4 sent, word 5 \
+                 sent, word 6 sent, word 7 sent";
+    for (at, name) in names.split(", ").enumerate() {
+        let wrong = Wrong {
+            report: changed(at, REPORT),
+            ..right()
+        };
+        found(wrong, &format!("the report differs\n  {name}: judge "));
+    }
+}
+
+#[test]
+fn a_word_behind_the_report() {
+    let wrong = Wrong {
+        report: changed(REPORT, REPORT + 1),
+        ..right()
+    };
+    found(wrong, "the report differs\n  word 16 of the part, behind");
+}
+
+#[test]
+fn a_part_that_is_too_short_but_written() {
+    let wrong = Wrong {
+        report: Box::new(|part, written| {
+            if written == 0 && !part.is_empty() {
+                part[0] = 0;
+            }
+            written
+        }),
+        ..right()
+    };
+    found(
+        wrong,
+        "the report differs\n  answer: judge 3735928559, library 0",
+    );
+}
+
+#[test]
+fn a_wrong_count_of_words_written() {
+    let written = "differs\n  count of words written: judge ";
+    let report = Wrong {
+        report: Box::new(|_, written| written + 1),
+        ..right()
+    };
+    found(report, &format!("the report {written}"));
+    let head = Wrong {
+        head: Box::new(|_, _| 0),
+        ..right()
+    };
+    found(head, &format!("fugu_head {written}"));
+}
+
+#[test]
+fn each_word_of_the_head() {
+    for (at, name) in ["index of the first word", "count of words"]
+        .iter()
+        .enumerate()
+    {
+        let wrong = Wrong {
+            head: changed(at, HEAD),
+            ..right()
+        };
+        found(wrong, &format!("fugu_head differs\n  {name}: judge "));
+    }
+}
+
+#[test]
+fn a_test_that_passes_all_but_the_short() {
+    let wrong = Wrong {
+        verdict: Box::new(|memory, _| u32::from(memory.len() >= SIZE)),
+        ..right()
+    };
+    found(wrong, "fugu_test differs\n  verdict: judge 0, library 1");
+}
+
+#[test]
+fn a_test_that_refuses_a_node() {
+    let wrong = Wrong {
+        verdict: Box::new(|memory, verdict| verdict & u32::from(memory.len() == SIZE)),
+        ..right()
+    };
+    found(wrong, "fugu_test differs\n  verdict: judge 1, library 0");
+}
+
+/// One clause left out, and no other: that an empty queue's timer is 0.
+#[test]
+fn a_test_that_forgets_a_clause() {
+    let wrong = Wrong {
+        verdict: Box::new(|memory, verdict| {
+            let mut memory = memory.to_vec();
+            if let [_, timer, 0, ..] = &mut memory[..] {
+                *timer = 0;
+            }
+            verdict | Proved.test(&memory)
+        }),
+        ..right()
+    };
+    found(wrong, "fugu_test differs\n  verdict: judge 0, library 1");
+}

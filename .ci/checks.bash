@@ -50,16 +50,22 @@ listing_agrees() {
     "$root/bin/$1" <"$2" >"$scratch/listing" && cmp -- "$scratch/listing" "${2%.script}.listing"
 }
 
-# listings PROGRAM: the scripts of vectors/base, whose paths it leaves in `scripts`.
-listings() {
-    local listings script
+# vectors: leaves the paths of the scripts of vectors/base in `scripts`.
+vectors() {
+    local listings
     shopt -s nullglob
     scripts=("$root"/vectors/base/*.script)
     listings=("$root"/vectors/base/*.listing)
     shopt -u nullglob
-    printf '%s: %s scripts in vectors/base\n' "$1" "${#scripts[@]}"
     check 'vectors/base has scripts' test "${#scripts[@]}" -gt 0
     check 'each listing has its script' test "${#scripts[@]}" -eq "${#listings[@]}"
+}
+
+# listings PROGRAM: the scripts of vectors/base by a program.
+listings() {
+    local script
+    vectors
+    printf '%s: %s scripts in vectors/base\n' "$1" "${#scripts[@]}"
     for script in "${scripts[@]}"; do
         check "${script##*/}" listing_agrees "$1" "$script"
     done
@@ -75,7 +81,7 @@ put() {
     printf '%b' "$bytes" | dd of="$file" bs=4 seek="$at" conv=notrunc status=none
 }
 
-# The memory that the whole case leaves, written by docs/MEMORY.md, and what it holds.
+# The memory that the whole case leaves, written by docs/MEMORY.md.
 whole_case() {
     head -c 11472 /dev/zero >"$scratch/memory"
     put "$scratch/memory" 0 2 0 0 32
@@ -83,24 +89,9 @@ whole_case() {
     put "$scratch/memory" 242 1
     put "$scratch/memory" 564 1 7
     put "$scratch/memory" 636 2 5 6
-    cat >"$scratch/state" <<'END'
-running 2
-timer 0
-free 2 3 4 5 6 7 8 9 10 11 12 13 14 15 16 17 18 19 20 21 22 23 24 25 26 27 28 29 30 31 0 1
-group 1 atomic 0 pending 0 h 0 n 0 pages descriptor
-group 2 atomic 1 pending 0 h 0 n 0 pages descriptor
-group 3 atomic 0 pending 0 h 0 n 0 pages descriptor
-group 4 atomic 0 pending 0 h 0 n 0 pages descriptor
-group 5 atomic 0 pending 0 h 0 n 0 pages descriptor
-group 6 atomic 0 pending 0 h 0 n 0 pages descriptor
-group 7 atomic 0 pending 0 h 0 n 0 pages descriptor
-group 8 atomic 0 pending 0 h 0 n 0 pages descriptor
-f0 place 0 length 1 words 7 0 0 0 0 0 0 0
-f1 place 0 length 2 words 5 6 0 0 0 0 0 0
-END
 }
 
 # holds FILE: the judge tells the whole case's state of it, and no more.
 holds() {
-    "$root/bin/judge" --state "$1" >"$scratch/told" 2>"$scratch/message" && cmp -- "$scratch/told" "$scratch/state" && ! test -s "$scratch/message"
+    "$root/bin/judge" --state "$1" >"$scratch/told" 2>"$scratch/message" && cmp -- "$scratch/told" "$root/examples/whole-case.state" && ! test -s "$scratch/message"
 }

@@ -38,21 +38,7 @@ fn power_on_has_32_free_frames_and_no_more() {
 #[test]
 fn the_whole_case() {
     let script = include_bytes!("../../../examples/whole-case.script");
-    let expected = "\
-running 2
-timer 0
-free 2 3 4 5 6 7 8 9 10 11 12 13 14 15 16 17 18 19 20 21 22 23 24 25 26 27 28 29 30 31 0 1
-group 1 atomic 0 pending 0 h 0 n 0 pages descriptor
-group 2 atomic 1 pending 0 h 0 n 0 pages descriptor
-group 3 atomic 0 pending 0 h 0 n 0 pages descriptor
-group 4 atomic 0 pending 0 h 0 n 0 pages descriptor
-group 5 atomic 0 pending 0 h 0 n 0 pages descriptor
-group 6 atomic 0 pending 0 h 0 n 0 pages descriptor
-group 7 atomic 0 pending 0 h 0 n 0 pages descriptor
-group 8 atomic 0 pending 0 h 0 n 0 pages descriptor
-f0 place 0 length 1 words 7 0 0 0 0 0 0 0
-f1 place 0 length 2 words 5 6 0 0 0 0 0 0
-";
+    let expected = include_str!("../../../examples/whole-case.state");
     assert_eq!(state_of(&memory_of(script)), expected);
 }
 

@@ -11,9 +11,9 @@ use Rattle.rules.specs.Memory.{frameAddress, size}
 use Rattle.rules.specs.MemoryTest.{Part, bufferPart, firstPlace, headPart, isMemory, queuePart, runnerPart}
 use Rattle.rules.specs.Node.{Node, groupOf}
 use Rattle.rules.specs.Valid.{Valid}
-use Rattle.rules.proofs.MapLaws.{test-valid}
+use Rattle.rules.proofs.Map.MapLaws.{test-valid}
 use Rattle.memory.specs.Holds.{Holds}
-use Rattle.node.proofs.HeadLaws.{nobody-part, first-frame, buffered-part, idle-part, queued-part, part-inside, head-tested, tested-holds}
+use Rattle.node.proofs.message.HeadLaws.{nobody-part, first-frame, buffered-part, idle-part, queued-part, part-inside, head-tested, tested-holds}
 use Rattle.node.proofs.TestedLaws.{untested-part}
 
 module _ {m : List ℕ} {n : Node} {r : List ℕ} (h : Holds m n r) (v : Valid paper01 n) where

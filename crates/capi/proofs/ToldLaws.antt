@@ -6,7 +6,7 @@ use mathlib.Core.Path.{_≡_, _∙_, ap, refl, sym}
 use lib.ListN.{length, drop, set}
 use Rattle.rules.specs.MemoryTest.{MemoryStep, headPart}
 use Rattle.rules.specs.declared.Report.{Report as Report·rt}
-use Rattle.rules.proofs.MapWords.{Stands, stands-front}
+use Rattle.rules.proofs.Map.MapWords.{Stands, stands-front}
 use Rattle.memory.specs.Answers.{Answers}
 use Rattle.memory.specs.Writes.{Wrote}
 use Rattle.memory.proofs.PieceLaws.{same-drop}

@@ -12,7 +12,7 @@ use Rattle.script.specs.Portions.{Portion, Feeds, usedBytes, usedOf}
 use Rattle.script.specs.Written.{lineRoom}
 use Rattle.script.specs.declared.feed.Fed.{Fed as Fed·rt}
 use Rattle.script.specs.declared.feed.State.{State as State·rt}
-use Rattle.script.proofs.FedLaws.{fed-forward, fed-inside, fed-numbers}
+use Rattle.script.proofs.feed.FedLaws.{fed-forward, fed-inside, fed-numbers}
 use Rattle.fugu.specs.Run.{Plays, Reaches, lastMemory, lastState}
 use Rattle.fugu.specs.declared.Run.{Run as Run·rt}
 

@@ -2,7 +2,7 @@
 use Prim.Native.Nat.{ℕ, zero, suc, pred, _+_, _≤_, _<_}
 use mathlib.Core.Path.{_≡_, refl, sym, ap, _∙_}
 use mathlib.Core.Logic.{_≢_}
-use mathlib.Core.Bool.{Bool, true, false, cond}
+use mathlib.Core.Bool.{Bool, true, false}
 use mathlib.Core.List.{List, [], _∷_, _++_, map}
 use native.Mathlib.Omega.{arith}
 use lib.Dec.{eqb}
@@ -10,11 +10,11 @@ use lib.ListN.{length, getD, length-append, length-map}
 use borrow.Author.Tests.{eqb-false, eq-eqb}
 use Rattle.rules.specs.Lists.{Every, concatMap, countOf}
 use Rattle.rules.specs.Build.{paper01, groupCount}
-use Rattle.rules.specs.Node.{Group, Node, emptyGroup, groupOf}
+use Rattle.rules.specs.Node.{Node, emptyGroup, groupOf}
 use Rattle.rules.specs.Valid.{frameNumber, frameList, frameNumbers}
-use Rattle.rules.proofs.EveryLaws.{every-getD, every-append, every-concat}
-use Rattle.rules.proofs.ListLaws.{once-bounded}
-use Rattle.rules.proofs.Sound.{Mapped}
+use Rattle.rules.proofs.Steps.EveryLaws.{every-getD, every-append, every-concat}
+use Rattle.rules.proofs.Steps.ListLaws.{once-bounded}
+use Rattle.rules.specs.Sound.{Mapped}
 
 -- counts add
 pub count-append : (k : ℕ) (xs ys : List ℕ) → countOf k (xs ++ ys) ≡ countOf k xs + countOf k ys

@@ -2,15 +2,4 @@ pub mod WriteLaws
 pub mod PieceLaws
 pub mod PieceWrites
 pub mod CountLaws
-pub mod GroupLaws
-pub mod Lending
-pub mod Setting
-pub mod PlaceLaws
-pub mod PutLaws
-pub mod TakeLaws
-pub mod AppendLaws
-pub mod FreeLaws
-pub mod QueueLaws
-pub mod ZeroLaws
 pub mod PowerOnLaws
-pub mod DescriptorLaws

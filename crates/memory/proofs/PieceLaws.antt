@@ -2,23 +2,23 @@
 -- says. Frames are told by where they are held and not by a lookup among all of them, so that a frame that goes from one list to another
 -- changes nothing at its address. Assumes nothing.
 use Prim.Native.Nat.{ℕ, zero, suc, _+_, _-_, _*_, _≤_, _<_}
-use mathlib.Core.Path.{_≡_, refl, sym, subst, ap, _∙_}
+use mathlib.Core.Path.{_≡_, sym, subst, ap, _∙_}
 use mathlib.Core.Logic.{_↔_}
 use mathlib.Core.List.{List, [], _∷_, _++_, map}
 use native.Mathlib.Omega.{arith}
-use lib.ListN.{length, take, drop, getD, length-append, length-drop}
+use lib.ListN.{length, drop, getD, length-append, length-drop}
 use lib.Seq.{ext-getD, getD-drop, drop-at}
 use Rattle.rules.specs.Lists.{Every, concatMap, countOf, upFrom}
 use Rattle.rules.specs.Build.{paper01, groupCount}
-use Rattle.rules.specs.Node.{Place, Frame, Group, Node, emptyGroup}
+use Rattle.rules.specs.Node.{Place, Frame, Node, emptyGroup}
 use Rattle.rules.specs.Valid.{frameNumber}
-use Rattle.rules.specs.Memory.{runningAt, timerAt, queuedAt, freeCountAt, queueAt, freeAt, groupsAt, groupStride, framesAt, frameStride, size, word, words, wordsAt, queueWords, lineWords, groupWords, placeWords, frameWords, framesOf, placesOf, allFrames, frameAddress}
-use Rattle.rules.proofs.EveryLaws.{every-of, every-at, every-append, every-concat, every-getD, every-mono}
-use Rattle.rules.proofs.Sound.{Mapped}
-use Rattle.rules.proofs.MapWords.{Stands, stands-append, stands-nil, parts-stand, front-stands, stands-front}
-use Rattle.rules.proofs.MapParts.{length-group}
-use Rattle.rules.proofs.MapFrames.{all-numbers, numbers-bounded, each-found, found, length-frame}
-use Rattle.rules.proofs.MapRead.{MapStands, map-stands, words-length}
+use Rattle.rules.specs.Memory.{runningAt, timerAt, queuedAt, freeCountAt, queueAt, freeAt, groupsAt, groupStride, framesAt, frameStride, size, word, words, queueWords, lineWords, groupWords, placeWords, frameWords, framesOf, placesOf, allFrames, frameAddress}
+use Rattle.rules.proofs.Steps.EveryLaws.{every-of, every-at, every-append, every-concat, every-getD}
+use Rattle.rules.specs.Sound.{Mapped}
+use Rattle.rules.proofs.Map.MapWords.{Stands, stands-append, stands-nil, parts-stand, front-stands, stands-front}
+use Rattle.rules.proofs.Map.MapParts.{length-group}
+use Rattle.rules.proofs.Map.MapFrames.{all-numbers, numbers-bounded, each-found, found, length-frame}
+use Rattle.rules.proofs.Map.MapRead.{MapStands, map-stands, words-length}
 use Rattle.memory.specs.Holds.{Holds}
 
 -- the words of a frame stand at the address of its number

@@ -14,10 +14,10 @@ use Rattle.rules.specs.Memory.{frameAddress, frameStride, framesAt, framesOf, f
 use Rattle.rules.specs.Node.{Frame, Group, Message, Node, emptyGroup, withFree, withGroup, withQueue, withRunning, withTimer}
 use Rattle.rules.specs.Refusal.{queued}
 use Rattle.rules.specs.Valid.{GoodMessage, frameNumber, frameNumbers}
-use Rattle.rules.proofs.EveryLaws.{every-mono}
-use Rattle.rules.proofs.MapParts.{length-group}
-use Rattle.rules.proofs.MapRead.{length-line, length-queue}
-use Rattle.rules.proofs.MapWords.{Stands, stands-cons, stands-nil}
+use Rattle.rules.proofs.Steps.EveryLaws.{every-mono}
+use Rattle.rules.proofs.Map.MapParts.{length-group}
+use Rattle.rules.proofs.Map.MapRead.{length-line, length-queue}
+use Rattle.rules.proofs.Map.MapWords.{Stands, stands-cons, stands-nil}
 use Rattle.memory.specs.Holds.{Holds}
 use Rattle.memory.specs.Writes.{Wrote}
 use Rattle.memory.proofs.PieceLaws.{FrameStands, Pieces, holds-pieces, pieces-hold, same-drop}

@@ -15,7 +15,7 @@ use Rattle.rules.specs.Operation.{allZero, notNode, refused}
 use Rattle.rules.specs.Types.{reportOf}
 use Rattle.rules.specs.Valid.{frameNumber}
 use Rattle.rules.specs.declared.Report.{Report as Report·rt}
-use Rattle.rules.proofs.MapWords.{Stands, stands-front}
+use Rattle.rules.proofs.Map.MapWords.{Stands, stands-front}
 use Rattle.memory.specs.Answers.{Answers}
 use Rattle.memory.specs.Writes.{Wrote}
 use Rattle.memory.proofs.PieceLaws.{same-drop}

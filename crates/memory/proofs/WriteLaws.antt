@@ -5,14 +5,12 @@ use mathlib.Core.Path.{_≡_, refl, sym, subst, ap, _∙_}
 use mathlib.Core.List.{List, [], _∷_, _++_, append-nil, append-assoc}
 use native.Mathlib.Omega.{arith}
 use native.Mathlib.Nat.{add-zero}
-use native.Mathlib.Numerals.{add-one}
-use native.Mathlib.Decide.{decLt}
 use lib.ListN.{length, take, drop, getD, set, replicate, length-append, length-set, length-drop, List·getD-append, drop-of-length-le, replicate-append-replicate, length-replicate}
 use lib.Seq.{getD-set-same, getD-set-other, getD-take, getD-drop, getD-append-add, length-take-le, take-all}
 use Rattle.rules.specs.Lists.{pad}
 use Rattle.rules.specs.Memory.{word, wordsAt}
-use Rattle.rules.proofs.ListLaws.{pad-fits}
-use Rattle.rules.proofs.MapWords.{Stands, stands-append, stands-nil, wordsAt-part, length-wordsAt, stands-wordsAt, wordsAt-stands}
+use Rattle.rules.proofs.Steps.ListLaws.{pad-fits}
+use Rattle.rules.proofs.Map.MapWords.{Stands, stands-append, wordsAt-part, wordsAt-stands}
 use Rattle.memory.specs.Writes.{Wrote}
 
 -- the same words at the same addresses are read the same

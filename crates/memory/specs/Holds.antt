@@ -8,7 +8,7 @@ use Rattle.rules.specs.Build.{paper01}
 use Rattle.rules.specs.Frames.{takeFrame, appended, freeFirst, useUp, removeFirst, withStock}
 use Rattle.rules.specs.Memory.{words, placeWords}
 use Rattle.rules.specs.Node.{Message, Node, groupOf, withQueue, placeOf, withFlags, withGroup}
-use Rattle.rules.proofs.Sound.{Mapped}
+use Rattle.rules.specs.Sound.{Mapped}
 
 -- the memory m is the map of the node n, with the rest behind it
 pub record Holds (m : List ℕ) (n : Node) (rest : List ℕ) : Type 0 where

@@ -12,8 +12,8 @@ use Rattle.rules.specs.Memory.{nodeAt}
 use Rattle.rules.specs.Operation.{Operation}
 use Rattle.rules.specs.Run.{PlayedMemory, asked, playMemory, runMemory}
 use Rattle.rules.specs.declared.Report.{Report as Report·rt}
-use Rattle.rules.proofs.DemandOneLaws.{demand-one}
-use Rattle.rules.proofs.DemandThreeLaws.{demand-three}
+use Rattle.rules.proofs.Demands.DemandOneLaws.{demand-one}
+use Rattle.rules.proofs.Demands.DemandThreeLaws.{demand-three}
 
 -- the memory and the reports of calls from m on
 calls-play : {m m′ : List ℕ} {cs : List Call} → Calls m cs m′

@@ -15,8 +15,8 @@ use Rattle.rules.specs.Operation.{accepted}
 use Rattle.rules.specs.Settling.{Moved, calls, mayStay, pass, restTimer, settle, upcall, upcallGroup}
 use Rattle.rules.specs.Step.{Effect, described, finish, flagged}
 use Rattle.rules.specs.Valid.{Valid}
-use Rattle.rules.proofs.NodeLaws.{group-same, kept, reflagged-line, within}
-use Rattle.rules.proofs.Sound.{valid-sound}
+use Rattle.rules.proofs.Steps.NodeLaws.{group-same, kept, reflagged-line, within}
+use Rattle.rules.proofs.Steps.SoundLaws.{valid-sound}
 
 -- nothing to settle, and no upcall due
 pub record Quiet (n : Node) : Type 0 where

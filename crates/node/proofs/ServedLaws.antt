@@ -14,8 +14,8 @@ use Rattle.rules.specs.Refusal.{refusal, refuseRequest}
 use Rattle.rules.specs.Step.{Effect, act, serve}
 use Rattle.rules.specs.Types.{reportOf}
 use Rattle.rules.specs.declared.Report.{Report as Report·rt}
-use Rattle.rules.proofs.Sound.{Sound}
-use Rattle.rules.proofs.StepLaws.{act-sound}
+use Rattle.rules.specs.Sound.{Sound}
+use Rattle.rules.proofs.Steps.StepLaws.{act-sound}
 use Rattle.memory.specs.Holds.{Holds}
 use Rattle.memory.proofs.PieceLaws.{holds-pieces}
 use Rattle.node.specs.Steps.{Running, Stepping, Finished}

@@ -9,7 +9,7 @@ use Rattle.rules.specs.Refusal.{refusal}
 use Rattle.rules.specs.Step.{act, finish, step, Effect, Stepped}
 use Rattle.rules.specs.Types.{reportOf}
 use Rattle.rules.specs.declared.Report.{Report as Report·rt, Report as Report·rt}
-use Rattle.rules.proofs.StepLaws.{step-accepted, step-refused}
+use Rattle.rules.proofs.Steps.StepLaws.{step-accepted, step-refused}
 use Rattle.memory.specs.Holds.{Holds}
 use Rattle.node.specs.Steps.{Finished, Stepping}
 use Rattle.node.proofs.QuietLaws.{Quiet, quiet-finish}

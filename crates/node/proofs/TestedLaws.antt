@@ -13,15 +13,15 @@ use Rattle.rules.specs.Node.{powerOn}
 use Rattle.rules.specs.Operation.{Operation, notNode, refused}
 use Rattle.rules.specs.Types.{reportOf}
 use Rattle.rules.specs.declared.Report.{Report as Report·rt}
-use Rattle.rules.proofs.MapLaws.{test-valid}
-use Rattle.rules.proofs.RunMemory.{paper-sensible, step-tested}
-use Rattle.rules.proofs.Sound.{valid-mapped}
-use Rattle.rules.proofs.StepLaws.{power-on-valid, step-valid}
+use Rattle.rules.proofs.Map.MapLaws.{test-valid}
+use Rattle.rules.proofs.Map.RunMemory.{paper-sensible, step-tested}
+use Rattle.rules.proofs.Steps.SoundLaws.{valid-mapped}
+use Rattle.rules.proofs.Steps.StepLaws.{power-on-valid, step-valid}
 use Rattle.memory.specs.Answers.{Answers}
 use Rattle.node.specs.Parts.{FirstPart, partOf}
 use Rattle.node.specs.Steps.{IsNode, Steps}
-use Rattle.node.proofs.HeadLaws.{head-tested, tested-holds}
-use Rattle.node.proofs.SendLaws.{reported}
+use Rattle.node.proofs.message.HeadLaws.{head-tested, tested-holds}
+use Rattle.node.proofs.user.SendLaws.{reported}
 
 -- memory that passes the test holds a node
 pub tested-node : (m : List ℕ) → isMemory m ≡ true → IsNode m

@@ -13,7 +13,7 @@ ghost use Rattle.rules.specs.Frames.{pledge, pledges};
 ghost use Rattle.rules.specs.Operation.{arrive};
 ghost use Rattle.rules.specs.Refusal.{queued, refusal};
 ghost use Rattle.rules.specs.Valid.{Valid};
-ghost use Rattle.rules.proofs.Sound.{Sound};
+ghost use Rattle.rules.specs.Sound.{Sound};
 ghost use Rattle.memory.specs.Holds.{Holds, Some, Any};
 ghost use Rattle.node.specs.Steps.{IsNode, Steps};
 

@@ -13,7 +13,7 @@ ghost use Rattle.rules.specs.Build.{paper01, groupCount};
 ghost use Rattle.rules.specs.Memory.{size};
 ghost use Rattle.rules.specs.Node.{Message, Node};
 ghost use Rattle.rules.specs.Settling.{mayStay, restTimer};
-ghost use Rattle.rules.proofs.Sound.{Sound};
+ghost use Rattle.rules.specs.Sound.{Sound};
 ghost use Rattle.memory.specs.Holds.{Holds, Some, Becomes, Any};
 ghost use Rattle.node.specs.Steps.{Headed, Settled, Drained, Settles, Called, Finishes, movingHead, effect};
 

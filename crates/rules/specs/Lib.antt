@@ -8,6 +8,7 @@ pub mod Refusal
 pub mod Settling
 pub mod Step
 pub mod Valid
+pub mod Sound
 pub mod Memory
 pub mod MemoryTest
 pub mod Text
@@ -15,12 +16,6 @@ pub mod Script
 pub mod Private
 pub mod Run
 pub mod Cases
-pub mod AnswerCases
-pub mod ScriptCases
-pub mod BufferCases
-pub mod StepCases
-pub mod MemoryCases
-pub mod TypeCases
 pub mod Conditions
 pub mod DemandOne
 pub mod DemandThree

@@ -1,5 +1,5 @@
--- The memory map at paper 01's sizes: where each number of a node stands among 32-bit words, as a function from a node to words and one
--- back. docs/MEMORY.md is its prose. Assumes nothing.
+-- "The memory is of 32-bit words; docs/ fixes once its size and where each number stands." The map at paper 01's sizes, as a function from
+-- a node to words and one back. docs/MEMORY.md is its prose. Assumes nothing.
 use Prim.Native.Nat.{ℕ, zero, suc, _+_, _-_, _*_}
 use mathlib.Core.Bool.{Bool, true, false}
 use mathlib.Core.List.{List, [], _∷_, _++_, map}
@@ -206,11 +206,11 @@ framePlaces m f = placesAt m (frameAddress f) (paper01 .perFrame)
 unfoldable pub frameAt : List ℕ → ℕ → Frame
 frameAt m f = record { number = f; places = framePlaces m f }
 
--- From here to groupAt, a is the address of a group's record.
-
--- a flag
+-- the flag at address a
 unfoldable pub flagAt : List ℕ → ℕ → Bool
 flagAt m a = eqb (word m a) 1
+
+-- From here to groupAt, a is the address of a group's record.
 
 -- a buffer's list
 unfoldable pub listAt : List ℕ → ℕ → List ℕ

@@ -34,25 +34,25 @@ refuseSchedule g = cond (ltb groupCount g) badSchedule accepted
 unfoldable pub refuseTick : ℕ → ℕ
 refuseTick k = cond (eqb k 0 || ltb tickLimit k) badTicks accepted
 
--- 8, then 9, over the line
+-- "8: D or E with an empty line."; "9: E with i not below the message's length."
 unfoldable pub refusePeek : List Message → ℕ → ℕ
 refusePeek [] i = noMessage
 refusePeek (m ∷ ms) i = cond (leb (length (m .words)) i) pastMessage accepted
 
--- 8
+-- "8: D or E with an empty line."
 unfoldable pub refuseDispose : List Message → ℕ
 refuseDispose [] = noMessage
 refuseDispose (m ∷ ms) = accepted
 
--- 10
+-- "10: N while pending."
 unfoldable pub refuseEnd : Bool → ℕ
 refuseEnd pending = cond pending stillPending accepted
 
--- 11
+-- "11: P with 8 words in the descriptor."
 unfoldable pub refuseDescribe : List ℕ → ℕ
 refuseDescribe d = cond (leb wordLimit (length d)) descriptorFull accepted
 
--- 12, "13, after it"
+-- "12: L with an empty descriptor; 13, after it: node above 63."
 unfoldable pub refuseLaunch : List ℕ → ℕ → ℕ
 refuseLaunch [] k = descriptorEmpty
 refuseLaunch (w ∷ d) k = cond (ltb lastNode k) badNode accepted

@@ -50,7 +50,7 @@ unfoldable pub groupAndWords : List ℕ → Operation
 groupAndWords [] = unknown
 groupAndWords (g ∷ ws) = arrive g ws
 
--- an operation with one field, and one with none; "a wrong count of fields is unreadable"
+-- an operation with one field; "a wrong count of fields is unreadable"
 unfoldable pub oneField : (ℕ → Operation) → List ℕ → Operation
 oneField f [] = unknown
 oneField f (x ∷ []) = f x

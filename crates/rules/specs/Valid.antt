@@ -12,7 +12,7 @@ use Rattle.rules.specs.Node.{Message, Place, Frame, Buffer, Group, Node,
 use Rattle.rules.specs.Frames.{ceilDiv, pledges}
 use Rattle.rules.specs.Settling.{mayStay}
 
--- the numbers of all frames: those of the free line, then each group's list
+-- a group's list of frames, by their numbers
 unfoldable pub frameList : Group → List ℕ
 frameList G = G .buffer .frames
 
@@ -20,11 +20,11 @@ frameList G = G .buffer .frames
 unfoldable pub frameNumber : Frame → ℕ
 frameNumber f = f .number
 
--- all of them
+-- the numbers of all frames: those of the free line, then each group's list
 unfoldable pub frameNumbers : Node → List ℕ
 frameNumbers n = map frameNumber (n .free) ++ concatMap frameList (n .groups)
 
--- a queued message: its group is 1 to 8, and it has 1 to 8 words
+-- a queued message: "A message has a group and 1 to 8 words", "Groups are 1 to 8."
 pub record GoodMessage (m : Message) : Type 0 where
   pub group-low : 1 ≤ m .group
   pub group-high : m .group ≤ groupCount
@@ -35,10 +35,11 @@ pub record GoodMessage (m : Message) : Type 0 where
 pub record GoodPlace (p : Place) : Type 0 where
   pub eight : length (p .words) ≡ wordLimit
 
--- the place of a waiting message: its length is 1 to 8, and the words past it are 0
+-- a word is 0
 abbrev pub Zero : ℕ → Type 0
 Zero w = w ≡ 0
 
+-- the place of a waiting message: its length is 1 to 8; "a waiting message's words past its length are 0"
 pub record GoodWaiting (p : Place) : Type 0 where
   pub some-words : 1 ≤ p .len
   pub few-words : p .len ≤ wordLimit

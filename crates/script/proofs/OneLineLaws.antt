@@ -1,7 +1,7 @@
 -- The line that a text begins with, byte by byte, and texts that are one line. Assumes nothing.
-use Prim.Native.Nat.{ℕ, zero, suc, _≤_}
+use Prim.Native.Nat.{ℕ, zero, suc}
 use native.Mathlib.Omega.{arith}
-use mathlib.Core.Bool.{Bool, true, false}
+use mathlib.Core.Bool.{true, false}
 use mathlib.Core.List.{List, [], _∷_, _++_}
 use mathlib.Core.Path.{_≡_, _∙_, refl, sym, ap}
 use lib.Dec.{eqb}
@@ -11,7 +11,7 @@ use Rattle.rules.specs.Script.{newline}
 use Rattle.rules.specs.Text.{split, extendFirst}
 use Rattle.script.specs.Feeding.{whole, begun, allButLast, lastPart}
 use Rattle.script.specs.Read.{lineEnd, lineOf, OneLine}
-use Rattle.script.proofs.LineEndLaws.{by-test}
+use Rattle.script.proofs.read.LineEndLaws.{by-test}
 use Rattle.script.proofs.PortionLaws.{whole-newline, whole-other, joinLines}
 
 module _ (x : ℕ) (xs : List ℕ) where

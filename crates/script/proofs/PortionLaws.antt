@@ -18,8 +18,8 @@ use Rattle.rules.specs.Node.{Node, powerOn}
 use Rattle.rules.specs.Script.{ended, newline, scriptLines, header, listFrom, listing, readLine, reportLine}
 use Rattle.rules.specs.Text.{extendFirst, split}
 use Rattle.rules.specs.Valid.{Valid}
-use Rattle.rules.proofs.RunMemory.{paper-sensible, power-on-tested, step-written}
-use Rattle.rules.proofs.StepLaws.{power-on-valid, step-valid}
+use Rattle.rules.proofs.Map.RunMemory.{paper-sensible, power-on-tested, step-written}
+use Rattle.rules.proofs.Steps.StepLaws.{power-on-valid, step-valid}
 use Rattle.script.specs.Feeding.{allButLast, begun, lastLine, lastPart, whole, afterLines, listMemory}
 
 -- a split has a first part

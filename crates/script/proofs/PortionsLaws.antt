@@ -16,10 +16,10 @@ use Rattle.script.specs.Feeding.{whole, begun, lastLine, linesBehind, re
 use Rattle.script.specs.Feed.{keptRoom, keptLine, BegunFed}
 use Rattle.script.specs.Portions.{Portion, usedOf, listedOf, usedBytes, listedBytes, Feeds, endedScript, PortionsListed}
 use Rattle.script.specs.declared.feed.State.{State as State·rt}
-use Rattle.script.proofs.FedLaws.{lines-none}
-use Rattle.script.proofs.LineEndLaws.{by-test}
+use Rattle.script.proofs.feed.FedLaws.{lines-none}
+use Rattle.script.proofs.read.LineEndLaws.{by-test}
 use Rattle.script.proofs.PortionLaws.{joins, joinLines, joinRest, whole-newline, whole-other, whole-nil, split-some, list-append, lines-ended, listing-memory}
-use Rattle.script.proofs.ReadLaws.{reads-long}
+use Rattle.script.proofs.read.ReadLaws.{reads-long}
 
 -- What has begun has no newline.
 

@@ -8,7 +8,7 @@ use Rattle.rules.specs.MemoryTest.{isMemory, stepMemory}
 use Rattle.rules.specs.Script.{readLine, reportLine}
 use Rattle.script.specs.Feeding.{whole, begun, listMemory, afterLines}
 use Rattle.script.specs.Written.{Appended, Counts, Counting, Countable, lastCount, lineRoom}
-use Rattle.script.specs.Read.{OneLine, fieldRoom, lineOf, lineEnd}
+use Rattle.script.specs.Read.{OneLine, fieldLimit, lineOf, lineEnd}
 use Rattle.script.specs.declared.play.Played.{Played as Played·rt}
 
 -- memory of which it is known whether it is a node, whole lines from a position on, an output written up to a place, and a line
@@ -25,7 +25,7 @@ pub record Playable (m : List ℕ) (good : Bool) (s : List ℕ) (from : ℕ) (ou
 pub record LinePlayable (m : List ℕ) (good : Bool) (s : List ℕ) (from : ℕ) (fields out : List ℕ) (at : ℕ) (digits : List ℕ) (len : ℕ) : Type 0 where
   pub known : isMemory m ≡ good
   pub inside : from < length s
-  pub many : length fields ≡ fieldRoom
+  pub many : length fields ≡ fieldLimit
   pub room : at + lineRoom ≤ length out
   pub countable : Countable digits len
 
@@ -48,6 +48,7 @@ pub record TextPlayable (m : List ℕ) (good : Bool) (text : List ℕ) (count : 
   pub counting : Counting digits len
   pub few : counting .number + count < lastCount
 
+-- such a line played
 pub record TextPlayed (m line out digits : List ℕ) (len : ℕ) (m′ out′ digits′ : List ℕ) (p : Played·rt) : Type 0 where
   pub memory : m′ ≡ stepMemory m (readLine line) .memory
   pub listed : (i : ℕ) → Counts digits len i → Appended out 0 out′ (p .at) (reportLine (i + 1) (stepMemory m (readLine line) .report))

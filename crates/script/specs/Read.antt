@@ -18,8 +18,8 @@ use Rattle.script.specs.declared.read.Fields.{Fields as Fields·rt}
 use Rattle.script.specs.declared.read.Line.{Line as Line·rt}
 
 -- more numbers than a line has room for: each takes a comma and a digit
-abbrev pub fieldRoom : ℕ
-fieldRoom = 64
+abbrev pub fieldLimit : ℕ
+fieldLimit = 64
 
 -- the line that a text begins with: its bytes up to the next newline, or all
 unfoldable pub lineOf : List ℕ → List ℕ
@@ -72,7 +72,7 @@ pub record NumberRead (s : List ℕ) (at : ℕ) (d : Digits·rt) : Type 0 where
 pub record FieldsRead (s : List ℕ) (at : ℕ) (fields : List ℕ) (f : Fields·rt) : Type 0 where
   pub found : cond (f .ok) (some (take (f .count) fields)) none ≡ restOfLine (lineOf (drop at s))
   pub ended : f .ok ≡ true → f .next ≡ lineEnd s at
-  pub counted : f .count ≤ fieldRoom
+  pub counted : f .count ≤ fieldLimit
   pub inside : f .next ≤ length s
   pub same-line : lineEnd s (f .next) ≡ lineEnd s at
 
@@ -89,10 +89,10 @@ unreadableLine next = record { op = Unknown; count = 0; next = next }
 pub record LineRead (s : List ℕ) (at : ℕ) (fields : List ℕ) (l : Line·rt) : Type 0 where
   pub operation : operationOf (l .op) (take (l .count - 1) (drop 1 fields)) ≡ readLine (lineOf (drop at s))
   pub next : l .next ≡ lineEnd s at + 1
-  pub counted : l .count ≤ fieldRoom
+  pub counted : l .count ≤ fieldLimit
 
 -- a text read as one line
 pub record TextRead (text fields : List ℕ) (l : Line·rt) : Type 0 where
   pub operation : operationOf (l .op) (take (l .count - 1) (drop 1 fields)) ≡ readLine text
   pub next : l .next ≡ lineEnd text 0 + 1
-  pub counted : l .count ≤ fieldRoom
+  pub counted : l .count ≤ fieldLimit

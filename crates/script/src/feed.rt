@@ -194,8 +194,8 @@ fn kept_count(kept: &[u8], count: usize) -> usize
 }
 
 // The next portion of a script: the lines that it completes are stepped on the memory and listed from the beginning of the output, and the line
-// that has begun at its end is kept. Where the output has no room for one more line, or fewer line numbers are left than the portion has bytes,
-// the rest of the portion is for the next call.
+// that has begun at its end is kept. Where the output has no room for one more line, the rest of the portion is for the next call; where fewer
+// line numbers are left than the portion has bytes, nothing of it is used.
 pub fn feed(memory: &mut [u32], state: State, input: &[u8], out: &mut [u8]) -> Fed
     ensures { λ f. ⌜ FedTo (now (memory .entry)) state (now (input .entry)) (now (out .entry)) (now (memory .exit)) (now (out .exit)) f ⌝ }
 {

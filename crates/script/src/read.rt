@@ -5,7 +5,7 @@ ghost use mathlib.Core.Path.{_≡_};
 ghost use Prim.Native.Nat.{_≤_, _<_};
 ghost use lib.ListN.{length};
 ghost use Rattle.rules.specs.Text.{isDigit};
-ghost use Rattle.script.specs.Read.{fieldRoom, lineEnd, noNumber, fieldsEnded, unreadableLine, Judged, NumberRead, FieldsRead, Lettered, LineRead, TextRead};
+ghost use Rattle.script.specs.Read.{fieldLimit, lineEnd, noNumber, fieldsEnded, unreadableLine, Judged, NumberRead, FieldsRead, Lettered, LineRead, TextRead};
 
 // A line has room for no more numbers: each takes a comma and a digit.
 pub const FIELDS: usize = 64;
@@ -127,7 +127,7 @@ fn ended(line: bool, length: usize, count: usize, next: usize) -> Fields
 
 // The numbers behind a letter, up to the end of the line or to what is none.
 fn read_fields(s: &[u8], at: usize, fields: &mut [u32]) -> Fields
-    requires { ⌜ (at ≤ length (now s)) × (fieldRoom ≤ length (now fields)) ⌝ }
+    requires { ⌜ (at ≤ length (now s)) × (fieldLimit ≤ length (now fields)) ⌝ }
     ensures { λ f. ⌜ FieldsRead (now (s .entry)) at (now (fields .exit)) f ⌝ }
 {
     let mut i = at;
@@ -208,7 +208,7 @@ fn unreadable(next: usize) -> Line
 
 // The line that begins at a position: its operation, and in the fields the numbers behind its letter.
 pub fn read_at(s: &[u8], at: usize, fields: &mut [u32]) -> Line
-    requires { ⌜ (at < length (now s)) × (fieldRoom ≤ length (now fields)) ⌝ }
+    requires { ⌜ (at < length (now s)) × (fieldLimit ≤ length (now fields)) ⌝ }
     ensures { λ l. ⌜ LineRead (now (s .entry)) at (now (fields .exit)) l ⌝ }
 {
     let letter = s[at];
@@ -228,7 +228,7 @@ pub fn read_at(s: &[u8], at: usize, fields: &mut [u32]) -> Line
 
 // A text as one line: a newline in it makes it unreadable.
 pub fn read(text: &[u8], fields: &mut [u32]) -> Line
-    requires { ⌜ fieldRoom ≤ length (now fields) ⌝ }
+    requires { ⌜ fieldLimit ≤ length (now fields) ⌝ }
     ensures { λ l. ⌜ TextRead (now (text .entry)) (now (fields .exit)) l ⌝ }
 {
     if text.len() == 0 {

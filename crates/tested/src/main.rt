@@ -14,7 +14,7 @@ use script::write::put_line;
 use script::write::put_number;
 ghost use Prim.Native.Nat.{ℕ, _+_, _≤_};
 ghost use lib.ListN.{length};
-ghost use Rattle.script.specs.Written.{lineRoom, Countable, Counting, Counts};
+ghost use Rattle.script.specs.Written.{lineRoom, Countable, Counts};
 ghost use Rattle.tested.specs.Counted.{CountsTo};
 
 // How many bytes a script has at most, and how many are written at a time.

@@ -14,12 +14,12 @@ use Rattle.rules.specs.Frames.{ceilDiv}
 use Rattle.rules.specs.Valid.{isMessage, frameNumbers, standsOnce}
 use Rattle.rules.specs.Memory.{runningAt, queuedAt, freeCountAt, queueAt, queueStride, usedOffset, countOffset, heldOffset, describedOffset, size, word, wordsAt, messageAt, groupAddress, nodeAt}
 use Rattle.rules.specs.MemoryTest.{groupCounts, lengthInBounds, countsInBounds}
-use Rattle.rules.proofs.TestLaws.{range-tells}
-use Rattle.rules.proofs.EveryLaws.{every-append}
-use Rattle.rules.proofs.ListLaws.{once-bounded}
+use Rattle.rules.proofs.Map.TestLaws.{range-tells}
+use Rattle.rules.proofs.Steps.EveryLaws.{every-append}
+use Rattle.rules.proofs.Steps.ListLaws.{once-bounded}
 use Rattle.validate.specs.Clauses.{messageGood, bufferGood, framesOnce, listStart, listCount, listed, numbersGood, framesGood}
 use Rattle.validate.specs.Known.{Counted, Framed, Lined}
-use Rattle.validate.proofs.ListedLaws.{count-held, start-held, numbers-split, behind}
+use Rattle.validate.proofs.frames.ListedLaws.{count-held, start-held, numbers-split, behind}
 use Rattle.validate.proofs.TestLaws.{numbers-tell, frames-tell}
 
 module _ (m : List ℕ) where

@@ -1,12 +1,3 @@
 pub mod RangeLaws
-pub mod WordLaws
-pub mod PartLaws
-pub mod ListedLaws
-pub mod OnceLaws
-pub mod WalkLaws
-pub mod MaskLaws
-pub mod PlaceLaws
-pub mod CountLaws
-pub mod LineLaws
 pub mod TestLaws
 pub mod FactLaws

@@ -8,7 +8,7 @@ use native.Mathlib.Nat.{eq-or-lt-of-le}
 use borrow.Author.Tests.{not-true, not-false}
 use Rattle.rules.specs.Lists.{all, upFrom}
 use Rattle.rules.specs.Build.{groupCount}
-use Rattle.rules.proofs.TestLaws.{range-tells}
+use Rattle.rules.proofs.Map.TestLaws.{range-tells}
 
 -- a test that cannot pass fails
 pub fails : (t : Bool) → (t ≡ true → ⊥) → t ≡ false

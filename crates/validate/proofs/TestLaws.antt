@@ -16,14 +16,14 @@ use Rattle.rules.specs.Frames.{pledges}
 use Rattle.rules.specs.Valid.{isMessage, isPlace, isFrame, isBuffer, isGroup, frameNumbers, pendingHasLine, runnerAtomic, headStays, nodeTests, isNode}
 use Rattle.rules.specs.Memory.{runningAt, timerAt, queuedAt, freeAt, freeCountAt, queueAt, groupsAt, heldOffset, describedOffset, descriptorOffset, listOffset, size, word, wordsAt, placeAt, framePlaces, frameAddress, frameAt, listAt, bufferAt, groupAt, groupsFrom, groupAddress, nodeAt}
 use Rattle.rules.specs.MemoryTest.{countsInBounds, flagsAreFlags, unusedAreZero, memoryTests, isMemory}
-use Rattle.rules.proofs.TestLaws.{all-every, passes-every, range-tells}
-use Rattle.rules.proofs.EveryLaws.{every-of, every-map, every-concat}
-use Rattle.rules.proofs.MapWords.{Records, length-wordsAt, length-records, every-record}
-use Rattle.rules.proofs.MapParts.{messages, places, groups}
+use Rattle.rules.proofs.Map.TestLaws.{all-every, passes-every, range-tells}
+use Rattle.rules.proofs.Steps.EveryLaws.{every-of, every-map, every-concat}
+use Rattle.rules.proofs.Map.MapWords.{Records, length-wordsAt, length-records, every-record}
+use Rattle.rules.proofs.Map.MapParts.{messages, places, groups}
 use Rattle.validate.specs.Clauses.{messageGood, bufferGood, pendingAtomic, waitingGood, framesOnce, numbersGood, framesGood, linesGood}
 use Rattle.validate.specs.Known.{Counted}
 use Rattle.validate.proofs.RangeLaws.{fails}
-use Rattle.validate.proofs.PlaceLaws.{places-all}
+use Rattle.validate.proofs.frames.PlaceLaws.{places-all}
 
 -- a test of every element, element by element
 each : {A : Type 0} (p : A → Bool) (xs : List A) → (all p xs ≡ true) ↔ Every (λ x. p x ≡ true) xs

@@ -32,11 +32,13 @@ pendingAtomic m g = not (flagAt m (groupAddress g + pendingOffset)) || flagAt m 
 unfoldable pub waitingGood : List ℕ → ℕ → Bool
 waitingGood m g = all isWaiting (waiting (bufferAt m (groupAddress g)))
 
--- place p of the list of group g, counted through its frames: whether a message waits there as it must
+-- place i of frame f: whether a message waits there as it must
+unfoldable pub waitingIn : List ℕ → ℕ → ℕ → Bool
+waitingIn m f i = isWaiting (placeAt m (frameAddress f + placeStride * i))
+
+-- place p of the list of group g, counted through its frames: the same
 unfoldable pub waitingAt : List ℕ → ℕ → ℕ → Bool
-waitingAt m g p =
-    let f = word m (groupAddress g + listOffset + p / paper01 .perFrame) in
-    isWaiting (placeAt m (frameAddress f + placeStride * (p % paper01 .perFrame)))
+waitingAt m g p = waitingIn m (word m (groupAddress g + listOffset + p / paper01 .perFrame)) (p % paper01 .perFrame)
 
 -- The free line and the groups' lists as nine lists of frame numbers, the free line being list 0.
 

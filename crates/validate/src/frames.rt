@@ -12,15 +12,15 @@ use memory::map::group_word;
 use memory::map::place_at;
 ghost use mathlib.Core.Path.{_≡_};
 ghost use mathlib.Core.Bool.{true};
-ghost use Prim.Native.Nat.{ℕ, _+_, _-_, _≤_};
+ghost use Prim.Native.Nat.{ℕ, _+_, _-_, _≤_, _<_};
 ghost use lib.Dec.{eqb};
 ghost use lib.ListN.{length};
 ghost use Rattle.rules.specs.Lists.{all, upFrom};
-ghost use Rattle.rules.specs.Build.{groupCount};
+ghost use Rattle.rules.specs.Build.{paper01, groupCount};
 ghost use Rattle.rules.specs.Memory.{size, placeStride, placeAt, nodeAt};
 ghost use Rattle.rules.specs.MemoryTest.{zeroAt};
 ghost use Rattle.rules.specs.Valid.{isWaiting, frameNumbers};
-ghost use Rattle.validate.specs.Clauses.{listStart, listCount, framesOnce, waitingGood, numbersGood, framesGood};
+ghost use Rattle.validate.specs.Clauses.{listStart, listCount, framesOnce, waitingIn, waitingGood, numbersGood, framesGood};
 ghost use Rattle.validate.specs.Known.{Counted, Framed};
 ghost use Rattle.validate.specs.Masks.{pastMasks};
 
@@ -156,7 +156,33 @@ fn place_waiting(m: &[u32], a: usize, masks: &[u32; MASKS]) -> bool
     past_zero(m, a + 1, len as usize, masks)
 }
 
-// "waiting messages' lengths"; "a waiting message's words past its length are 0": of those in the buffer of group g
+// The same of a frame's places from one up to another, which is not looked at.
+fn places_waiting(m: &[u32], f: u32, from: u32, to: u32, masks: &[u32; MASKS]) -> bool
+    requires { ⌜ (size ≤ length (now m)) × ((f < paper01 .frames) × ((from ≤ to) × (to ≤ paper01 .perFrame))) ⌝ }
+    requires { ⌜ now masks ≡ pastMasks ⌝ }
+    ensures { λ t. ⌜ all (waitingIn (now (m .entry)) f) (upFrom from (to - from)) ≡ t ⌝ }
+{
+    let mut i = from;
+    while i < to {
+        if !place_waiting(m, place_at(f, i), masks) {
+            return false;
+        }
+        i += 1;
+    }
+    true
+}
+
+// Of so many places from a frame's first on, how many are the frame's.
+fn in_frame(places: u32) -> u32
+    ensures { λ k. ⌜ (k ≤ places) × ((k ≤ paper01 .perFrame) × (places ≤ k + (places - paper01 .perFrame))) ⌝ }
+{
+    if places > Node::PER_FRAME {
+        return Node::PER_FRAME;
+    }
+    places
+}
+
+// "waiting messages' lengths"; "a waiting message's words past its length are 0": of those in the buffer of group g, frame by frame
 fn waiting_good(m: &[u32], g: u32, masks: &[u32; MASKS]) -> bool
     requires { ⌜ Framed (now m) g ⌝ }
     requires { ⌜ now masks ≡ pastMasks ⌝ }
@@ -167,11 +193,13 @@ fn waiting_good(m: &[u32], g: u32, masks: &[u32; MASKS]) -> bool
     let mut p = used;
     while p < end {
         let f = group_word(m, g, LIST + (p / Node::PER_FRAME) as usize);
-        let at = place_at(f, p % Node::PER_FRAME);
-        if !place_waiting(m, at, masks) {
+        let from = p % Node::PER_FRAME;
+        let first = p - from;
+        let to = in_frame(end - first);
+        if !places_waiting(m, f, from, to, masks) {
             return false;
         }
-        p += 1;
+        p = first + to;
     }
     true
 }

@@ -1,16 +1,12 @@
 -- `fugu::main` is safe and ends: the measure is the number of turns that are left. Assumes nothing.
 use native.Mathlib.Omega.{arith}
-use mathlib.Core.Path.{_≡_, refl, sym}
+use mathlib.Core.Path.{_≡_, sym}
 use lib.ListN.{length}
 use lib.Seq.{length-take-le}
-use Rattle.rules.specs.Script.{header}
+use Rattle.script.proofs.write.ListingLaws.{header-length}
 use borrow.Author.Needs.{needs}
 use Rattle.fugu.proofs.main.Statement.{statement}
 use Rattle.fugu.proofs.main.Tie as tie
-
-header-length : length header ≡ 36
-unfolding header
-header-length = refl
 
 abbrev Inv-loop : tie.InvT-loop
 Inv-loop memory₀ input₀ out₀ header run₀ turns₀ memory input out run turns = (length memory ≡ 2868) × ((length input ≡ 65536) × (length out ≡ 65536))

@@ -4,8 +4,8 @@ use native.Mathlib.Omega.{arith}
 use mathlib.Core.Path.{_≡_, ap, sym}
 use lib.ListN.{length, length-drop}
 use lib.Seq.{length-take-le}
-use Rattle.script.proofs.FeedLaws.{drop-all}
-use Rattle.script.proofs.FedLaws.{fed-inside, fed-within}
+use Rattle.script.proofs.feed.FeedLaws.{drop-all}
+use Rattle.script.proofs.feed.FedLaws.{fed-inside, fed-within}
 use Rattle.fugu.proofs.RunLaws.{plays-some}
 use borrow.Author.Needs.{needs}
 use Rattle.fugu.proofs.play.Statement.{statement}

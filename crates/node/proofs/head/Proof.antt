@@ -2,8 +2,8 @@
 use borrow.Author.Tests.{not-true, not-false}
 use mathlib.Core.Path.{_∙_, sym}
 use borrow.Author.Needs.{needs}
-use Rattle.rules.proofs.MapHead.{head-none}
-use Rattle.node.proofs.HeadLaws.{tested-words}
+use Rattle.rules.proofs.Map.MapHead.{head-none}
+use Rattle.node.proofs.message.HeadLaws.{tested-words}
 use Rattle.node.proofs.TestedLaws.{tested-node}
 use Rattle.node.proofs.head.Statement.{statement}
 use Rattle.node.proofs.head.Tie as tie

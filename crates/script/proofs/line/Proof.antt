@@ -2,7 +2,7 @@
 use mathlib.Core.Path.{_∙_, ap}
 use Rattle.rules.specs.Types.{operationOf}
 use borrow.Author.Needs.{needs}
-use Rattle.script.proofs.PlayLaws.{as-read}
+use Rattle.script.proofs.play.PlayLaws.{as-read}
 use Rattle.script.proofs.line.Statement.{statement}
 use Rattle.script.proofs.line.Tie as tie
 

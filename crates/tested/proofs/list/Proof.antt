@@ -1,6 +1,5 @@
 -- `tested::list` meets its contract: any report has room in a line. Assumes nothing.
-use Rattle.script.proofs.PlayLaws.{answered-few}
-use native.Mathlib.Omega.{arith}
+use Rattle.script.proofs.play.PlayLaws.{answered-few}
 use borrow.Author.Needs.{needs}
 use Rattle.tested.proofs.list.Statement.{statement}
 use Rattle.tested.proofs.list.Tie as tie

@@ -4,7 +4,7 @@ use native.Mathlib.Omega.{arith}
 use mathlib.Core.Path.{_≡_, _∙_, refl}
 use lib.ListN.{length}
 use Rattle.script.specs.Read.{lineEnd}
-use Rattle.script.proofs.LineEndLaws.{end-inside}
+use Rattle.script.proofs.read.LineEndLaws.{end-inside}
 use Rattle.tested.specs.Counted.{CountsTo}
 use Rattle.tested.proofs.CountedLaws.{counts-countable, counts-one, counts-within}
 use borrow.Author.Needs.{needs}

@@ -4,18 +4,14 @@ use native.Mathlib.Omega.{arith}
 use mathlib.Core.Path.{_≡_, refl, sym}
 use lib.ListN.{length}
 use lib.Seq.{length-take-le}
-use Rattle.rules.specs.Script.{header}
-use Rattle.script.proofs.DecimalLaws.{decimal-length}
-use Rattle.script.proofs.FedLaws.{counts-written}
+use Rattle.script.proofs.write.ListingLaws.{header-length}
+use Rattle.script.proofs.write.DecimalLaws.{decimal-length}
+use Rattle.script.proofs.feed.FedLaws.{counts-written}
 use Rattle.tested.specs.Counted.{CountsTo}
 use Rattle.tested.proofs.CountedLaws.{counts-within}
 use borrow.Author.Needs.{needs}
 use Rattle.tested.proofs.main.Statement.{statement}
 use Rattle.tested.proofs.main.Tie as tie
-
-header-length : length header ≡ 36
-unfolding header
-header-length = refl
 
 abbrev Inv-loop : tie.InvT-loop
 Inv-loop memory₀ script out₀ digits₀ n at len l₀ times₀ memory out digits l times =

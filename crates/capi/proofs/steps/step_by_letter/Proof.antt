@@ -1,6 +1,6 @@
 -- `capi::steps::step_by_letter` meets its contract: the operation and the words handed on are those of the letter and its numbers. Assumes nothing.
 use borrow.Author.Needs.{needs}
-use Rattle.script.proofs.PlayLaws.{as-read}
+use Rattle.script.proofs.play.PlayLaws.{as-read}
 use Rattle.capi.proofs.NumberLaws.{lettered-whole}
 use Rattle.capi.proofs.steps.step_by_letter.Statement.{statement}
 use Rattle.capi.proofs.steps.step_by_letter.Tie as tie

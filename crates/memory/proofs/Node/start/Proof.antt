@@ -7,7 +7,7 @@ use mathlib.Core.Path.{_≡_, sym, ap, _∙_}
 use lib.ListN.{length, length-set}
 use Rattle.rules.specs.Lists.{upFrom}
 use Rattle.rules.specs.Memory.{size}
-use Rattle.rules.proofs.ListLaws.{length-upFrom}
+use Rattle.rules.proofs.Steps.ListLaws.{length-upFrom}
 use Rattle.memory.specs.Writes.{Wrote}
 use Rattle.memory.proofs.WriteLaws.{wrote-none, wrote-next, wrote-as, wrote-set}
 use Rattle.memory.proofs.PowerOnLaws.{powered, upFrom-more}

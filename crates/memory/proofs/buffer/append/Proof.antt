@@ -7,10 +7,10 @@ use mathlib.Core.Path.{_≡_, sym, ap, _∙_, subst}
 use lib.ListN.{length}
 use Rattle.rules.specs.Memory.{word, groupAddress}
 use Rattle.rules.specs.Node.{Node}
-use Rattle.rules.proofs.NodeLaws.{kept}
+use Rattle.rules.proofs.Steps.NodeLaws.{kept}
 use Rattle.memory.specs.Holds.{Holds, Storable}
 use Rattle.memory.specs.Writes.{InGroup}
-use Rattle.memory.proofs.AppendLaws.{Ready, Ends, ends, full-left, ready-room, ready-taken}
+use Rattle.memory.proofs.buffer.AppendLaws.{Ready, Ends, ends, full-left, ready-room, ready-taken}
 use Rattle.memory.proofs.buffer.append.Statement.{statement}
 use Rattle.memory.proofs.buffer.append.Tie as tie
 

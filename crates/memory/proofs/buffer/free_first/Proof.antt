@@ -8,7 +8,7 @@ use borrow.Author.Needs.{needs}
 use Rattle.rules.specs.Memory.{groupStride}
 use Rattle.memory.specs.Writes.{InGroup}
 use Rattle.memory.specs.declared.group.Group.{Group as Group·rt}
-use Rattle.memory.proofs.FreeLaws.{Reads, reads, free-kept, freeing-held, unlisted-below}
+use Rattle.memory.proofs.buffer.FreeLaws.{Reads, reads, free-kept, freeing-held, unlisted-below}
 use Rattle.memory.proofs.buffer.free_first.Statement.{statement}
 use Rattle.memory.proofs.buffer.free_first.Tie as tie
 

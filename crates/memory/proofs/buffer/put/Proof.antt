@@ -9,8 +9,8 @@ use borrow.Rule.Slice.PartMut.{putMid}
 use Rattle.rules.specs.Build.{paper01}
 use Rattle.rules.specs.Memory.{frameAddress, groupAddress, groupStride, size}
 use Rattle.memory.specs.Writes.{InGroup, Wrote}
-use Rattle.memory.proofs.AppendLaws.{Ends, ends, last-frame, room-end}
-use Rattle.memory.proofs.PutLaws.{endPlace, flags-below, putting-kept}
+use Rattle.memory.proofs.buffer.AppendLaws.{Ends, ends, last-frame, room-end}
+use Rattle.memory.proofs.buffer.PutLaws.{endPlace, flags-below, putting-kept}
 use Rattle.memory.proofs.WriteLaws.{wrote-as, wrote-at, wrote-part}
 use Rattle.memory.proofs.buffer.put.Statement.{statement}
 use Rattle.memory.proofs.buffer.put.Tie as tie

@@ -8,8 +8,8 @@ use borrow.Author.Needs.{needs}
 use Rattle.rules.specs.Node.{Node}
 use Rattle.memory.specs.Holds.{Holds}
 use Rattle.memory.specs.Writes.{InGroup}
-use Rattle.memory.proofs.FreeLaws.{Reads, reads, removing-frame, removing-last, removing-used}
-use Rattle.memory.proofs.GroupLaws.{group-words}
+use Rattle.memory.proofs.buffer.FreeLaws.{Reads, reads, removing-frame, removing-last, removing-used}
+use Rattle.memory.proofs.group.GroupLaws.{group-words}
 use Rattle.memory.proofs.PieceLaws.{holds-pieces}
 use Rattle.memory.proofs.buffer.unbuffer.Statement.{statement}
 use Rattle.memory.proofs.buffer.unbuffer.Tie as tie

@@ -3,8 +3,8 @@ use Prim.Native.Nat.{_+_, _≤_}
 use native.Mathlib.Omega.{arith}
 use borrow.Author.Needs.{needs}
 use Rattle.rules.specs.Memory.{framesAt, groupStride}
-use Rattle.memory.proofs.DescriptorLaws.{descriptor-read}
-use Rattle.memory.proofs.GroupLaws.{record-within}
+use Rattle.memory.proofs.descriptor.DescriptorLaws.{descriptor-read}
+use Rattle.memory.proofs.group.GroupLaws.{record-within}
 use Rattle.memory.proofs.descriptor.read.Statement.{statement}
 use Rattle.memory.proofs.descriptor.read.Tie as tie
 

@@ -8,8 +8,8 @@ use borrow.Author.Needs.{needs}
 use Rattle.rules.specs.Build.{paper01}
 use Rattle.rules.specs.Memory.{groupAddress, groupStride, heldOffset, word, listOffset}
 use Rattle.memory.specs.Writes.{InGroup}
-use Rattle.memory.proofs.GroupLaws.{counts, Counts, some-free}
-use Rattle.memory.proofs.TakeLaws.{taking-held}
+use Rattle.memory.proofs.group.GroupLaws.{counts, Counts, some-free}
+use Rattle.memory.proofs.buffer.TakeLaws.{taking-held}
 use Rattle.memory.proofs.WriteLaws.{wrote-at}
 use Rattle.memory.proofs.frames.extend.Statement.{statement}
 use Rattle.memory.proofs.frames.extend.Tie as tie

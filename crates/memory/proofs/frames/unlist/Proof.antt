@@ -1,8 +1,8 @@
 -- `memory::frames::unlist` meets its contract. Assumes nothing.
 use native.Mathlib.Omega.{arith}
 use borrow.Author.Needs.{needs}
-use Rattle.rules.proofs.FrameLaws.{held}
-use Rattle.memory.proofs.GroupLaws.{record-within}
+use Rattle.rules.proofs.Steps.FrameLaws.{held}
+use Rattle.memory.proofs.group.GroupLaws.{record-within}
 use Rattle.memory.proofs.frames.unlist.Statement.{statement}
 use Rattle.memory.proofs.frames.unlist.Tie as tie
 

@@ -2,7 +2,7 @@
 use mathlib.Core.Path.{_∙_, ap, sym}
 use lib.Dec.{ltb}
 use borrow.Author.Needs.{needs}
-use Rattle.memory.proofs.GroupLaws.{buffered-read}
+use Rattle.memory.proofs.group.GroupLaws.{buffered-read}
 use Rattle.memory.proofs.group.buffered.Statement.{statement}
 use Rattle.memory.proofs.group.buffered.Tie as tie
 

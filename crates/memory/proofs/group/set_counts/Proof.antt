@@ -34,7 +34,7 @@ use denote.Exit.{yes}
 use Rattle.rules.specs.Memory.{groupAddress}
 use Rattle.memory.specs.declared.group.Group.{Group}
 use Rattle.memory.specs.Writes.{InGroup, Wrote, groupRead, recounted}
-use Rattle.memory.proofs.Setting.{Read, Write, walk}
+use Rattle.memory.proofs.group.Setting.{Read, Write, walk}
 use Rattle.memory.proofs.group.Group as T
 use Rattle.memory.proofs.group.Group.set_counts as setter
 use Rattle.memory.proofs.group.Group.set_counts.Symbol as setter-def

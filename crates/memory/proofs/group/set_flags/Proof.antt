@@ -34,8 +34,8 @@ use denote.Exit.{yes}
 use Rattle.rules.specs.Memory.{groupAddress}
 use Rattle.memory.specs.declared.group.Group.{Group}
 use Rattle.memory.specs.Writes.{InGroup, Wrote, groupRead, reflagged}
-use Rattle.memory.proofs.GroupLaws.{flags-held}
-use Rattle.memory.proofs.Setting.{Read, Write, walk}
+use Rattle.memory.proofs.group.GroupLaws.{flags-held}
+use Rattle.memory.proofs.group.Setting.{Read, Write, walk}
 use Rattle.memory.proofs.group.Group as T
 use Rattle.memory.proofs.group.Group.set_flags as setter
 use Rattle.memory.proofs.group.Group.set_flags.Symbol as setter-def

@@ -3,7 +3,7 @@ use native.Mathlib.Omega.{arith}
 use lib.ListN.{length-set}
 use borrow.Author.Needs.{needs}
 use Rattle.rules.specs.Memory.{groupAddress}
-use Rattle.memory.proofs.GroupLaws.{record-within}
+use Rattle.memory.proofs.group.GroupLaws.{record-within}
 use Rattle.memory.proofs.WriteLaws.{wrote-four}
 use Rattle.memory.proofs.group.write.Statement.{statement}
 use Rattle.memory.proofs.group.write.Tie as tie

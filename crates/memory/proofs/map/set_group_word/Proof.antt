@@ -3,7 +3,7 @@ use Prim.Native.Nat.{_+_}
 use native.Mathlib.Omega.{arith}
 use borrow.Author.Needs.{needs}
 use Rattle.rules.specs.Memory.{groupAddress}
-use Rattle.memory.proofs.GroupLaws.{record-within}
+use Rattle.memory.proofs.group.GroupLaws.{record-within}
 use Rattle.memory.proofs.WriteLaws.{wrote-set}
 use Rattle.memory.proofs.map.set_group_word.Statement.{statement}
 use Rattle.memory.proofs.map.set_group_word.Tie as tie

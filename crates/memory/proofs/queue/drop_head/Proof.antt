@@ -6,7 +6,7 @@ use borrow.Author.Needs.{needs}
 use Rattle.rules.specs.Build.{paper01}
 use Rattle.rules.specs.Memory.{queuedAt, size, word}
 use Rattle.memory.proofs.PieceLaws.{holds-pieces}
-use Rattle.memory.proofs.QueueLaws.{dropping-held, queue-count}
+use Rattle.memory.proofs.queue.QueueLaws.{dropping-held, queue-count}
 use Rattle.memory.proofs.WriteLaws.{wrote-set}
 use Rattle.memory.proofs.queue.drop_head.Statement.{statement}
 use Rattle.memory.proofs.queue.drop_head.Tie as tie

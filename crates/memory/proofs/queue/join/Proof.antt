@@ -9,7 +9,7 @@ use Rattle.rules.specs.Memory.{queuedAt, size, word}
 use Rattle.rules.specs.Node.{Message}
 use Rattle.rules.specs.Valid.{GoodMessage}
 use Rattle.memory.proofs.PieceLaws.{holds-pieces}
-use Rattle.memory.proofs.QueueLaws.{joined-held, queue-count}
+use Rattle.memory.proofs.queue.QueueLaws.{joined-held, queue-count}
 use Rattle.memory.proofs.WriteLaws.{wrote-at, wrote-next, wrote-set, wrote-then}
 use Rattle.memory.proofs.queue.join.Statement.{statement}
 use Rattle.memory.proofs.queue.join.Tie as tie

@@ -3,7 +3,7 @@ use Prim.Native.Nat.{_+_, _-_, _≤_}
 use native.Mathlib.Omega.{arith}
 use mathlib.Core.Path.{_≡_}
 use Rattle.rules.specs.Memory.{word, wordsAt}
-use Rattle.rules.proofs.MapWords.{length-wordsAt}
+use Rattle.rules.proofs.Map.MapWords.{length-wordsAt}
 use Rattle.memory.specs.Writes.{Wrote}
 use Rattle.memory.proofs.WriteLaws.{wrote-none, wrote-next, wordsAt-more}
 use Rattle.memory.proofs.words.move_down.Statement.{statement}

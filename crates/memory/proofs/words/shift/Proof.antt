@@ -2,7 +2,7 @@
 use Prim.Native.Nat.{_+_}
 use native.Mathlib.Omega.{arith}
 use borrow.Author.Needs.{needs}
-use Rattle.rules.proofs.MapWords.{length-wordsAt}
+use Rattle.rules.proofs.Map.MapWords.{length-wordsAt}
 use Rattle.memory.proofs.WriteLaws.{wrote-then}
 use Rattle.memory.proofs.words.shift.Statement.{statement}
 use Rattle.memory.proofs.words.shift.Tie as tie

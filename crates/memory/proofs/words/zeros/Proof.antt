@@ -5,7 +5,7 @@ use mathlib.Core.Path.{_≡_}
 use lib.Dec.{eqb}
 use Rattle.rules.specs.Memory.{word}
 use Rattle.rules.specs.MemoryTest.{zeroAt}
-use Rattle.memory.proofs.ZeroLaws.{zero-none, zero-gathered}
+use Rattle.memory.proofs.words.ZeroLaws.{zero-none, zero-gathered}
 use Rattle.memory.proofs.words.zeros.Statement.{statement}
 use Rattle.memory.proofs.words.zeros.Tie as tie
 

@@ -15,7 +15,7 @@ use Rattle.memory.specs.Holds.{Holds}
 use Rattle.memory.proofs.PieceLaws.{holds-pieces}
 use Rattle.memory.proofs.PieceWrites.{running-held, timer-held}
 use Rattle.memory.proofs.WriteLaws.{wrote-set}
-use Rattle.node.proofs.KernelLaws.{schedule-accepted, schedule-other, schedule-refused, schedule-same, schedule-sound}
+use Rattle.node.proofs.kernel.KernelLaws.{schedule-accepted, schedule-other, schedule-refused, schedule-same, schedule-sound}
 use Rattle.node.proofs.StepMap.{stepping-finished, stepping-quiet, stepping-refused}
 use Rattle.node.proofs.kernel.schedule.Statement.{statement}
 use Rattle.node.proofs.kernel.schedule.Tie as tie

@@ -11,13 +11,13 @@ use Rattle.rules.specs.Memory.{queuedAt, size, timerAt, word}
 use Rattle.rules.specs.Node.{Node, withTimer}
 use Rattle.rules.specs.Operation.{tick}
 use Rattle.rules.specs.Step.{valued}
-use Rattle.rules.proofs.Sound.{valid-sound}
+use Rattle.rules.proofs.Steps.SoundLaws.{valid-sound}
 use Rattle.node.proofs.QuietLaws.{valid-quiet}
 use Rattle.memory.specs.Holds.{Holds}
 use Rattle.memory.proofs.PieceLaws.{holds-pieces}
 use Rattle.memory.proofs.PieceWrites.{timer-held}
 use Rattle.memory.proofs.WriteLaws.{wrote-as, wrote-set}
-use Rattle.node.proofs.KernelLaws.{counted-quiet, tick-accepted, tick-counted, tick-idle, tick-many, tick-none, tick-timeout}
+use Rattle.node.proofs.kernel.KernelLaws.{counted-quiet, tick-accepted, tick-counted, tick-idle, tick-many, tick-none, tick-timeout}
 use Rattle.node.proofs.StepMap.{stepping-finished, stepping-quiet, stepping-refused}
 use Rattle.node.proofs.kernel.tick.Statement.{statement}
 use Rattle.node.proofs.kernel.tick.Tie as tie

@@ -9,13 +9,13 @@ use Rattle.rules.specs.Build.{paper01}
 use Rattle.rules.specs.Memory.{timerAt}
 use Rattle.rules.specs.Node.{Node, withTimer}
 use Rattle.rules.specs.Settling.{drain}
-use Rattle.rules.proofs.Sound.{Sound}
+use Rattle.rules.specs.Sound.{Sound}
 use Rattle.memory.specs.Holds.{Holds}
 use Rattle.memory.proofs.PieceLaws.{holds-pieces}
 use Rattle.memory.proofs.PieceWrites.{timer-held}
 use Rattle.memory.proofs.WriteLaws.{wrote-set}
 use Rattle.node.specs.Steps.{Finished, effect}
-use Rattle.node.proofs.KernelLaws.{timeout-sound}
+use Rattle.node.proofs.kernel.KernelLaws.{timeout-sound}
 use Rattle.node.proofs.kernel.timeout.Statement.{statement}
 use Rattle.node.proofs.kernel.timeout.Tie as tie
 

@@ -13,10 +13,10 @@ use Rattle.rules.specs.Node.{Node, groupOf}
 use Rattle.rules.specs.Valid.{Valid}
 use Rattle.memory.specs.Holds.{Holds}
 use Rattle.memory.specs.Writes.{InGroup}
-use Rattle.memory.proofs.GroupLaws.{group-words}
+use Rattle.memory.proofs.group.GroupLaws.{group-words}
 use Rattle.memory.proofs.PieceLaws.{holds-pieces}
 use Rattle.node.specs.Parts.{partOf}
-use Rattle.node.proofs.HeadLaws.{buffered-part, first-frame, idle-part, nobody-part, queued-part}
+use Rattle.node.proofs.message.HeadLaws.{buffered-part, first-frame, idle-part, nobody-part, queued-part}
 use Rattle.node.proofs.ServedLaws.{runner}
 use Rattle.node.proofs.message.first.Statement.{statement}
 use Rattle.node.proofs.message.first.Tie as tie

@@ -7,7 +7,7 @@ use mathlib.Core.Path.{_≡_, ap}
 use lib.ListN.{drop, length, take}
 use borrow.Author.Needs.{needs}
 use Rattle.rules.specs.Build.{wordLimit}
-use Rattle.node.proofs.HeadLaws.{part-inside}
+use Rattle.node.proofs.message.HeadLaws.{part-inside}
 use Rattle.node.proofs.message.head_of_node.Statement.{statement}
 use Rattle.node.proofs.message.head_of_node.Tie as tie
 

@@ -11,7 +11,7 @@ use Rattle.rules.specs.Operation.{arrive}
 use Rattle.rules.specs.Refusal.{queued, refusal}
 use Rattle.rules.specs.Valid.{Valid}
 use Rattle.memory.specs.Holds.{Holds}
-use Rattle.node.proofs.ArriveLaws.{Arriving, arrived, arriving, refusing}
+use Rattle.node.proofs.network.ArriveLaws.{Arriving, arrived, arriving, refusing}
 use Rattle.node.proofs.network.arrive.Statement.{statement}
 use Rattle.node.proofs.network.arrive.Tie as tie
 

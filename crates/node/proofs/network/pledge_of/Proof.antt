@@ -7,12 +7,12 @@ use mathlib.Core.Path.{sym, ap, _∙_}
 use borrow.Author.Needs.{needs}
 use Rattle.rules.specs.Build.{paper01}
 use Rattle.rules.specs.Frames.{ceilDiv}
-use Rattle.rules.proofs.FrameLaws.{fits}
-use Rattle.rules.proofs.NodeLaws.{group-good}
+use Rattle.rules.proofs.Steps.FrameLaws.{fits}
+use Rattle.rules.proofs.Steps.NodeLaws.{group-good}
 use Rattle.memory.specs.Writes.{InGroup}
-use Rattle.memory.proofs.AppendLaws.{Ends, ends}
-use Rattle.node.proofs.PledgeLaws.{queued-other, queued-same}
-use Rattle.node.proofs.PledgeReads.{pledge-read, queue-few}
+use Rattle.memory.proofs.buffer.AppendLaws.{Ends, ends}
+use Rattle.node.proofs.network.PledgeLaws.{queued-other, queued-same}
+use Rattle.node.proofs.network.PledgeReads.{pledge-read, queue-few}
 use Rattle.node.proofs.network.pledge_of.Statement.{statement}
 use Rattle.node.proofs.network.pledge_of.Tie as tie
 

@@ -8,9 +8,9 @@ use Rattle.rules.specs.Frames.{pledge}
 use Rattle.rules.specs.Lists.{upFrom}
 use Rattle.rules.specs.Node.{Message, Node}
 use Rattle.rules.specs.Refusal.{queued}
-use Rattle.rules.proofs.ListLaws.{weight}
+use Rattle.rules.proofs.Steps.ListLaws.{weight}
 use Rattle.memory.specs.Holds.{Holds}
-use Rattle.node.proofs.PledgeReads.{pledge-few, sum-all, sum-more}
+use Rattle.node.proofs.network.PledgeReads.{pledge-few, sum-all, sum-more}
 use Rattle.node.proofs.network.pledges.Statement.{statement}
 use Rattle.node.proofs.network.pledges.Tie as tie
 

@@ -8,7 +8,7 @@ use mathlib.Core.Path.{_≡_, refl, sym, ap, _∙_}
 use Rattle.rules.specs.Memory.{word}
 use Rattle.rules.specs.Node.{Node}
 use Rattle.memory.specs.Holds.{Holds}
-use Rattle.node.proofs.PledgeReads.{Places, places, among, among-hit, among-miss, among-all}
+use Rattle.node.proofs.network.PledgeReads.{Places, places, among, among-hit, among-miss, among-all}
 use Rattle.node.proofs.network.queued_of.Statement.{statement}
 use Rattle.node.proofs.network.queued_of.Tie as tie
 

@@ -11,13 +11,13 @@ use Rattle.rules.specs.Build.{paper01}
 use Rattle.rules.specs.Memory.{size, word}
 use Rattle.rules.specs.Node.{Message, Node}
 use Rattle.rules.specs.Valid.{GoodMessage}
-use Rattle.rules.proofs.Sound.{valid-sound}
+use Rattle.rules.proofs.Steps.SoundLaws.{valid-sound}
 use Rattle.memory.specs.Holds.{Holds}
 use Rattle.memory.proofs.PieceLaws.{holds-pieces}
-use Rattle.memory.proofs.QueueLaws.{queue-count}
-use Rattle.node.proofs.ArriveLaws.{above-frames, full-queue, high-group, many-words, no-group, no-words, within-frames}
-use Rattle.node.proofs.PledgeLaws.{early}
-use Rattle.node.proofs.PledgeReads.{places}
+use Rattle.memory.proofs.queue.QueueLaws.{queue-count}
+use Rattle.node.proofs.network.ArriveLaws.{above-frames, full-queue, high-group, many-words, no-group, no-words, within-frames}
+use Rattle.node.proofs.network.PledgeLaws.{early}
+use Rattle.node.proofs.network.PledgeReads.{places}
 use Rattle.node.proofs.network.refusal.Statement.{statement}
 use Rattle.node.proofs.network.refusal.Tie as tie
 

@@ -11,7 +11,7 @@ use Rattle.rules.specs.Step.{serve, valued}
 use Rattle.memory.specs.declared.group.Group.{Group as Group·rt}
 use Rattle.memory.proofs.PieceLaws.{holds-pieces}
 use Rattle.node.proofs.QuietLaws.{begun-quiet}
-use Rattle.node.proofs.SectionLaws.{runner-flagged, runner-in, runner-pending}
+use Rattle.node.proofs.section.SectionLaws.{runner-flagged, runner-in, runner-pending}
 use Rattle.node.proofs.ServedLaws.{ownReport, request-quiet}
 use Rattle.node.proofs.section.begin.Statement.{statement}
 use Rattle.node.proofs.section.begin.Tie as tie

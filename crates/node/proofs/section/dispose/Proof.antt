@@ -17,7 +17,7 @@ use Rattle.memory.specs.Holds.{Holds, flagging}
 use Rattle.memory.specs.declared.group.Group.{Group as Group·rt}
 use Rattle.memory.proofs.PieceLaws.{holds-pieces}
 use Rattle.node.specs.Steps.{Running, WithLine, effect}
-use Rattle.node.proofs.SectionLaws.{disposing, runner-atomic, runner-buffered, runner-in, runner-none, runner-queued, line-missing, line-present}
+use Rattle.node.proofs.section.SectionLaws.{disposing, runner-atomic, runner-buffered, runner-in, runner-none, runner-queued, line-missing, line-present}
 use Rattle.node.proofs.ServedLaws.{request-finished, request-refused, request-sound}
 use Rattle.node.proofs.section.dispose.Statement.{statement}
 use Rattle.node.proofs.section.dispose.Tie as tie

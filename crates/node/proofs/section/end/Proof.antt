@@ -14,8 +14,8 @@ use Rattle.memory.specs.Holds.{Holds}
 use Rattle.memory.specs.declared.group.Group.{Group as Group·rt}
 use Rattle.memory.proofs.PieceLaws.{holds-pieces}
 use Rattle.node.specs.Steps.{Running, effect}
-use Rattle.node.proofs.CallLaws.{flag-off, flag-on}
-use Rattle.node.proofs.SectionLaws.{runner-flagged, runner-in, runner-pending, section-ends, section-pending}
+use Rattle.node.proofs.settling.CallLaws.{flag-off, flag-on}
+use Rattle.node.proofs.section.SectionLaws.{runner-flagged, runner-in, runner-pending, section-ends, section-pending}
 use Rattle.node.proofs.ServedLaws.{request-finished, request-refused, request-sound}
 use Rattle.node.proofs.section.end.Statement.{statement}
 use Rattle.node.proofs.section.end.Tie as tie

@@ -9,7 +9,7 @@ use Rattle.rules.specs.Node.{buffered}
 use Rattle.memory.specs.Holds.{Holds, removing}
 use Rattle.memory.specs.Writes.{InGroup}
 use Rattle.memory.proofs.PieceLaws.{holds-pieces}
-use Rattle.node.proofs.SectionLaws.{buffered-waits, direct-queued, removed-buffered, removed-direct}
+use Rattle.node.proofs.section.SectionLaws.{buffered-waits, direct-queued, removed-buffered, removed-direct}
 use Rattle.node.proofs.section.remove.Statement.{statement}
 use Rattle.node.proofs.section.remove.Tie as tie
 

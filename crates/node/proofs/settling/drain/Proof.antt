@@ -7,10 +7,10 @@ use lib.ListN.{length}
 use Rattle.rules.specs.Build.{paper01}
 use Rattle.rules.specs.Memory.{queuedAt, word}
 use Rattle.rules.specs.Node.{Node}
-use Rattle.rules.proofs.Sound.{Sound}
+use Rattle.rules.specs.Sound.{Sound}
 use Rattle.memory.specs.Holds.{Holds}
 use Rattle.memory.proofs.PieceLaws.{holds-pieces}
-use Rattle.node.proofs.PassLaws.{Draining, draining-ends, draining-headed, draining-on, draining-start, moved-count}
+use Rattle.node.proofs.settling.PassLaws.{Draining, draining-ends, draining-headed, draining-on, draining-start, moved-count}
 use Rattle.node.proofs.settling.drain.Statement.{statement}
 use Rattle.node.proofs.settling.drain.Tie as tie
 

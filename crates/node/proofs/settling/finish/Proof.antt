@@ -1,8 +1,8 @@
 -- `node::settling::finish` meets its contract: settled, and then called up. Assumes nothing.
 use native.Mathlib.Omega.{arith}
 use borrow.Author.Needs.{needs}
-use Rattle.node.proofs.CallLaws.{settled-settles}
-use Rattle.node.proofs.FinishLaws.{finished, settled-few, settled-some}
+use Rattle.node.proofs.settling.CallLaws.{settled-settles}
+use Rattle.node.proofs.settling.FinishLaws.{finished, settled-few, settled-some}
 use Rattle.node.proofs.settling.finish.Statement.{statement}
 use Rattle.node.proofs.settling.finish.Tie as tie
 

@@ -11,9 +11,9 @@ use Rattle.rules.specs.Memory.{queueAt, size, word, wordsAt}
 use Rattle.rules.specs.Node.{Node}
 use Rattle.memory.specs.Holds.{Holds, Kept, Some, Storable}
 use Rattle.memory.proofs.PieceLaws.{holds-pieces}
-use Rattle.memory.proofs.QueueLaws.{message-read}
+use Rattle.memory.proofs.queue.QueueLaws.{message-read}
 use Rattle.node.specs.Steps.{Headed, headOf, movingHead}
-use Rattle.node.proofs.MoveLaws.{head-good-group, head-storable, stored-queued}
+use Rattle.node.proofs.settling.MoveLaws.{head-good-group, head-storable, stored-queued}
 use Rattle.node.proofs.settling.move_head.Statement.{statement}
 use Rattle.node.proofs.settling.move_head.Tie as tie
 

@@ -4,7 +4,7 @@ use mathlib.Core.Path.{_∙_, sym}
 use borrow.Author.Needs.{needs}
 use Rattle.rules.specs.Memory.{word}
 use Rattle.memory.proofs.PieceWrites.{timer-held}
-use Rattle.memory.proofs.QueueLaws.{queue-count, rest-empty, rest-some}
+use Rattle.memory.proofs.queue.QueueLaws.{queue-count, rest-empty, rest-some}
 use Rattle.memory.proofs.WriteLaws.{wrote-set}
 use Rattle.node.proofs.settling.rest_timer.Statement.{statement}
 use Rattle.node.proofs.settling.rest_timer.Tie as tie

@@ -8,11 +8,11 @@ use lib.ListN.{length}
 use Rattle.rules.specs.Build.{paper01}
 use Rattle.rules.specs.Memory.{queuedAt, size, word}
 use Rattle.rules.specs.Node.{Node}
-use Rattle.rules.proofs.FrameLaws.{held}
-use Rattle.rules.proofs.Sound.{Sound}
+use Rattle.rules.proofs.Steps.FrameLaws.{held}
+use Rattle.rules.specs.Sound.{Sound}
 use Rattle.memory.specs.Holds.{Holds}
 use Rattle.memory.proofs.PieceLaws.{holds-pieces}
-use Rattle.node.proofs.PassLaws.{Passing, moved-count, passed-settled, passing-group, passing-headed, passing-on, passing-start, passing-ends, passing-stays}
+use Rattle.node.proofs.settling.PassLaws.{Passing, moved-count, passed-settled, passing-group, passing-headed, passing-on, passing-start, passing-ends, passing-stays}
 use Rattle.node.proofs.settling.settle.Statement.{statement}
 use Rattle.node.proofs.settling.settle.Tie as tie
 

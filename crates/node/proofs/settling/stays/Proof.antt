@@ -4,7 +4,7 @@ use mathlib.Core.Path.{_∙_, ap, sym}
 use borrow.Author.Needs.{needs}
 use Rattle.rules.specs.Memory.{word}
 use Rattle.rules.specs.Node.{buffered}
-use Rattle.node.proofs.StayLaws.{stays-other, stays-own}
+use Rattle.node.proofs.settling.StayLaws.{stays-other, stays-own}
 use Rattle.node.proofs.settling.stays.Statement.{statement}
 use Rattle.node.proofs.settling.stays.Tie as tie
 

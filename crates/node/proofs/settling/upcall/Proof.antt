@@ -11,7 +11,7 @@ use Rattle.rules.specs.Memory.{runningAt, word, flagWord}
 use Rattle.memory.specs.Writes.{InGroup}
 use Rattle.memory.specs.declared.group.Group.{Group as Group·rt}
 use Rattle.memory.proofs.PieceLaws.{holds-pieces}
-use Rattle.node.proofs.CallLaws.{called-atomic, called-buffered, called-empty, called-nobody, called-queued, runner-high}
+use Rattle.node.proofs.settling.CallLaws.{called-atomic, called-buffered, called-empty, called-nobody, called-queued, runner-high}
 use Rattle.node.proofs.settling.upcall.Statement.{statement}
 use Rattle.node.proofs.settling.upcall.Tie as tie
 

@@ -11,7 +11,7 @@ use Rattle.rules.specs.Memory.{runningAt, word}
 use Rattle.rules.specs.Node.{groupOf}
 use Rattle.memory.specs.declared.descriptor.Descriptor.{Descriptor as Descriptor·rt}
 use Rattle.memory.proofs.PieceLaws.{holds-pieces}
-use Rattle.node.proofs.SendLaws.{describe-full, describe-serves, runner-there}
+use Rattle.node.proofs.user.SendLaws.{describe-full, describe-serves, runner-there}
 use Rattle.node.proofs.user.describe.Statement.{statement}
 use Rattle.node.proofs.user.describe.Tie as tie
 

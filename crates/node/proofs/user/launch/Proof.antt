@@ -6,7 +6,7 @@ use borrow.Author.Needs.{needs}
 use Rattle.rules.specs.Memory.{runningAt, word}
 use Rattle.rules.specs.Node.{groupOf}
 use Rattle.memory.proofs.PieceLaws.{holds-pieces}
-use Rattle.node.proofs.SendLaws.{launch-empty, launch-far, launch-serves, runner-there}
+use Rattle.node.proofs.user.SendLaws.{launch-empty, launch-far, launch-serves, runner-there}
 use Rattle.node.proofs.user.launch.Statement.{statement}
 use Rattle.node.proofs.user.launch.Tie as tie
 

@@ -5,7 +5,7 @@ use native.Mathlib.Omega.{arith}
 use lib.ListN.{length}
 use borrow.Author.Needs.{needs}
 use Rattle.rules.specs.Memory.{word}
-use Rattle.node.proofs.PeekLaws.{first-inside, peek-none, peek-past, peek-there}
+use Rattle.node.proofs.user.PeekLaws.{first-inside, peek-none, peek-past, peek-there}
 use Rattle.node.proofs.user.peek.Statement.{statement}
 use Rattle.node.proofs.user.peek.Tie as tie
 

@@ -2,7 +2,7 @@
 -- nothing settles after a step that changes nothing. Assumes nothing.
 use native.Mathlib.Omega.{arith}
 use borrow.Author.Needs.{needs}
-use Rattle.node.proofs.PeekLaws.{first-inside, poll-serves}
+use Rattle.node.proofs.user.PeekLaws.{first-inside, poll-serves}
 use Rattle.node.proofs.user.poll.Statement.{statement}
 use Rattle.node.proofs.user.poll.Tie as tie
 

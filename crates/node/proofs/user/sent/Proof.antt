@@ -1,5 +1,5 @@
 -- `node::user::sent` meets its contract: what is sent is node, group and words. Assumes nothing.
-use Rattle.node.proofs.SendLaws.{reported-sent}
+use Rattle.node.proofs.user.SendLaws.{reported-sent}
 use Rattle.node.proofs.user.sent.Statement.{statement}
 use Rattle.node.proofs.user.sent.Tie as tie
 

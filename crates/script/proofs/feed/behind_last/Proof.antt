@@ -5,7 +5,7 @@ use mathlib.Core.List.{[]}
 use mathlib.Core.Path.{_≡_}
 use lib.ListN.{length, drop}
 use Rattle.script.specs.Feeding.{whole}
-use Rattle.script.proofs.FeedLaws.{behind-none, behind-other, cut-newline, cut-none}
+use Rattle.script.proofs.feed.FeedLaws.{behind-none, behind-other, cut-newline, cut-none}
 use Rattle.script.proofs.feed.behind_last.Statement.{statement}
 use Rattle.script.proofs.feed.behind_last.Tie as tie
 

@@ -3,8 +3,8 @@ use native.Mathlib.Omega.{arith}
 use mathlib.Core.Path.{_≡_, refl}
 use lib.ListN.{length}
 use Rattle.script.specs.Feed.{keptLine}
-use Rattle.script.proofs.DecimalLaws.{decimal-length}
-use Rattle.script.proofs.FedLaws.{counts-written, fed-enough, fed-feedable, fed-first, kept-empty, kept-one}
+use Rattle.script.proofs.write.DecimalLaws.{decimal-length}
+use Rattle.script.proofs.feed.FedLaws.{counts-written, fed-enough, fed-feedable, fed-first, kept-empty, kept-one}
 use borrow.Author.Needs.{needs}
 use Rattle.script.proofs.feed.feed.Statement.{statement}
 use Rattle.script.proofs.feed.feed.Tie as tie

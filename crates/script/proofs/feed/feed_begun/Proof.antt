@@ -2,8 +2,8 @@
 use Prim.Native.Nat.{_-_}
 use native.Mathlib.Omega.{arith}
 use mathlib.Core.Path.{_≡_, _∙_, sym, refl}
-use Rattle.script.proofs.BegunLaws.{fed-ended, fed-none, fed-open, grown-one, lines-behind}
-use Rattle.script.proofs.LineEndLaws.{end-inside}
+use Rattle.script.proofs.feed.BegunLaws.{fed-ended, fed-none, fed-open, grown-one, lines-behind}
+use Rattle.script.proofs.read.LineEndLaws.{end-inside}
 use Rattle.script.proofs.OneLineLaws.{end-first}
 use borrow.Author.Needs.{needs}
 use Rattle.script.proofs.feed.feed_begun.Statement.{statement}

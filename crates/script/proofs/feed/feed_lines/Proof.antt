@@ -5,7 +5,7 @@ use native.Mathlib.Omega.{arith}
 use mathlib.Core.Path.{_≡_, _∙_, ap}
 use lib.ListN.{take}
 use Rattle.script.specs.Feed.{keptRoom}
-use Rattle.script.proofs.FeedLaws.{cut-playable, drop-all, lines-stopped, lines-used}
+use Rattle.script.proofs.feed.FeedLaws.{cut-playable, drop-all, lines-stopped, lines-used}
 use borrow.Author.Needs.{needs}
 use Rattle.script.proofs.feed.feed_lines.Statement.{statement}
 use Rattle.script.proofs.feed.feed_lines.Tie as tie

@@ -2,7 +2,7 @@
 use Prim.Native.Nat.{_-_}
 use native.Mathlib.Omega.{arith}
 use mathlib.Core.Path.{_≡_}
-use Rattle.script.proofs.FeedLaws.{appended-some, appended-all}
+use Rattle.script.proofs.feed.FeedLaws.{appended-some, appended-all}
 use borrow.Author.Needs.{needs}
 use Rattle.script.proofs.feed.keep.Statement.{statement}
 use Rattle.script.proofs.feed.keep.Tie as tie

@@ -5,7 +5,7 @@ use mathlib.Core.Path.{_≡_, sym}
 use lib.ListN.{take}
 use lib.Seq.{length-take-le, take-all, take-take}
 use Rattle.script.specs.Feed.{keptRoom}
-use Rattle.script.proofs.FeedLaws.{kept-counted}
+use Rattle.script.proofs.feed.FeedLaws.{kept-counted}
 use borrow.Author.Needs.{needs}
 use Rattle.script.proofs.feed.kept_count.Statement.{statement}
 use Rattle.script.proofs.feed.kept_count.Tie as tie

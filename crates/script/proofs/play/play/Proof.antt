@@ -5,15 +5,15 @@ use native.Mathlib.Omega.{arith}
 use mathlib.Core.Path.{_≡_, _∙_, refl}
 use borrow.Author.Needs.{needs}
 use lib.ListN.{length}
-use Rattle.script.specs.Read.{fieldRoom}
-use Rattle.script.proofs.PlayLaws.{Playing, playing-start, playing-more, played-forward, played-to}
+use Rattle.script.specs.Read.{fieldLimit}
+use Rattle.script.proofs.play.PlayLaws.{Playing, playing-start, playing-more, played-forward, played-to}
 use Rattle.script.proofs.play.play.Statement.{statement}
 use Rattle.script.proofs.play.play.Tie as tie
 
 abbrev Inv-loop : tie.InvT-loop
 Inv-loop memory₀ good s from out₀ at digits₀ len fields₀ p₀ memory out digits fields p =
     (length memory ≡ length memory₀)
-    × ((length fields ≡ fieldRoom)
+    × ((length fields ≡ fieldLimit)
     × ((p .stop ≡ 0) × Playing memory₀ s from out₀ at digits₀ len memory out digits (p .used) (p .at) (p .len) (p .lines)))
 
 abbrev μ-loop : tie.MeasureT-loop

@@ -1,6 +1,6 @@
 -- `script::play::play_line` meets its contract: the line is read, stepped and listed with the next number. Assumes nothing.
 use borrow.Author.Needs.{needs}
-use Rattle.script.proofs.PlayLaws.{answered-few, line-played}
+use Rattle.script.proofs.play.PlayLaws.{answered-few, line-played}
 use Rattle.script.proofs.play.play_line.Statement.{statement}
 use Rattle.script.proofs.play.play_line.Tie as tie
 

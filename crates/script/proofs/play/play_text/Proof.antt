@@ -5,7 +5,7 @@ use mathlib.Core.List.{[], _∷_, _++_}
 use mathlib.Core.Path.{_≡_}
 use lib.ListN.{length-set, set, take}
 use Rattle.rules.specs.Script.{newline}
-use Rattle.script.proofs.PlayLaws.{text-line, text-playable, text-played}
+use Rattle.script.proofs.play.PlayLaws.{text-line, text-playable, text-played}
 use borrow.Author.Needs.{needs}
 use Rattle.script.proofs.play.play_text.Statement.{statement}
 use Rattle.script.proofs.play.play_text.Tie as tie

@@ -4,7 +4,7 @@ use native.Mathlib.Omega.{arith}
 use mathlib.Core.Path.{_≡_, refl, sym, _∙_}
 use lib.ListN.{length}
 use Rattle.script.specs.Read.{lineEnd}
-use Rattle.script.proofs.LineEndLaws.{line-at-end, line-newline, end-empty, end-more}
+use Rattle.script.proofs.read.LineEndLaws.{line-at-end, line-newline, end-empty, end-more}
 use Rattle.script.proofs.read.end_of_line.Statement.{statement}
 use Rattle.script.proofs.read.end_of_line.Tie as tie
 

@@ -7,7 +7,7 @@ use mathlib.Core.Bool.{true, false≢true}
 use mathlib.Core.Path.{_≡_, sym, _∙_}
 use lib.ListN.{length, getD}
 use Rattle.rules.specs.Text.{isDigit}
-use Rattle.script.proofs.NumberLaws.{Reading, digit-range, digits-at-end, digits-stop, reading-none, reading-fits, reading-more, reading-long, read-stops}
+use Rattle.script.proofs.read.NumberLaws.{Reading, digit-range, digits-at-end, digits-stop, reading-none, reading-fits, reading-more, reading-long, read-stops}
 use Rattle.script.proofs.read.number.Statement.{statement}
 use Rattle.script.proofs.read.number.Tie as tie
 

@@ -6,7 +6,7 @@ use Rattle.rules.specs.Script.{letters, lettered, oneField, noField}
 use Rattle.rules.specs.Script as script
 use Rattle.rules.specs.Types.{operationOf}
 use Rattle.rules.specs.declared.Operation.the-variants.{Schedule, Tick, Poll, Peek, Dispose, BeginAtomic, EndAtomic, Describe, Launch}
-use Rattle.script.proofs.LetterLaws.{reads-none, reads-one, reads-arrival, reads-not-alone, reads-not-one, reads-many}
+use Rattle.script.proofs.read.LetterLaws.{reads-none, reads-one, reads-arrival, reads-not-alone, reads-not-one, reads-many}
 use Rattle.script.proofs.read.operation.Statement.{statement}
 use Rattle.script.proofs.read.operation.Tie as tie
 

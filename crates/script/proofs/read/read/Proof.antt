@@ -1,7 +1,7 @@
 -- `script::read::read` meets its contract: the line that the text begins with is the text where no newline is met in it, and a text with one
 -- cannot be read. Assumes nothing.
 use borrow.Author.Needs.{needs}
-use Rattle.script.proofs.NewlineLaws.{text-empty, text-broken, text-whole}
+use Rattle.script.proofs.read.NewlineLaws.{text-empty, text-broken, text-whole}
 use Rattle.script.proofs.read.read.Statement.{statement}
 use Rattle.script.proofs.read.read.Tie as tie
 

@@ -3,8 +3,8 @@
 use native.Mathlib.Omega.{arith}
 use borrow.Author.Needs.{needs}
 use borrow.Author.Tests.{not-true, not-false}
-use Rattle.script.proofs.LineEndLaws.{end-inside}
-use Rattle.script.proofs.ReadLaws.{line-is-empty, line-unread, line-is-read}
+use Rattle.script.proofs.read.LineEndLaws.{end-inside}
+use Rattle.script.proofs.read.ReadLaws.{line-is-empty, line-unread, line-is-read}
 use Rattle.script.proofs.read.read_at.Statement.{statement}
 use Rattle.script.proofs.read.read_at.Tie as tie
 

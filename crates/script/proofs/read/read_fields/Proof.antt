@@ -5,8 +5,8 @@ use native.Mathlib.Omega.{arith}
 use borrow.Author.Tests.{not-true, not-false}
 use mathlib.Core.Path.{_≡_, refl}
 use lib.ListN.{length, getD, length-set}
-use Rattle.script.proofs.LineEndLaws.{line-at-end}
-use Rattle.script.proofs.FieldLaws.{Fielding, fielding-none, fielding-long, fielding-same, fielding-bad, fielding-more, fields-unread, fields-ended, fields-byte}
+use Rattle.script.proofs.read.LineEndLaws.{line-at-end}
+use Rattle.script.proofs.read.FieldLaws.{Fielding, fielding-none, fielding-long, fielding-same, fielding-bad, fielding-more, fields-unread, fields-ended, fields-byte}
 use Rattle.script.proofs.read.read_fields.Statement.{statement}
 use Rattle.script.proofs.read.read_fields.Tie as tie
 

@@ -6,8 +6,8 @@ use mathlib.Core.Path.{sym}
 use lib.ListN.{length, length-set}
 use borrow.Fn.Kinds.{In}
 use borrow.Fn.PlainCycle.{Measures, is, falls, and}
-use Rattle.script.proofs.AppendedLaws.{appended-byte, appended-next, appended-as}
-use Rattle.script.proofs.DecimalLaws.{decimal-small, decimal-more, decimal-some, decimal-longer}
+use Rattle.script.proofs.write.AppendedLaws.{appended-byte, appended-next, appended-as}
+use Rattle.script.proofs.write.DecimalLaws.{decimal-small, decimal-more, decimal-some, decimal-longer}
 use Rattle.script.proofs.write.+put_number.{statement}
 use Rattle.script.proofs.write.put_number.Reads as put-number
 use Rattle.script.proofs.write.put_number.Kinds as put-number-kinds

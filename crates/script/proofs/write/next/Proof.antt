@@ -3,8 +3,8 @@
 use Prim.Native.Nat.{_<_}
 use native.Mathlib.Omega.{arith}
 use Rattle.script.specs.Written.{places}
-use Rattle.script.proofs.CarryLaws.{Carrying, carry-none, carry-more, carry-all, carry-digit, carried, carried-all}
-use Rattle.script.proofs.CounterLaws.{counts-some, countable-short}
+use Rattle.script.proofs.write.CarryLaws.{Carrying, carry-none, carry-more, carry-all, carry-digit, carried, carried-all}
+use Rattle.script.proofs.write.CounterLaws.{counts-some, countable-short}
 use Rattle.script.proofs.write.next.Statement.{statement}
 use Rattle.script.proofs.write.next.Tie as tie
 

@@ -6,7 +6,7 @@ use native.Mathlib.Omega.{arith}
 use mathlib.Core.Path.{refl, sym}
 use lib.ListN.{take, getD}
 use Rattle.script.specs.Written.{places, Appended}
-use Rattle.script.proofs.AppendedLaws.{appended-none, appended-to, appended-as, appended-copy, appended-all, appended-part}
+use Rattle.script.proofs.write.AppendedLaws.{appended-none, appended-to, appended-as, appended-copy, appended-all, appended-part}
 use Rattle.script.proofs.write.put_counter.Statement.{statement}
 use Rattle.script.proofs.write.put_counter.Tie as tie
 

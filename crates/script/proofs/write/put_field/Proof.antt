@@ -7,8 +7,8 @@ use mathlib.Core.Path.{sym, ap, _∙_}
 use lib.ListN.{length-set}
 use borrow.Author.Needs.{needs}
 use Rattle.script.specs.Written.{field}
-use Rattle.script.proofs.AppendedLaws.{appended-byte, appended-next, appended-as, appended-to, appended-then}
-use Rattle.script.proofs.DecimalLaws.{decimal-small, decimal-ten}
+use Rattle.script.proofs.write.AppendedLaws.{appended-byte, appended-next, appended-as, appended-to, appended-then}
+use Rattle.script.proofs.write.DecimalLaws.{decimal-small, decimal-ten}
 use Rattle.script.proofs.write.put_field.Statement.{statement}
 use Rattle.script.proofs.write.put_field.Tie as tie
 

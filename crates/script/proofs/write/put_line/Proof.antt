@@ -6,9 +6,9 @@ use mathlib.Core.Path.{ap, _∙_}
 use borrow.Author.Needs.{needs}
 use Rattle.rules.specs.Text.{decimal}
 use Rattle.script.specs.Written.{behindNumber}
-use Rattle.script.proofs.AppendedLaws.{appended-as, appended-then}
-use Rattle.script.proofs.CounterLaws.{counts-length}
-use Rattle.script.proofs.ListingLaws.{line-behind}
+use Rattle.script.proofs.write.AppendedLaws.{appended-as, appended-then}
+use Rattle.script.proofs.write.CounterLaws.{counts-length}
+use Rattle.script.proofs.write.ListingLaws.{line-behind}
 use Rattle.script.proofs.write.put_line.Statement.{statement}
 use Rattle.script.proofs.write.put_line.Tie as tie
 

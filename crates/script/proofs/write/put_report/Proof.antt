@@ -6,8 +6,8 @@ use lib.ListN.{length-set}
 use borrow.Author.Needs.{needs}
 use Rattle.rules.specs.declared.Report.{Report as Report·rt}
 use Rattle.script.specs.Written.{Appended, field, fields, sentNumbers, reportRoom}
-use Rattle.script.proofs.AppendedLaws.{appended-as, appended-then, appended-next}
-use Rattle.script.proofs.ListingLaws.{behind-fields}
+use Rattle.script.proofs.write.AppendedLaws.{appended-as, appended-then, appended-next}
+use Rattle.script.proofs.write.ListingLaws.{behind-fields}
 use Rattle.script.proofs.write.put_report.Statement.{statement}
 use Rattle.script.proofs.write.put_report.Tie as tie
 

@@ -3,8 +3,8 @@ use native.Mathlib.Omega.{arith}
 use mathlib.Core.Path.{sym, ap, _∙_}
 use borrow.Author.Needs.{needs}
 use Rattle.script.specs.Written.{fields}
-use Rattle.script.proofs.AppendedLaws.{appended-none, appended-as, appended-then}
-use Rattle.script.proofs.ListingLaws.{fields-none, sent-none, sent-fields}
+use Rattle.script.proofs.write.AppendedLaws.{appended-none, appended-as, appended-then}
+use Rattle.script.proofs.write.ListingLaws.{fields-none, sent-none, sent-fields}
 use Rattle.script.proofs.write.put_sent.Statement.{statement}
 use Rattle.script.proofs.write.put_sent.Tie as tie
 

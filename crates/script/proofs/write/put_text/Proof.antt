@@ -5,7 +5,7 @@ use native.Mathlib.Omega.{arith}
 use mathlib.Core.Path.{refl, sym}
 use lib.ListN.{length, take, getD}
 use Rattle.script.specs.Written.{Appended}
-use Rattle.script.proofs.AppendedLaws.{appended-none, appended-to, appended-copy, appended-all}
+use Rattle.script.proofs.write.AppendedLaws.{appended-none, appended-to, appended-copy, appended-all}
 use Rattle.script.proofs.write.put_text.Statement.{statement}
 use Rattle.script.proofs.write.put_text.Tie as tie
 

@@ -5,8 +5,8 @@ use native.Mathlib.Omega.{arith}
 use mathlib.Core.Path.{_≡_, sym, ap}
 use lib.ListN.{take}
 use Rattle.script.specs.Written.{Appended, fields}
-use Rattle.script.proofs.AppendedLaws.{appended-none, appended-as, appended-then}
-use Rattle.script.proofs.ListingLaws.{fields-none, fields-more}
+use Rattle.script.proofs.write.AppendedLaws.{appended-none, appended-as, appended-then}
+use Rattle.script.proofs.write.ListingLaws.{fields-none, fields-more}
 use Rattle.script.proofs.write.put_words.Statement.{statement}
 use Rattle.script.proofs.write.put_words.Tie as tie
 

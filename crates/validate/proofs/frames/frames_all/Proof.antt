@@ -5,7 +5,7 @@ use native.Mathlib.Omega.{arith}
 use borrow.Author.Needs.{needs}
 use lib.ListN.{length}
 use Rattle.validate.specs.Clauses.{listed}
-use Rattle.validate.proofs.ListedLaws.{listed-length, listed-none, numbers-listed, list-bound}
+use Rattle.validate.proofs.frames.ListedLaws.{listed-length, listed-none, numbers-listed, list-bound}
 use Rattle.validate.proofs.frames.frames_all.Statement.{statement}
 use Rattle.validate.proofs.frames.frames_all.Tie as tie
 

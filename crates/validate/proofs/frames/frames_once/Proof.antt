@@ -8,9 +8,9 @@ use native.Mathlib.Omega.{arith}
 use borrow.Author.Needs.{needs}
 use Rattle.rules.specs.Memory.{word, wordsAt}
 use Rattle.validate.specs.Clauses.{listed}
-use Rattle.validate.proofs.ListedLaws.{list-bound, start-bound}
-use Rattle.validate.proofs.OnceLaws.{Marked}
-use Rattle.validate.proofs.WalkLaws.{walk-none, walk-enters, walk-next, walk-leaves, walk-over, walk-twice, walk-ends}
+use Rattle.validate.proofs.frames.ListedLaws.{list-bound, start-bound}
+use Rattle.validate.proofs.frames.OnceLaws.{Marked}
+use Rattle.validate.proofs.frames.WalkLaws.{walk-none, walk-enters, walk-next, walk-leaves, walk-over, walk-twice, walk-ends}
 use Rattle.validate.proofs.frames.frames_once.Statement.{statement}
 use Rattle.validate.proofs.frames.frames_once.Tie as tie
 

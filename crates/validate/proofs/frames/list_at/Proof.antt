@@ -3,7 +3,7 @@ use mathlib.Core.Path.{sym}
 use native.Mathlib.Omega.{arith}
 use borrow.Author.Needs.{needs}
 use Rattle.rules.specs.Memory.{groupAddress}
-use Rattle.validate.proofs.ListedLaws.{start-free, start-held}
+use Rattle.validate.proofs.frames.ListedLaws.{start-free, start-held}
 use Rattle.validate.proofs.frames.list_at.Statement.{statement}
 use Rattle.validate.proofs.frames.list_at.Tie as tie
 

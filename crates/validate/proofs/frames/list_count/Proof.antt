@@ -2,7 +2,7 @@
 use mathlib.Core.Path.{sym, _∙_}
 use borrow.Author.Needs.{needs}
 use Rattle.rules.specs.Memory.{word}
-use Rattle.validate.proofs.ListedLaws.{count-free, count-held}
+use Rattle.validate.proofs.frames.ListedLaws.{count-free, count-held}
 use Rattle.validate.proofs.frames.list_count.Statement.{statement}
 use Rattle.validate.proofs.frames.list_count.Tie as tie
 

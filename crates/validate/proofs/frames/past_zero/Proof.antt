@@ -6,8 +6,8 @@ use mathlib.Core.Path.{_≡_}
 use lib.Dec.{eqb}
 use Rattle.rules.specs.Memory.{word}
 use Rattle.rules.specs.MemoryTest.{zeroAt}
-use Rattle.memory.proofs.ZeroLaws.{zero-none}
-use Rattle.validate.proofs.MaskLaws.{past-gathered}
+use Rattle.memory.proofs.words.ZeroLaws.{zero-none}
+use Rattle.validate.proofs.frames.MaskLaws.{past-gathered}
 use Rattle.validate.proofs.frames.past_zero.Statement.{statement}
 use Rattle.validate.proofs.frames.past_zero.Tie as tie
 

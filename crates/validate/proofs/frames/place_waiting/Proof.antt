@@ -1,7 +1,7 @@
 -- `validate::frames::place_waiting` meets its contract: a length of 1 to 8, and the words past it. Assumes nothing.
 use borrow.Author.Needs.{needs}
 use Rattle.rules.specs.Memory.{word}
-use Rattle.validate.proofs.PlaceLaws.{place-none, place-over, place-within}
+use Rattle.validate.proofs.frames.PlaceLaws.{place-none, place-over, place-within}
 use Rattle.validate.proofs.frames.place_waiting.Statement.{statement}
 use Rattle.validate.proofs.frames.place_waiting.Tie as tie
 

@@ -1,12 +1,13 @@
--- `validate::frames::waiting_good` meets its contract: the places from h up to p pass, and the first that fails decides. Assumes nothing.
+-- `validate::frames::waiting_good` meets its contract: the places from h up to p pass, frame by frame, and the first frame that fails decides.
+-- Assumes nothing.
 use Prim.Native.Nat.{_+_, _-_, _≤_, _<_}
-use mathlib.Core.Path.{_≡_, _∙_}
+use mathlib.Core.Path.{_∙_}
 use native.Mathlib.Omega.{arith}
 use borrow.Author.Needs.{needs}
 use Rattle.rules.specs.Memory.{word, groupAddress, usedOffset, countOffset}
 use Rattle.validate.specs.Clauses.{waitingAt}
-use Rattle.validate.proofs.RangeLaws.{Passed, passed-none, passed-more, passed-all, failed-all, refused, accepted}
-use Rattle.validate.proofs.PlaceLaws.{room, waiting-places, listed-inside, listed-frame, place-tested, place-inside}
+use Rattle.validate.proofs.RangeLaws.{Passed, passed-none, passed-all, refused, accepted}
+use Rattle.validate.proofs.frames.PlaceLaws.{room, waiting-places, listed-inside, listed-frame, frame-passed, frame-failed}
 use Rattle.validate.proofs.frames.waiting_good.Statement.{statement}
 use Rattle.validate.proofs.frames.waiting_good.Tie as tie
 
@@ -57,25 +58,19 @@ frame c =
     let s = d .before .before .before .before .before in
     listed-frame (s .args .m .now) (s .args .g) (s .pre .0) (d .before .loop .p) (within d) (c .group-word3 .result) (c .group-word3 .ensures)
 
-place-at-requires : tie.Need-place-at-requires Inv-loop μ-loop
-place-at-requires c κs = (frame c, omega arith)
+sub-first : tie.Need-sub-first Inv-loop μ-loop
+sub-first c = omega arith
 
-place-waiting-requires : tie.Need-place-waiting-requires Inv-loop μ-loop
-place-waiting-requires c κs =
-    let d = c .before in
-    let masks = d .before .before .before .before .before .before .pre .1 in
-    (omega (arith, place-inside (d .group-word3 .result) _ (c .place-at .result) (frame d) (omega arith) (c .place-at .ensures)), masks)
+sub-in-frame : tie.Need-sub-in-frame Inv-loop μ-loop
+sub-in-frame c = omega arith
 
--- what the test of place p tells
-tested : (c : tie.After-place-waiting Inv-loop μ-loop)
-    → let d = c .before .before .before .before in
-    let s = d .before .before .before .before .args in
-    waitingAt (s .m .now) (s .g) (d .loop .p) ≡ c .place-waiting .result
-tested c =
-    let d = c .before .before .before in
-    let s = d .before .before .before .before .before in
-    place-tested (s .args .m .now) (s .args .g) (s .pre .0) (d .before .loop .p) (within d) (c .before .before .group-word3 .result)
-    (c .before .place-at .result) _ (c .before .before .group-word3 .ensures) (c .before .place-at .ensures) (c .place-waiting .ensures)
+in-frame-requires : tie.Need-in-frame-requires Inv-loop μ-loop
+in-frame-requires c κs = search needs
+
+places-waiting-requires : tie.Need-places-waiting-requires Inv-loop μ-loop
+places-waiting-requires c κs =
+    let s = c .before .before .before .before .before .before .before in
+    ((s .pre .0 .long, (frame (c .before), (omega arith, c .in-frame .ensures .1 .0))), s .pre .1)
 
 returns : tie.Need-returns Inv-loop μ-loop
 returns c =
@@ -83,9 +78,11 @@ returns c =
     let s = d .before .before .before .before .before in
     let m = s .args .m .now in
     let a = groupAddress (s .args .g) in
+    let k = c .before .before .in-frame in
     waiting-places m (s .args .g) (s .pre .0)
-    ∙ failed-all (waitingAt m (s .args .g)) (word m (a + usedOffset)) (d .before .loop .p) (word m (a + countOffset)) (omega arith) (omega arith)
-    (refused (tested (c .before)) (c .if1 .taken))
+    ∙ frame-failed m (s .args .g) (s .pre .0) (d .before .loop .p) (within d) (c .before .before .before .group-word3 .result) (k .result)
+    (c .before .before .before .group-word3 .ensures) (k .ensures .1 .0) (word m (a + usedOffset)) (word m (a + countOffset)) (omega arith) (omega arith)
+    (refused (c .before .places-waiting .ensures) (c .if1 .taken))
 
 add-p : tie.Need-add-p Inv-loop μ-loop
 add-p c =
@@ -98,7 +95,13 @@ loop-less c = omega arith
 loop-again : tie.Need-loop-again Inv-loop μ-loop
 loop-again c =
     let d = c .before .before .before .before in
-    (omega arith, (omega arith, passed-more _ _ _ (d .before .loop .inv .1 .1) (accepted (tested (c .before)) (c .if1 .left))))
+    let s = d .before .before .before .before .before in
+    let k = c .before .before .in-frame in
+    let passed =
+    frame-passed (s .args .m .now) (s .args .g) (s .pre .0) (d .before .loop .p) (within d) (c .before .before .before .group-word3 .result) (k .result)
+    (c .before .before .before .group-word3 .ensures) (k .ensures .1 .0) _ (d .before .loop .inv .1 .1)
+    (accepted (c .before .places-waiting .ensures) (c .if1 .left)) in
+    (omega arith, (omega arith, passed))
 
 returns-2 : tie.Need-returns-2 Inv-loop μ-loop
 returns-2 c =
@@ -121,8 +124,10 @@ waiting-good-spec =
     cast-group-word
     add-group-word
     group-word-requires-3
-    place-at-requires
-    place-waiting-requires
+    sub-first
+    sub-in-frame
+    in-frame-requires
+    places-waiting-requires
     returns
     add-p
     loop-less

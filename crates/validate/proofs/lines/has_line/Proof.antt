@@ -3,7 +3,7 @@ use mathlib.Core.Path.{ap}
 use mathlib.Core.Bool.{not}
 use native.Mathlib.Omega.{arith}
 use borrow.Author.Needs.{needs}
-use Rattle.validate.proofs.LineLaws.{line-buffered, line-direct}
+use Rattle.validate.proofs.lines.LineLaws.{line-buffered, line-direct}
 use Rattle.validate.proofs.lines.has_line.Statement.{statement}
 use Rattle.validate.proofs.lines.has_line.Tie as tie
 

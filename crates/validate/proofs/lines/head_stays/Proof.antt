@@ -4,7 +4,7 @@ use mathlib.Core.Path.{refl}
 use native.Mathlib.Omega.{arith}
 use borrow.Author.Needs.{needs}
 use Rattle.rules.specs.Memory.{word}
-use Rattle.validate.proofs.LineLaws.{head-none, head-other, head-own, head-framed}
+use Rattle.validate.proofs.lines.LineLaws.{head-none, head-other, head-own, head-framed}
 use Rattle.validate.proofs.lines.head_stays.Statement.{statement}
 use Rattle.validate.proofs.lines.head_stays.Tie as tie
 

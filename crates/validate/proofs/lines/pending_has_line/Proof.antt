@@ -1,6 +1,6 @@
 -- `validate::lines::pending_has_line` meets its contract: a group that is pending has a line. Assumes nothing.
 use borrow.Author.Needs.{needs}
-use Rattle.validate.proofs.LineLaws.{pending-off, pending-on}
+use Rattle.validate.proofs.lines.LineLaws.{pending-off, pending-on}
 use Rattle.validate.proofs.lines.pending_has_line.Statement.{statement}
 use Rattle.validate.proofs.lines.pending_has_line.Tie as tie
 

@@ -6,8 +6,8 @@ use borrow.Author.Needs.{needs}
 use lib.ListN.{getD}
 use Rattle.rules.specs.Frames.{ceilDiv}
 use Rattle.rules.specs.Memory.{word, queuedAt}
-use Rattle.validate.proofs.PlaceLaws.{room}
-use Rattle.validate.proofs.CountLaws.{queued-few, pledge-words}
+use Rattle.validate.proofs.frames.PlaceLaws.{room}
+use Rattle.validate.proofs.lines.CountLaws.{queued-few, pledge-words}
 use Rattle.validate.proofs.lines.pledge.Statement.{statement}
 use Rattle.validate.proofs.lines.pledge.Tie as tie
 

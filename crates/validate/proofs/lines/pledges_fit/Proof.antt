@@ -2,7 +2,7 @@
 use Prim.Native.Nat.{_-_, _*_, _≤_}
 use mathlib.Core.Path.{_≡_}
 use native.Mathlib.Omega.{arith}
-use Rattle.validate.proofs.CountLaws.{pledgedTo, pledged-none, pledged-more, pledged-all}
+use Rattle.validate.proofs.lines.CountLaws.{pledgedTo, pledged-none, pledged-more, pledged-all}
 use Rattle.validate.proofs.lines.pledges_fit.Statement.{statement}
 use Rattle.validate.proofs.lines.pledges_fit.Tie as tie
 

@@ -6,7 +6,7 @@ use borrow.Author.Needs.{needs}
 use lib.ListN.{getD}
 use Rattle.rules.specs.Memory.{word, queuedAt}
 use Rattle.validate.specs.Known.{QueueCounts}
-use Rattle.validate.proofs.CountLaws.{queued-few, counts-none, counts-more, known-group}
+use Rattle.validate.proofs.lines.CountLaws.{queued-few, counts-none, counts-more, known-group}
 use Rattle.validate.proofs.lines.queue_counts.Statement.{statement}
 use Rattle.validate.proofs.lines.queue_counts.Tie as tie
 

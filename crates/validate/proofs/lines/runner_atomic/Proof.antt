@@ -3,7 +3,7 @@ use mathlib.Core.Path.{refl}
 use native.Mathlib.Omega.{arith}
 use borrow.Author.Needs.{needs}
 use Rattle.rules.specs.Memory.{word}
-use Rattle.validate.proofs.LineLaws.{runner-none, runner-idle, runner-busy, runner-framed, empty-line, some-line}
+use Rattle.validate.proofs.lines.LineLaws.{runner-none, runner-idle, runner-busy, runner-framed, empty-line, some-line}
 use Rattle.validate.proofs.lines.runner_atomic.Statement.{statement}
 use Rattle.validate.proofs.lines.runner_atomic.Tie as tie
 

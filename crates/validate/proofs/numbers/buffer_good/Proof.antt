@@ -2,7 +2,7 @@
 -- frames is known to be within, and below that the sum of the last comparison fits. Assumes nothing.
 use native.Mathlib.Omega.{arith}
 use borrow.Author.Needs.{needs}
-use Rattle.validate.proofs.PartLaws.{used-over, used-kept, none-held, count-over, count-held}
+use Rattle.validate.proofs.numbers.PartLaws.{used-over, used-kept, none-held, count-over, count-held}
 use Rattle.validate.proofs.numbers.buffer_good.Statement.{statement}
 use Rattle.validate.proofs.numbers.buffer_good.Tie as tie
 

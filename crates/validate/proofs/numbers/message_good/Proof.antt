@@ -1,7 +1,7 @@
 -- `validate::numbers::message_good` meets its contract: a group of 1 to 8 and some words; not too many is known of its length. Assumes nothing.
 use native.Mathlib.Omega.{arith}
 use borrow.Author.Needs.{needs}
-use Rattle.validate.proofs.PartLaws.{group-none, group-over, group-within}
+use Rattle.validate.proofs.numbers.PartLaws.{group-none, group-over, group-within}
 use Rattle.validate.proofs.numbers.message_good.Statement.{statement}
 use Rattle.validate.proofs.numbers.message_good.Tie as tie
 

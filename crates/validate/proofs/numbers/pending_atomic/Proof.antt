@@ -1,7 +1,7 @@
 -- `validate::numbers::pending_atomic` meets its contract: a group that is pending is atomic. Assumes nothing.
 use mathlib.Core.Path.{_∙_, sym}
 use borrow.Author.Needs.{needs}
-use Rattle.validate.proofs.PartLaws.{pending-off, pending-on}
+use Rattle.validate.proofs.numbers.PartLaws.{pending-off, pending-on}
 use Rattle.validate.proofs.numbers.pending_atomic.Statement.{statement}
 use Rattle.validate.proofs.numbers.pending_atomic.Tie as tie
 

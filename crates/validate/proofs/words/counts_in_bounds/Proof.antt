@@ -3,7 +3,7 @@ use native.Mathlib.Omega.{arith}
 use borrow.Author.Needs.{needs}
 use Rattle.rules.specs.Memory.{word}
 use Rattle.validate.proofs.RangeLaws.{refused, accepted}
-use Rattle.validate.proofs.WordLaws.{queued-over, free-over, groups-over, counts-within}
+use Rattle.validate.proofs.words.WordLaws.{queued-over, free-over, groups-over, counts-within}
 use Rattle.validate.proofs.words.counts_in_bounds.Statement.{statement}
 use Rattle.validate.proofs.words.counts_in_bounds.Tie as tie
 

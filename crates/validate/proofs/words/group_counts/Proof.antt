@@ -1,7 +1,7 @@
 -- `validate::words::group_counts` meets its contract: two bounds. Assumes nothing.
 use native.Mathlib.Omega.{arith}
 use borrow.Author.Needs.{needs}
-use Rattle.validate.proofs.WordLaws.{held-over, held-within}
+use Rattle.validate.proofs.words.WordLaws.{held-over, held-within}
 use Rattle.validate.proofs.words.group_counts.Statement.{statement}
 use Rattle.validate.proofs.words.group_counts.Tie as tie
 

@@ -1,7 +1,7 @@
 -- `validate::words::group_flags` meets its contract: two bounds. Assumes nothing.
 use native.Mathlib.Omega.{arith}
 use borrow.Author.Needs.{needs}
-use Rattle.validate.proofs.WordLaws.{atomic-over, atomic-within}
+use Rattle.validate.proofs.words.WordLaws.{atomic-over, atomic-within}
 use Rattle.validate.proofs.words.group_flags.Statement.{statement}
 use Rattle.validate.proofs.words.group_flags.Tie as tie
 

@@ -6,7 +6,7 @@ use borrow.Author.Needs.{needs}
 use Rattle.rules.specs.Memory.{word, queuedAt}
 use Rattle.rules.specs.MemoryTest.{lengthInBounds}
 use Rattle.validate.proofs.RangeLaws.{Passed, passed-none, passed-more, passed-all, failed-all}
-use Rattle.validate.proofs.WordLaws.{length-over, length-within}
+use Rattle.validate.proofs.words.WordLaws.{length-over, length-within}
 use Rattle.validate.proofs.words.lengths_in_bounds.Statement.{statement}
 use Rattle.validate.proofs.words.lengths_in_bounds.Tie as tie
 

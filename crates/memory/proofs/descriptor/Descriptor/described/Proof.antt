@@ -1,7 +1,7 @@
 -- `memory::descriptor::Descriptor::described` meets its contract. The word is set at the first place past the others, which was 0.
 -- Assumes nothing.
 use borrow.Author.Needs.{needs}
-use Rattle.memory.proofs.DescriptorLaws.{described-more}
+use Rattle.memory.proofs.descriptor.DescriptorLaws.{described-more}
 use Rattle.memory.proofs.descriptor.Descriptor.described.Statement.{statement}
 use Rattle.memory.proofs.descriptor.Descriptor.described.Tie as tie
 

@@ -1,0 +1,6 @@
+-- The laws of a buffer: one place of a frame, a message put, a frame taken, both, and a message removed.
+pub mod PlaceLaws
+pub mod PutLaws
+pub mod TakeLaws
+pub mod AppendLaws
+pub mod FreeLaws

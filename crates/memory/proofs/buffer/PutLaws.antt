@@ -1,0 +1,152 @@
+-- A message is put behind the last of a buffer: from writes to the node that the memory then holds. Assumes nothing.
+use Prim.Native.Nat.{_%_, _*_, _+_, _/_, _<_, _≤_, pred, ℕ}
+use native.Mathlib.Nat.{add-zero}
+use native.Mathlib.Omega.{arith}
+use mathlib.Core.List.{List, [], _++_, _∷_, map}
+use mathlib.Core.Path.{_∙_, _≡_, refl, subst, sym}
+use lib.ListN.{getD, length, length-set, set}
+use lib.Seq.{getD-set-same, set-set}
+use Rattle.rules.specs.Build.{groupCount, paper01, wordLimit}
+use Rattle.rules.specs.Frames.{appended, withStock}
+use Rattle.rules.specs.Lists.{Every, pad}
+use Rattle.rules.specs.Memory.{atomicOffset, countOffset, flagWord, frameAddress, framesOf, groupAddress, groupStride, groupWords, groupsAt, lineWords, pendingOffset, placeStride, placeWords, usedOffset, word}
+use Rattle.rules.specs.Node.{Group, Message, Node, Place, emptyGroup, groupOf, placeOf, withBuffer, withFree, withGroup}
+use Rattle.rules.specs.Refusal.{queued}
+use Rattle.rules.specs.Valid.{GoodPlace, frameNumber}
+use Rattle.rules.proofs.Steps.EveryLaws.{every-getD, every-set}
+use Rattle.rules.proofs.Steps.FrameLaws.{placeOf-good}
+use Rattle.rules.proofs.Map.MapFrames.{good-from, numbers-from}
+use Rattle.rules.proofs.Map.MapParts.{length-group, length-place}
+use Rattle.rules.proofs.Map.MapRead.{length-line, length-queue}
+use Rattle.rules.proofs.Map.MapWords.{Stands}
+use Rattle.rules.specs.Sound.{Mapped, WholeGroup}
+use Rattle.memory.specs.Holds.{Holds, Room, putting}
+use Rattle.memory.specs.Writes.{Wrote}
+use Rattle.memory.proofs.CountLaws.{its-bounded, its-free, its-once, its-other}
+use Rattle.memory.proofs.group.GroupLaws.{group-whole, group-words, listed, mapped-stock, record-stands}
+use Rattle.memory.proofs.PieceLaws.{FrameStands, Pieces, holds-pieces, pieces-hold}
+use Rattle.memory.proofs.PieceWrites.{group-put, rest-kept, set-cases}
+use Rattle.memory.proofs.buffer.PlaceLaws.{frames-kept, frames-put}
+use Rattle.memory.proofs.WriteLaws.{kept-below, widened}
+
+-- the group with a place of its buffer set
+unfoldable pub placed : ℕ → Place → Group → Group
+placed i x G =
+    withBuffer
+    (record { used = G .buffer .used; count = G .buffer .count; frames = G .buffer .frames; places = set (G .buffer .places) i x }) G
+
+-- a place of a group's buffer is written
+pub place-put : {m m′ : List ℕ} {n : Node} {r : List ℕ} → Pieces m n r → Mapped n → (g : ℕ) → 1 ≤ g → g ≤ groupCount → (j q : ℕ)
+    → j < length (groupOf n g .buffer .frames) → q < paper01 .perFrame → (x : Place) → GoodPlace x
+    → Wrote m m′ (frameAddress (getD (groupOf n g .buffer .frames) j 0) + placeStride * q) (placeWords x)
+    → Pieces m′ (withGroup g (placed (paper01 .perFrame * j + q) x (groupOf n g)) n) r
+unfolding withGroup withBuffer placed groupOf framesOf frameAddress groupWords
+place-put {m} {m′} {n} p v g low high j q inside below x gx w =
+    let G = getD (n .groups) (pred g) emptyGroup in
+    let G′ = placed (paper01 .perFrame * j + q) x G in
+    let f = getD (G .buffer .frames) j 0 in
+    let count = v .group-count in
+    let whole = group-whole v g low high in
+    let bounded = its-bounded v g low high j inside in
+    let lx = length-place x gx in
+    record {
+      long = omega (arith, p .long, w .same-length);
+      rest = rest-kept w (omega arith) (p .rest);
+      running = w .below 0 (omega arith) ∙ p .running;
+      timer = w .below 1 (omega arith) ∙ p .timer;
+      queued = w .below 2 (omega arith) ∙ p .queued;
+      free-count = w .below 3 (omega arith) ∙ p .free-count;
+      queue = kept-below w 4 _ (omega (arith, length-queue (n .queue))) (p .queue);
+      free = kept-below w 164 _ (omega (arith, length-line (map frameNumber (n .free)))) (p .free);
+      groups = λ i h.
+          let each = kept-below w (groupsAt + groupStride * i) (groupWords (getD (n .groups) i emptyGroup))
+          (omega (arith, length-group (getD (n .groups) i emptyGroup))) (p .groups i h) in
+          set-cases (λ H. Stands m′ (groupsAt + groupStride * i) (groupWords H)) (n .groups) i (pred g) G′ (omega arith)
+          (λ same. subst (λ (k : ℕ). Stands m′ (groupsAt + groupStride * i) (groupWords (getD (n .groups) k emptyGroup))) same each) (λ other. each);
+      free-frames = frames-kept f q below x gx w (n .free) (v .free-good) (its-free v g low high j inside) (p .free-frames);
+      group-frames = λ i h.
+          set-cases (λ H. Every (FrameStands m′) (framesOf H)) (n .groups) i (pred g) G′ (omega arith)
+          (λ same. frames-put f q below x gx w (G .buffer .frames) (G .buffer .places) j inside refl (its-once v g low high j inside)
+          (whole .whole) (whole .places) (p .group-frames (pred g) (omega arith)))
+          (λ other.
+          let H = getD (n .groups) i emptyGroup in
+          let good = every-getD WholeGroup (n .groups) i emptyGroup (v .groups-whole) (omega arith) in
+          frames-kept f q below x gx w (framesOf H) (good-from (H .buffer .frames) (H .buffer .places) (good .whole) (good .places))
+          (rw (numbers-from (H .buffer .frames) (H .buffer .places)) (its-other v g low high j inside i h other)) (p .group-frames i h));
+    }
+
+-- the address of the place behind the last message of group g's buffer, as it is read from memory
+abbrev pub endPlace : List ℕ → ℕ → ℕ
+endPlace m g =
+    frameAddress (word m (groupAddress g + (14 + (word m (groupAddress g + 2) + word m (groupAddress g + 3)) / 8)))
+    + placeStride * ((word m (groupAddress g + 2) + word m (groupAddress g + 3)) % 8)
+
+-- it lies above the flags of every group
+pub flags-below : (m : List ℕ) (g : ℕ) → g ≤ groupCount → groupAddress g + pendingOffset < endPlace m g
+unfolding frameAddress groupAddress
+flags-below m g high = omega arith
+
+-- the flags and counts of group g with one message more, as they are read
+abbrev pub counted : List ℕ → ℕ → List ℕ
+counted m g =
+    word m (groupAddress g + atomicOffset) ∷ word m (groupAddress g + pendingOffset) ∷ word m (groupAddress g + usedOffset) ∷ (word m (groupAddress g + countOffset) + 1) ∷ []
+
+-- a message is written there, and counted: it is put
+pub putting-held : {m m₁ m₂ : List ℕ} {n : Node} {r : List ℕ} → Holds m n r → (x : Message) → 1 ≤ x .group → x .group ≤ groupCount → Room (x .group) n
+    → Wrote m m₁ (endPlace m (x .group)) (placeWords (placeOf x))
+    → Wrote m₁ m₂ (groupAddress (x .group)) (counted m (x .group))
+    → Holds m₂ (putting x n) r
+unfolding putting withStock withFree withGroup withBuffer groupWords framesOf placed appended groupOf
+putting-held {m} {m₁} {m₂} {n} {r} h x low high room w₁ w₂ =
+    let g = x .group in
+    let v = h .mapped in
+    let p = holds-pieces h in
+    let G = groupOf n g in
+    let B = G .buffer in
+    let end = B .used + B .count in
+    let a = groupAddress g in
+    let words = group-words p v g low high in
+    let whole = group-whole v g low high in
+    let count = v .group-count in
+    let good = placeOf-good x in
+    let inside : end / 8 < length (B .frames) = omega (arith, whole .whole) in
+    let at : word m (a + 2) + word m (a + 3) ≡ end = cc (words .used, words .count) in
+    let last : word m (a + (14 + end / 8)) ≡ getD (B .frames) (end / 8) 0 = listed m a (B .frames) (end / 8) inside (words .list) in
+    let w₁′ : Wrote m m₁ (frameAddress (getD (B .frames) (end / 8) 0) + placeStride * (end % 8)) (placeWords (placeOf x)) = rw (at, last) at w₁ in
+    let G′ = placed (8 * (end / 8) + end % 8) (placeOf x) G in
+    let n′ = withGroup g G′ n in
+    let p₁ : Pieces m₁ n′ r = place-put p v g low high (end / 8) (end % 8) inside (omega arith) (placeOf x) good w₁′ in
+    let same : getD (set (n .groups) (pred g) G′) (pred g) emptyGroup ≡ G′ = getD-set-same (n .groups) (pred g) G′ emptyGroup (omega arith) in
+    let stands : Stands m₁ a (groupWords G′) = rw same at (record-stands p₁ g low high) in
+    let frames : Every (FrameStands m₁) (framesOf G′) = rw same at (p₁ .group-frames (pred g) (omega arith)) in
+    let e : 8 * (end / 8) + end % 8 ≡ end = omega arith in
+    let G″ = withBuffer (appended x B) G in
+    let w₂′ : Wrote m₁ m₂ a (groupWords G″) =
+    widened {us = flagWord (G .atomic) ∷ flagWord (G .pending) ∷ B .used ∷ (B .count + 1) ∷ []}
+    (rw (words .atomic, words .pending, words .used, words .count) at w₂) a []
+    (flagWord (G .atomic) ∷ flagWord (G .pending) ∷ B .used ∷ B .count ∷ [])
+    (length (B .frames) ∷ length (G .descriptor) ∷ pad wordLimit (G .descriptor) ++ lineWords (B .frames)) (sym (add-zero a)) refl stands in
+    let p₂ : Pieces m₂ (withGroup g G″ n′) r = group-put p₁ g low high (length-set (n .groups) (pred g) G′ ∙ count) G″ w₂′ (rw e at frames) in
+    let over : withGroup g G″ n′ ≡ withGroup g G″ n = λ i. record {
+      running = n .running;
+      timer = n .timer;
+      queue = n .queue;
+      free = n .free;
+      groups = set-set (n .groups) (pred g) G′ G″ i;
+    } in
+    pieces-hold
+    (mapped-stock v g low high (record { free = n .free; buffer = appended x B })
+    (record {
+      descriptor = whole .descriptor;
+      whole = length-set (B .places) end (placeOf x) ∙ whole .whole;
+      places = every-set GoodPlace (B .places) end (placeOf x) (whole .places) good;
+    })
+    (v .free-good) (λ w. refl))
+    (subst (λ (k : Node). Pieces m₂ k r) over p₂)
+
+pub putting-kept : {m m₁ m₂ : List ℕ} {n : Node} {r : List ℕ} → Holds m n r → (x : Message) (g : ℕ) → x .group ≡ g → 1 ≤ g → g ≤ groupCount → Room g n
+    → Wrote m m₁ (endPlace m g) (placeWords (placeOf x))
+    → Wrote m₁ m₂ (groupAddress g) (counted m g)
+    → Holds m₂ (putting x n) r
+unfolding placeOf
+putting-kept {m₁ = m₁} h x g e low high room w₁ w₂ = putting-held {m₁ = m₁} h x (rw e low) (rw e high) (rw e room) (rw e w₁) (rw e w₂)

@@ -1,0 +1,2 @@
+-- The laws of the descriptor.
+pub mod DescriptorLaws

@@ -1,0 +1,159 @@
+-- A group of the node in memory: its record word by word, its flags and counts written, and frames exchanged between its list and the free
+-- line. Assumes nothing.
+use Prim.Native.Nat.{_*_, _+_, _-_, _<_, _≤_, pred, suc, zero, ℕ}
+use native.Mathlib.Nat.{add-zero}
+use native.Mathlib.Omega.{arith}
+use mathlib.Core.Bool.{Bool}
+use mathlib.Core.List.{List, [], _++_, _∷_}
+use mathlib.Core.Path.{_∙_, _≡_, refl, sym, ap}
+use lib.Dec.{ltb}
+use lib.ListN.{getD, length, length-set}
+use Rattle.rules.specs.Build.{groupCount, paper01, wordLimit}
+use Rattle.rules.specs.Frames.{Stock, withStock}
+use Rattle.rules.specs.Lists.{Every, pad}
+use Rattle.rules.specs.Memory.{flagWord, framesAt, framesOf, freeCountAt, groupAddress, groupStride, groupWords, groupsAt, lineWords, size, word, countOffset, usedOffset}
+use Rattle.rules.specs.Node.{Frame, Group, Node, emptyGroup, groupOf, withBuffer, withFree, withGroup, buffered, withFlags}
+use Rattle.rules.specs.Valid.{GoodFrame, frameNumbers}
+use Rattle.rules.proofs.Steps.EveryLaws.{every-getD, every-set}
+use Rattle.rules.proofs.Steps.FrameLaws.{SameFrames}
+use Rattle.rules.proofs.Steps.ListLaws.{count-weight, hit, length-weight, unit, weight}
+use Rattle.rules.proofs.Map.MapParts.{GroupStands, group-stands}
+use Rattle.rules.proofs.Map.MapWords.{Stands, stands-cons}
+use Rattle.rules.proofs.Steps.NodeLaws.{reweighed}
+use Rattle.rules.specs.Sound.{Mapped, WholeGroup}
+use Rattle.memory.specs.Holds.{FrameLeft, Holds, flagging}
+use Rattle.memory.specs.Writes.{Wrote}
+use Rattle.memory.proofs.CountLaws.{lists-short}
+use Rattle.memory.proofs.PieceLaws.{Pieces, holds-pieces, pieces-hold}
+use Rattle.memory.proofs.PieceWrites.{group-put}
+use Rattle.memory.proofs.WriteLaws.{widened}
+
+-- Reading a group.
+
+-- a group of the node is whole
+pub group-whole : {n : Node} → Mapped n → (g : ℕ) → 1 ≤ g → g ≤ groupCount → WholeGroup (groupOf n g)
+unfolding groupOf
+group-whole {n} v g low high = every-getD WholeGroup (n .groups) (pred g) emptyGroup (v .groups-whole) (omega (arith, v .group-count))
+
+-- its record stands at its address
+pub record-stands : {m : List ℕ} {n : Node} {r : List ℕ} → Pieces m n r → (g : ℕ) → 1 ≤ g → g ≤ groupCount → Stands m (groupAddress g) (groupWords (groupOf n g))
+unfolding groupOf groupAddress
+record-stands {m} {n} p g low high =
+    let e : groupsAt + groupStride * pred g ≡ groupsAt + groupStride * (g - 1) = omega arith in
+    rw e at (p .groups (pred g) (omega arith))
+
+-- word by word
+pub group-words : {m : List ℕ} {n : Node} {r : List ℕ} → Pieces m n r → Mapped n → (g : ℕ) → 1 ≤ g → g ≤ groupCount
+    → GroupStands m (groupAddress g) (groupOf n g)
+group-words {m} {n} p v g low high =
+    group-stands m (groupAddress g) (groupOf n g) (group-whole v g low high .descriptor) (omega (arith, lists-short v g low high)) .0
+    (record-stands p g low high)
+
+-- a word of those that stand
+pub stands-word : (m : List ℕ) (a : ℕ) (ws : List ℕ) (j : ℕ) → j < length ws → Stands m a ws → word m (a + j) ≡ getD ws j 0
+stands-word m a [] j h s = absurd (omega arith)
+stands-word m a (w ∷ ws) zero h s = rw (add-zero a) (stands-cons m a w ws .0 s .0)
+stands-word m a (w ∷ ws) (suc j) h s =
+    let e : a + suc j ≡ a + 1 + j = omega arith in
+    rw e (stands-word m (a + 1) ws j (omega arith) (stands-cons m a w ws .0 s .1))
+
+-- a number of a group's list
+pub listed : (m : List ℕ) (a : ℕ) (fs : List ℕ) (j : ℕ) → j < length fs → Stands m (a + 14) fs → word m (a + (14 + j)) ≡ getD fs j 0
+listed m a fs j h s = let e : a + (14 + j) ≡ a + 14 + j = omega arith in rw e (stands-word m (a + 14) fs j h s)
+
+-- the counts that are read for group g
+pub record Counts (m : List ℕ) (g : ℕ) : Type 0 where
+  pub long : size ≤ length m
+  pub free : word m freeCountAt ≤ 32
+  pub held : word m (groupAddress g + 4) + word m freeCountAt ≤ 32
+
+pub counts : {m : List ℕ} {n : Node} {r : List ℕ} → Holds m n r → (g : ℕ) → 1 ≤ g → g ≤ groupCount → Counts m g
+counts h g low high =
+    let p = holds-pieces h in
+    let short = lists-short (h .mapped) g low high in
+    let words = group-words p (h .mapped) g low high in
+    record { long = p .long; free = omega (arith, p .free-count); held = omega (arith, p .free-count, words .held) }
+
+-- the record of a group lies within the memory
+pub record-within : (g : ℕ) → g ≤ groupCount → groupAddress g + groupStride ≤ framesAt
+unfolding groupAddress
+record-within g high = omega arith
+
+-- a free frame is counted
+pub some-free : {m : List ℕ} {n : Node} {r : List ℕ} → Holds m n r → FrameLeft n → 1 ≤ word m freeCountAt
+some-free h left = omega (arith, holds-pieces h .free-count)
+
+-- A node with frames exchanged between the free line and a group can be mapped.
+
+pub mapped-group : {n : Node} → Mapped n → (g : ℕ) → 1 ≤ g → g ≤ groupCount → (G : Group) (fs : List Frame) → WholeGroup G
+    → Every (GoodFrame paper01) fs → SameFrames fs (G .buffer .frames) (n .free) (groupOf n g .buffer .frames) → Mapped (withGroup g G (withFree fs n))
+unfolding withGroup withFree frameNumbers
+mapped-group {n} v g low high G fs whole free-good even =
+    let old = frameNumbers n in
+    let new = frameNumbers (withGroup g G (withFree fs n)) in
+    let frames : (w : ℕ → ℕ) → weight w new ≡ weight w old = reweighed n g G fs (omega (arith, v .group-count)) even in
+    record {
+      queue-length = v .queue-length;
+      queue-good = v .queue-good;
+      group-count = length-set (n .groups) (pred g) G ∙ v .group-count;
+      groups-whole = every-set WholeGroup (n .groups) (pred g) G (v .groups-whole) whole;
+      free-good = free-good;
+      frames-once = λ f below. count-weight f new ∙ frames (hit f) ∙ sym (count-weight f old) ∙ v .frames-once f below;
+      frames-all = length-weight new ∙ frames unit ∙ sym (length-weight old) ∙ v .frames-all;
+    }
+
+pub mapped-stock : {n : Node} → Mapped n → (g : ℕ) → 1 ≤ g → g ≤ groupCount → (t : Stock) → WholeGroup (withBuffer (t .buffer) (groupOf n g))
+    → Every (GoodFrame paper01) (t .free) → SameFrames (t .free) (t .buffer .frames) (n .free) (groupOf n g .buffer .frames) → Mapped (withStock g t n)
+unfolding withStock withBuffer
+mapped-stock {n} v g low high t = mapped-group v g low high (withBuffer (t .buffer) (groupOf n g)) (t .free)
+
+-- Flags and counts.
+
+-- a group with these flags and counts
+unfoldable pub withRecord : Bool → Bool → ℕ → ℕ → Group → Group
+withRecord a p h k G =
+    record {
+      atomic = a;
+      pending = p;
+      buffer = record { used = h; count = k; frames = G .buffer .frames; places = G .buffer .places };
+      descriptor = G .descriptor;
+    }
+
+-- they are written, and nothing else of the record
+pub record-wrote : {m m′ : List ℕ} {n : Node} {r : List ℕ} → Pieces m n r → (g : ℕ) → 1 ≤ g → g ≤ groupCount → (a p : Bool) (h k : ℕ)
+    → Wrote m m′ (groupAddress g) (flagWord a ∷ flagWord p ∷ h ∷ k ∷ []) → Wrote m m′ (groupAddress g) (groupWords (withRecord a p h k (groupOf n g)))
+unfolding groupWords withRecord
+record-wrote {n = n} pieces g low high a p h k w =
+    let G = groupOf n g in
+    let B = G .buffer in
+    widened w (groupAddress g) [] (flagWord (G .atomic) ∷ flagWord (G .pending) ∷ B .used ∷ B .count ∷ [])
+    (length (B .frames) ∷ length (G .descriptor) ∷ pad wordLimit (G .descriptor) ++ lineWords (B .frames)) (sym (add-zero (groupAddress g))) refl (record-stands pieces g low high)
+
+-- the node has them
+pub record-held : {m m′ : List ℕ} {n : Node} {r : List ℕ} → Holds m n r → (g : ℕ) → 1 ≤ g → g ≤ groupCount → (a p : Bool) (h k : ℕ)
+    → Wrote m m′ (groupAddress g) (flagWord a ∷ flagWord p ∷ h ∷ k ∷ []) → Holds m′ (withGroup g (withRecord a p h k (groupOf n g)) n) r
+unfolding withRecord withFree framesOf groupOf
+record-held {n = n} held g low high a p h k w =
+    let v = held .mapped in
+    let pieces = holds-pieces held in
+    let whole = group-whole v g low high in
+    pieces-hold
+    (mapped-group v g low high (withRecord a p h k (groupOf n g)) (n .free)
+    (record { descriptor = whole .descriptor; whole = whole .whole; places = whole .places }) (v .free-good) (λ x. refl))
+    (group-put pieces g low high (v .group-count) (withRecord a p h k (groupOf n g)) (record-wrote pieces g low high a p h k w)
+    (pieces .group-frames (pred g) (omega arith)))
+
+-- the flags alone, the counts as they are read
+pub flags-held : {m m′ : List ℕ} {n : Node} {r : List ℕ} → Holds m n r → (g : ℕ) → 1 ≤ g → g ≤ groupCount → (a p : Bool)
+    → Wrote m m′ (groupAddress g) (flagWord a ∷ flagWord p ∷ word m (groupAddress g + usedOffset) ∷ word m (groupAddress g + countOffset) ∷ [])
+    → Holds m′ (flagging g a p n) r
+unfolding flagging withFlags withRecord
+flags-held {n = n} held g low high a p w =
+    let words = group-words (holds-pieces held) (held .mapped) g low high in
+    record-held held g low high a p (groupOf n g .buffer .used) (groupOf n g .buffer .count) (rw (words .used, words .count) at w)
+
+-- whether a group is buffered is read from its count
+pub buffered-read : {m : List ℕ} {n : Node} {r : List ℕ} → Holds m n r → (g : ℕ) → 1 ≤ g → g ≤ groupCount
+    → buffered n g ≡ ltb 0 (word m (groupAddress g + countOffset))
+unfolding buffered
+buffered-read held g low high = ap (ltb 0) (sym (group-words (holds-pieces held) (held .mapped) g low high .count))

@@ -1,0 +1,2 @@
+-- The laws of the hardware queue.
+pub mod QueueLaws

@@ -1,0 +1,2 @@
+-- The laws of words that are 0.
+pub mod ZeroLaws

@@ -1,0 +1,2 @@
+-- The laws of S and T.
+pub mod KernelLaws

@@ -1,0 +1,2 @@
+-- The laws of the first message.
+pub mod HeadLaws

@@ -1,0 +1,2 @@
+-- The laws of B, N and D.
+pub mod SectionLaws

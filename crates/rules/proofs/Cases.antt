@@ -1,0 +1,10 @@
+-- The tables of cases, each computed from the definitions.
+pub mod Computes
+pub mod PaperCasesLaws
+pub mod TypeCasesLaws
+pub mod AnswerCasesLaws
+pub mod ScriptCasesLaws
+pub mod BufferCasesLaws
+pub mod StepCasesLaws
+pub mod TestComputes
+pub mod MemoryCasesLaws

@@ -1,0 +1,149 @@
+-- The cases of the memory hold. The memory test is computed as TestComputes says. Assumes nothing.
+use mathlib.Core.Path.{_≡_, refl}
+use mathlib.Core.Bool.{true}
+use mathlib.Core.List.{[], _∷_, _++_}
+use Rattle.rules.specs.Operation.{schedule, user, dispose}
+use Rattle.rules.specs.MemoryTest.{isMemory}
+use Rattle.rules.specs.Cases.MemoryCases.{fresh, busy, sevenUsed}
+use Rattle.rules.specs.Cases.MemoryCases.{MapCases, StepOnMemoryCases, NodeCases, NoNodeCases, HeadCases}
+use Rattle.rules.proofs.Cases.Computes.{computes}
+use Rattle.rules.proofs.Cases.TestComputes.{words-fail, node-fails, unused-fail, is-node, same-words, step-report, step-writes, step-refused, head-of, head-reads, head-none}
+
+pub map-cases : MapCases
+unfolding computes
+map-cases =
+    record {
+      fresh-words = same-words _ _ refl;
+      fresh-size = refl;
+      busy-words = same-words _ _ refl;
+      last-place = refl;
+      last-list = refl;
+      last-queued = refl;
+      last-described = refl;
+    }
+
+-- memories that the cases below speak of more than once
+fresh-node : isMemory fresh ≡ true
+unfolding computes
+fresh-node = is-node fresh refl refl refl refl refl
+
+-- the busy node, with a word past its size
+busy-node : isMemory (busy ++ (7 ∷ [])) ≡ true
+unfolding computes
+busy-node = is-node _ refl refl refl refl refl
+
+-- the one with seven places used up
+seven-used : isMemory sevenUsed ≡ true
+unfolding computes
+seven-used = is-node _ refl refl refl refl refl
+
+pub node-cases : NodeCases
+unfolding computes
+node-cases =
+    record {
+      fresh-node = fresh-node;
+      busy-node = busy-node;
+      full-queue-node = is-node _ refl refl refl refl refl;
+      seven-used = seven-used;
+      edges = is-node _ refl refl refl refl refl;
+      anything = is-node _ refl refl refl refl refl;
+    }
+
+pub no-node-cases : NoNodeCases
+unfolding computes
+no-node-cases =
+    record {
+      too-short = words-fail _ 0 refl;
+      no-words = words-fail _ 0 refl;
+      running-nine = node-fails _ 0 refl;
+      queue-seventeen = words-fail _ 1 refl;
+      descriptor-nine = words-fail _ 1 refl;
+      free-33 = words-fail _ 1 refl;
+      list-33 = words-fail _ 1 refl;
+      group-zero = node-fails _ 3 refl;
+      group-nine = node-fails _ 3 refl;
+      length-zero = node-fails _ 3 refl;
+      length-nine = words-fail _ 1 refl;
+      length-zero-buffered = node-fails _ 5 refl;
+      length-nine-buffered = node-fails _ 5 refl;
+      eight-used = node-fails _ 5 refl;
+      timer-256 = node-fails _ 1 refl;
+      frame-twice = node-fails _ 7 refl;
+      frame-missing = node-fails _ 7 refl;
+      frame-listed-and-free = node-fails _ 7 refl;
+      frame-listed-twice = node-fails _ 7 refl;
+      frame-32 = node-fails _ 7 refl;
+      frame-33rd = node-fails _ 8 refl;
+      list-too-long = node-fails _ 5 refl;
+      list-too-short = node-fails _ 5 refl;
+      list-of-none = node-fails _ 5 refl;
+      atomic-two = words-fail _ 2 refl;
+      pending-two = words-fail _ 2 refl;
+      atomic-two-first = words-fail _ 2 refl;
+      pending-two-last = words-fail _ 2 refl;
+      queue-unused = unused-fail _ refl;
+      queue-unused-length = unused-fail _ refl;
+      queue-unused-last = unused-fail _ refl;
+      free-unused = unused-fail _ refl;
+      free-unused-last = unused-fail _ refl;
+      list-unused = unused-fail _ refl;
+      list-unused-first = unused-fail _ refl;
+      list-unused-last = unused-fail _ refl;
+      descriptor-unused = unused-fail _ refl;
+      descriptor-unused-first = unused-fail _ refl;
+      descriptor-unused-last = unused-fail _ refl;
+      words-past = unused-fail _ refl;
+      words-past-last = unused-fail _ refl;
+      words-past-buffered = node-fails _ 5 refl;
+      words-past-buffered-last = node-fails _ 5 refl;
+      pledges-33 = node-fails _ 9 refl;
+      used-of-none = node-fails _ 5 refl;
+      pending-not-atomic = node-fails _ 5 refl;
+      pending-not-atomic-queued = node-fails _ 5 refl;
+      pending-no-line-runner = node-fails _ 10 refl;
+      pending-no-line = node-fails _ 10 refl;
+      pending-no-line-first = node-fails _ 10 refl;
+      pending-no-line-last = node-fails _ 10 refl;
+      runner-not-atomic = node-fails _ 11 refl;
+      runner-not-atomic-buffered = node-fails _ 11 refl;
+      head-of-nobody = node-fails _ 12 refl;
+      head-of-another = node-fails _ 12 refl;
+      head-group-buffered = node-fails _ 12 refl;
+      timer-idle = node-fails _ 12 refl;
+    }
+
+pub step-on-memory-cases : StepOnMemoryCases
+unfolding computes
+step-on-memory-cases =
+    record {
+      power-on-report = refl;
+      power-on-words = same-words _ _ refl;
+      power-on-longer = same-words _ _ refl;
+      power-on-short = refl;
+      power-on-none = refl;
+      step-report = step-report fresh _ fresh-node;
+      step-words = step-writes _ (schedule 1) 0 564 _ fresh-node refl;
+      step-short = step-refused _ _ (words-fail _ 0 refl);
+      step-no-node = step-refused _ _ (node-fails _ 0 refl);
+      before-unknown = step-refused _ _ (node-fails _ 0 refl);
+      before-nobody = step-refused _ _ (node-fails _ 12 refl);
+      before-schedule = step-refused _ _ (node-fails _ 0 refl);
+      before-ticks = step-refused _ _ (words-fail _ 0 refl);
+      unknown-two = step-report fresh _ fresh-node;
+      dispose-report = step-report _ _ busy-node;
+      dispose-words = step-writes _ (user dispose) 0 564 _ busy-node refl;
+      dispose-frames = step-writes _ (user dispose) 555 162 _ busy-node refl;
+      dispose-rest = step-writes _ (user dispose) 2868 2 _ busy-node refl;
+    }
+
+pub head-cases : HeadCases
+unfolding computes
+head-cases =
+    record {
+      head-direct = head-of _ busy-node;
+      head-buffered = head-of _ seven-used;
+      head-words = head-reads _ _ seven-used refl;
+      head-nobody = head-of _ (is-node _ refl refl refl refl refl);
+      head-no-line = head-of _ (is-node _ refl refl refl refl refl);
+      head-no-node = head-none _ (node-fails _ 1 refl);
+    }

@@ -1,0 +1,10 @@
+-- The memory map and the memory test.
+pub mod TestLaws
+pub mod MapWords
+pub mod MapParts
+pub mod MapFrames
+pub mod MapTest
+pub mod MapRead
+pub mod MapLaws
+pub mod MapHead
+pub mod RunMemory

@@ -1,0 +1,213 @@
+-- What is written by the memory map is read back: where the map of a valid node stands in a memory, the memory holds that node, and its words
+-- fit. The map is four numbers and four regions, each of a fixed length, so each stands at its own address; a region is records of a fixed
+-- length, and each record is read back by its own law. The free line and the groups are read last, for their frames' places are read from
+-- the frames' region. Assumes nothing.
+use Prim.Native.Nat.{ℕ, _+_, _-_, _*_, _≤_, _<_}
+use mathlib.Core.Path.{_≡_, ap, _∙_}
+use mathlib.Core.Logic.{_↔_, Iff·rfl}
+use mathlib.Core.Bool.{true}
+use mathlib.Core.List.{List, _∷_, _++_, map}
+use native.Mathlib.Omega.{arith}
+use lib.ListN.{length, length-append, length-map}
+use Rattle.rules.specs.Lists.{Every, concatMap, upFrom}
+use Rattle.rules.specs.Build.{paper01, groupCount, wordLimit}
+use Rattle.rules.specs.Node.{Message, Group, Node}
+use Rattle.rules.specs.Valid.{GoodMessage, GoodPlace, frameNumber, frameList, frameNumbers}
+use Rattle.rules.specs.Memory.{runningAt, timerAt, queuedAt, freeCountAt, queueAt, queueStride, freeAt, groupsAt, groupStride, framesAt, frameStride, size}
+use Rattle.rules.specs.Memory.{word, wordsAt, messageWords, queueWords, lineWords, groupWords, placeWords, frameWords, words, framesOf, placesOf, allFrames, messagesAt, framePlaces, frameAt, frameAddress, groupsFrom, nodeAt}
+use Rattle.rules.specs.MemoryTest.{zeroAt}
+use Rattle.rules.proofs.Steps.EveryLaws.{every-of, every-at, every-append, every-concat, every-upFrom}
+use Rattle.rules.proofs.Steps.ListLaws.{length-parts, part-short, length-pad}
+use Rattle.rules.specs.Sound.{WholeGroup, Mapped}
+use Rattle.rules.proofs.Map.MapWords.{Stands, stands-cons, stands-append, pad-stands, parts-stand, wordsAt-stands, read-records}
+use Rattle.rules.proofs.Map.MapParts.{messages, places, groups, length-message, length-place, length-group, read-message, read-place, read-group, MessageFits, GroupFits}
+use Rattle.rules.proofs.Map.MapFrames.{numbers-bounded, each-found, found-good, length-frame, places-from, frames-at}
+use Rattle.rules.proofs.Map.MapTest.{Fits}
+
+-- four numbers and four lists of these lengths fill the node's size
+regions-length : (a b c d : ℕ) (q l g f : List ℕ) → length q ≡ 160 → length l ≡ 32 → length g ≡ 368 → length f ≡ 2304
+    → length (a ∷ b ∷ c ∷ d ∷ q ++ (l ++ (g ++ f))) ≡ size
+regions-length a b c d q l g f eq el eg ef = simp (length-append, eq, el, eg, ef)
+
+-- and stand each at its own address
+regions-stand : (m : List ℕ) (a b c d : ℕ) (q l g f : List ℕ) → length q ≡ 160 → length l ≡ 32 → length g ≡ 368
+    → Stands m 0 (a ∷ b ∷ c ∷ d ∷ q ++ (l ++ (g ++ f)))
+    ↔ ((word m 0 ≡ a) × ((word m 1 ≡ b) × ((word m 2 ≡ c) × ((word m 3 ≡ d)
+    × (Stands m 4 q × (Stands m 164 l × (Stands m 196 g × Stands m 564 f)))))))
+regions-stand m a b c d q l g f eq el eg =
+    let both = stands-append m 4 q (l ++ (g ++ f)) in
+    simp (stands-cons, both, stands-append, eq, el, eg) Iff·rfl
+
+-- what stands where in the map of a node
+pub record MapStands (m : List ℕ) (n : Node) : Type 0 where
+  pub running : word m runningAt ≡ n .running
+  pub timer : word m timerAt ≡ n .timer
+  pub queued : word m queuedAt ≡ length (n .queue)
+  pub free-count : word m freeCountAt ≡ length (n .free)
+  pub queue : Stands m queueAt (queueWords (n .queue))
+  pub free : Stands m freeAt (lineWords (map frameNumber (n .free)))
+  pub groups : Stands m groupsAt (concatMap groupWords (n .groups))
+  pub frames : Stands m framesAt (concatMap (frameWords (allFrames n)) (upFrom 0 (paper01 .frames)))
+
+-- the queue has room for 16 messages
+pub length-queue : (q : List Message) → length (queueWords q) ≡ 160
+unfolding queueWords
+length-queue q = length-pad (paper01 .places * queueStride) (concatMap messageWords q)
+
+-- the free line for 32 numbers
+pub length-line : (fs : List ℕ) → length (lineWords fs) ≡ 32
+unfolding lineWords
+length-line fs = length-pad (paper01 .frames) fs
+
+-- and eight groups have 46 words each
+length-groups : (Gs : List Group) → length Gs ≡ groupCount → length (concatMap groupWords Gs) ≡ 368
+length-groups Gs e = length-parts groupWords groupStride Gs (every-of _ Gs (λ G h. length-group G)) ∙ ap (λ (k : ℕ). groupStride * k) e
+
+module _ (n : Node) (e : length (n .groups) ≡ groupCount) where
+  -- the map of a node with eight groups stands part by part
+  pub map-stands : (m : List ℕ) → Stands m 0 (words n) ↔ MapStands m n
+  unfolding words
+  map-stands m =
+      let r =
+      regions-stand m (n .running) (n .timer) (length (n .queue)) (length (n .free)) (queueWords (n .queue))
+      (lineWords (map frameNumber (n .free))) (concatMap groupWords (n .groups))
+      (concatMap (frameWords (allFrames n)) (upFrom 0 (paper01 .frames)))
+      (length-queue (n .queue)) (length-line (map frameNumber (n .free))) (length-groups (n .groups) e) in (
+        λ h.
+            let k = r .0 h in
+            record {
+              running = k .0;
+              timer = k .1 .0;
+              queued = k .1 .1 .0;
+              free-count = k .1 .1 .1 .0;
+              queue = k .1 .1 .1 .1 .0;
+              free = k .1 .1 .1 .1 .1 .0;
+              groups = k .1 .1 .1 .1 .1 .1 .0;
+              frames = k .1 .1 .1 .1 .1 .1 .1;
+            },
+        λ k. r .1 (k .running, (k .timer, (k .queued, (k .free-count, (k .queue, (k .free, (k .groups, k .frames))))))),
+      )
+
+-- the map of a valid node has the node's size
+pub words-length : (n : Node) → Mapped n → length (words n) ≡ size
+unfolding words
+words-length n v =
+    regions-length (n .running) (n .timer) (length (n .queue)) (length (n .free)) (queueWords (n .queue))
+    (lineWords (map frameNumber (n .free))) (concatMap groupWords (n .groups))
+    (concatMap (frameWords (allFrames n)) (upFrom 0 (paper01 .frames)))
+    (length-queue (n .queue)) (length-line (map frameNumber (n .free))) (length-groups (n .groups) (v .group-count))
+    (length-parts (frameWords (allFrames n)) frameStride (upFrom 0 (paper01 .frames))
+    (every-upFrom _ 0 (paper01 .frames) (λ f l h. length-frame n v f h)))
+
+-- The node is read back from its map.
+
+module _ (m : List ℕ) (n : Node) (v : Mapped n) (s : MapStands m n) where
+  -- the frame of each number
+  frame-read : (f : ℕ) → f < paper01 .frames → framePlaces m f ≡ placesOf f (allFrames n)
+  unfolding framePlaces frameAddress frameWords
+  frame-read f h =
+      let parts = parts-stand m (frameWords (allFrames n)) framesAt frameStride 0 (paper01 .frames) (λ j l k. length-frame n v j k) in
+      let good = found-good n v f h in
+      let read = read-records (places m) m placeWords (λ a. Unit {0}) GoodPlace length-place (λ a p g k. (read-place m a p g k, tt)) in
+      rw (good .0) at
+      (read (placesOf f (allFrames n)) (good .1) (frameAddress f) (parts .0 (s .frames) f (omega arith) h) .0)
+
+  -- so each frame has its places
+  frames-read : Every (λ x. framePlaces m (x .number) ≡ x .places) (allFrames n)
+  frames-read =
+      every-of _ (allFrames n) (λ x h.
+      frame-read (x .number) (every-at (λ y. y .number < paper01 .frames) (numbers-bounded n v) h)
+      ∙ every-at (λ y. placesOf (y .number) (allFrames n) ≡ y .places) (each-found n v) h)
+
+  -- in the free line
+  free-read : map (frameAt m) (map frameNumber (n .free)) ≡ n .free
+  unfolding allFrames
+  free-read = frames-at m (n .free) (every-append _ (n .free) (concatMap framesOf (n .groups)) .0 frames-read .0)
+
+  -- and in each group
+  groups-read : Every (λ G. concatMap (framePlaces m) (G .buffer .frames) ≡ G .buffer .places) (n .groups)
+  unfolding allFrames framesOf
+  groups-read =
+      let each =
+      every-concat (λ x. framePlaces m (x .number) ≡ x .places) framesOf (n .groups) .0
+      (every-append _ (n .free) (concatMap framesOf (n .groups)) .0 frames-read .1) in
+      every-of _ (n .groups) (λ G h.
+      places-from (framePlaces m) (G .buffer .frames) (G .buffer .places) (every-at WholeGroup (v .groups-whole) h .whole)
+      (every-at (λ G. Every (λ x. framePlaces m (x .number) ≡ x .places) (framesOf G)) each h))
+
+  -- the free line is no longer than the frames are many
+  free-short : length (n .free) ≤ paper01 .frames
+  unfolding frameNumbers
+  free-short =
+      let all = v .frames-all in
+      let e = length-append (map frameNumber (n .free)) (concatMap frameList (n .groups)) in
+      let l = length-map (n .free) frameNumber in
+      omega arith
+
+  -- nor is a group's list
+  lists-short : Every (λ G. length (G .buffer .frames) ≤ paper01 .frames) (n .groups)
+  unfolding frameNumbers frameList
+  lists-short =
+      let all = v .frames-all in
+      let e = length-append (map frameNumber (n .free)) (concatMap frameList (n .groups)) in
+      every-of _ (n .groups) (λ G h. let l = part-short frameList h in omega arith)
+
+  -- the queue
+  queue-read : ((messagesAt m queueAt (length (n .queue)) ≡ n .queue)
+      × ((i : ℕ) → i < length (n .queue) → MessageFits m (queueAt + queueStride * i)))
+      × (zeroAt m (queueAt + queueStride * length (n .queue)) (queueStride * (paper01 .places - length (n .queue))) ≡ true)
+  unfolding queueWords
+  queue-read =
+      let q = v .queue-length in
+      let l = length-parts messageWords queueStride (n .queue) (every-of _ (n .queue) (λ x h. length-message x)) in
+      let k = pad-stands m queueAt (paper01 .places * queueStride) (concatMap messageWords (n .queue)) (omega arith) .0 (s .queue) in
+      let e : 160 - 10 * length (n .queue) ≡ 10 * (16 - length (n .queue)) = omega arith in
+      let z = rw l at (k .1) in (
+        read-records (messages m) m messageWords (MessageFits m) GoodMessage (λ x g. length-message x) (read-message m)
+            (n .queue) (v .queue-good) queueAt (k .0),
+        rw e at z,
+      )
+
+  -- the free line
+  line-read : (wordsAt m freeAt (length (n .free)) ≡ map frameNumber (n .free))
+      × (zeroAt m (freeAt + length (n .free)) (paper01 .frames - length (n .free)) ≡ true)
+  unfolding lineWords
+  line-read =
+      let l = length-map (n .free) frameNumber in
+      let k = pad-stands m freeAt (paper01 .frames) (map frameNumber (n .free)) (rw l free-short) .0 (s .free) in
+      (wordsAt-stands m freeAt (length (n .free)) (map frameNumber (n .free)) l (k .0), rw l at (k .1))
+
+  -- the groups
+  group-records : (groupsFrom m groupsAt groupCount ≡ n .groups) × ((i : ℕ) → i < groupCount → GroupFits m (groupsAt + groupStride * i))
+  group-records =
+      rw (v .group-count) at
+      (read-records (groups m) m groupWords (GroupFits m)
+      (λ G.
+      (length (G .descriptor) ≤ wordLimit)
+      × ((length (G .buffer .frames) ≤ paper01 .frames) × (concatMap (framePlaces m) (G .buffer .frames) ≡ G .buffer .places)))
+      (λ G g. length-group G) (λ a G g. read-group m a G (g .0) (g .1 .0) (g .1 .1)) (n .groups)
+      (every-of _ (n .groups) (λ G h. (
+        every-at WholeGroup (v .groups-whole) h .descriptor,
+        (
+          every-at (λ G. length (G .buffer .frames) ≤ paper01 .frames) lists-short h,
+          every-at (λ G. concatMap (framePlaces m) (G .buffer .frames) ≡ G .buffer .places) groups-read h,
+        ),
+      )))
+      groupsAt (s .groups))
+
+  -- the node, and the words pass the test
+  pub read : (nodeAt m ≡ n) × Fits m
+  unfolding nodeAt
+  read =
+      let queue : messagesAt m queueAt (word m queuedAt) ≡ n .queue = rw (s .queued) (queue-read .0 .0) in
+      let free : map (frameAt m) (wordsAt m freeAt (word m freeCountAt)) ≡ n .free = rw (s .free-count, line-read .0) free-read in (
+        λ i. record { running = s .running i; timer = s .timer i; queue = queue i; free = free i; groups = group-records .0 i },
+        record {
+          queued = rw (s .queued) (v .queue-length);
+          free = rw (s .free-count) free-short;
+          messages = rw (s .queued) (queue-read .0 .1);
+          groups = group-records .1;
+          queue-zero = rw (s .queued) (queue-read .1);
+          free-zero = rw (s .free-count) (line-read .1);
+        },
+      )

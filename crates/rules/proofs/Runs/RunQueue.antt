@@ -1,0 +1,133 @@
+-- The hardware queue over a run: what it had and accepted, less the first `left`. Assumes nothing.
+use Prim.Native.Nat.{ℕ, _+_, _≤_}
+use native.Mathlib.Nat.{zero-add, add-zero}
+use native.Mathlib.Omega.{arith}
+use mathlib.Core.Path.{_≡_, refl, sym, ap, _∙_, subst, subst₂}
+use mathlib.Core.Bool.{Bool, true, false, cond}
+use mathlib.Core.List.{List, [], _∷_, _++_, append-nil}
+use lib.Dec.{eqb}
+use lib.ListN.{length, drop}
+use lib.Seq.{drop-length}
+use Rattle.rules.specs.Lists.{isEmpty}
+use Rattle.rules.specs.Build.{Build}
+use Rattle.rules.specs.Node.{Message, Node, withRunning, withTimer, withQueue, withGroup, buffered, line}
+use Rattle.rules.specs.Operation.{poll, peek, dispose, beginAtomic, endAtomic, describe, launch}
+use Rattle.rules.specs.Operation.{Operation, arrive, schedule, tick, user, unknown, accepted, noTrap, disposeExtend}
+use Rattle.rules.specs.Refusal.{refusal, refuseRequest, queued}
+use Rattle.rules.specs.Settling.{settle, drain, upcall}
+use Rattle.rules.specs.Step.{Effect, Stepped, valued, scheduled, ticks, removed, flagged, disposed, extending, described, launched, serve, act, finish, step}
+use Rattle.rules.specs.Run.{Input, asked, Event, play, wasAccepted, arrivedBy, arrived, arrivals, disposedBy, leftBy, left}
+use Rattle.rules.specs.Valid.{Valid}
+use Rattle.rules.proofs.Steps.SettlingLaws.{upcall-kept, settle-queue, settle-moved, drain-queue}
+use Rattle.rules.proofs.Steps.LineLaws.{direct-head, removed-queue-buffered, removed-queue-direct}
+use Rattle.rules.proofs.Steps.TickLaws.{Ticked, idle, counting, timeout, ticked-by}
+use Rattle.rules.proofs.Steps.StepLaws.{step-cases, step-valid}
+use Rattle.rules.proofs.Private.EventLaws.{eventOf, refusal-answer, disposed-none, arrived-none}
+use Rattle.rules.proofs.Private.RequestLaws.{suc-zero, dispose-some}
+use Rattle.rules.proofs.Steps.ActLaws.{scheduled-cases, user-accepted}
+use Rattle.rules.proofs.Runs.FlowLaws.{Flow, flow-kept, flow-drop, flow-join}
+
+-- how many an accepted operation takes from the hardware queue before settling
+unfoldable pub taken : Operation → Effect → ℕ
+taken op e = e .moved + disposedBy op (eqb (e .trap) noTrap)
+
+-- S
+scheduled-queue : (h : ℕ) (n : Node) → scheduled h n .queue ≡ n .queue
+unfolding withTimer withRunning
+scheduled-queue h n = scheduled-cases (λ k. k .queue ≡ n .queue) h n (λ e. refl) (λ e. refl)
+
+-- T
+ticked-queue : {b : Build} {n : Node} → Valid b n → (k : ℕ)
+    → Flow (n .queue) (ticks b k (valued 0 n) .node .queue) [] (taken (tick k) (ticks b k (valued 0 n)))
+unfolding taken disposedBy valued withTimer
+ticked-queue {b} {n} v k = go (ticked-by v k)
+  where
+    Goal : Effect → Type 0
+    Goal e = Flow (n .queue) (e .node .queue) [] (e .moved + 0)
+
+    drained : Flow (n .queue) (drain (n .queue) n .queue) [] (length (n .queue) + 0)
+    drained =
+        rw add-zero
+        (record {
+          same = drain-queue (n .queue) n ∙ sym (drop-length (n .queue)) ∙ ap (drop (length (n .queue))) (sym (append-nil (n .queue)));
+          enough = rw append-nil (omega arith);
+        })
+
+    go : Ticked b k n → Goal (ticks b k (valued 0 n))
+    go (idle q e) = subst Goal (sym e) (flow-kept refl)
+    go (counting q h e) = subst Goal (sym e) (flow-kept refl)
+    go (timeout q e) = subst Goal (sym e) drained
+
+-- D
+disposed-queue : {b : Build} {n : Node} → Valid b n → isEmpty (line n (n .running)) ≡ false
+    → Flow (n .queue) (disposed b n .queue) [] (disposedBy (user dispose) (eqb (cond (buffered n (n .running)) disposeExtend noTrap) noTrap))
+unfolding disposedBy disposed flagged withTimer withGroup
+disposed-queue {b} {n} v some = go (buffered n (n .running)) refl
+  where
+    go : (t : Bool)
+        → buffered n (n .running) ≡ t
+        → Flow (n .queue) (removed b n .queue) [] (cond (eqb (cond t disposeExtend noTrap) noTrap) 1 0)
+    go true t = flow-kept (removed-queue-buffered b n t)
+    go false t =
+        record {
+          same = removed-queue-direct v t ∙ ap (drop 1) (sym (append-nil (n .queue)));
+          enough = rw append-nil (subst (λ (q : List Message). 1 ≤ length q) (sym (direct-head v t some .2)) (omega arith));
+        }
+
+-- an accepted operation
+act-queue : {b : Build} {n : Node} → Valid b n → (op : Operation) → refusal b n op ≡ 0
+    → Flow (n .queue) (act b n op .node .queue) (arrivedBy op true) (taken op (act b n op))
+unfolding act arrivedBy refusal valued taken disposedBy serve extending launched described flagged withGroup queued withQueue refuseRequest
+act-queue {b} {n} v (arrive h ws) e = record { same = refl; enough = omega arith }
+act-queue {b} {n} v (schedule h) e = flow-kept (scheduled-queue h n)
+act-queue {b} {n} v (tick k) e = ticked-queue v k
+act-queue {b} {n} v (user poll) e = flow-kept refl
+act-queue {b} {n} v (user (peek i)) e = flow-kept refl
+act-queue {b} {n} v (user dispose) e =
+    rw zero-add (disposed-queue v (dispose-some (line n (n .running)) (user-accepted n dispose e .1)))
+act-queue {b} {n} v (user beginAtomic) e = flow-kept refl
+act-queue {b} {n} v (user endAtomic) e = flow-kept refl
+act-queue {b} {n} v (user (describe w)) e = flow-kept refl
+act-queue {b} {n} v (user (launch k)) e = flow-kept refl
+act-queue {b} {n} v unknown e = suc-zero e
+
+-- the upcall leaves the queue
+pub upcall-queue : (n : Node) → upcall n .queue ≡ n .queue
+unfolding withGroup
+upcall-queue n = upcall-kept (λ k. k .queue) n (λ G. refl)
+
+-- a step: what was accepted joins the queue, and as many leave it as `left` counts
+pub step-queue : {b : Build} {n : Node} → Valid b n → (op : Operation)
+    → Flow (n .queue) (step b n op .node .queue) (arrivedBy op (eqb (step b n op .report .answer) accepted))
+    (leftBy (eventOf n op (step b n op)))
+unfolding finish leftBy wasAccepted taken
+step-queue {b} {n} v op =
+    step-cases b n op Goal finished (λ r z. rw (refusal-answer r, arrived-none op, disposed-none op) (flow-kept refl))
+  where
+    Goal : Stepped → Type 0
+    Goal s =
+        Flow (n .queue) (s .node .queue) (arrivedBy op (eqb (s .report .answer) accepted))
+        (leftBy (eventOf n op s))
+
+    e : Effect
+    e = act b n op
+
+    finished : refusal b n op ≡ 0 → Goal (finish e)
+    finished z =
+        let s : ℕ = settle (e .node) .moved in
+        let d : ℕ = disposedBy op (eqb (e .trap) noTrap) in
+        let f : Flow (n .queue) (drop s (e .node .queue)) (arrivedBy op true) (e .moved + d + s) =
+        flow-drop s (act-queue v op z) (omega (arith, settle-moved (e .node))) in
+        let order : e .moved + d + s ≡ e .moved + s + d = omega arith in
+        let q : finish e .node .queue ≡ drop s (e .node .queue) = upcall-queue (settle (e .node) .node) ∙ settle-queue (e .node) in
+        subst₂ (λ (l : List Message) (k : ℕ). Flow (n .queue) l (arrivedBy op true) k) (sym q) order f
+
+-- a run
+pub play-queue : {b : Build} {n : Node} → Valid b n → (is : List Input)
+    → play b n is .node .queue ≡ drop (left (play b n is .events)) (n .queue ++ arrivals (play b n is .events))
+unfolding play left arrivals arrived wasAccepted
+play-queue {n = n} v [] = sym (append-nil (n .queue))
+play-queue {b} {n} v (i ∷ is) =
+    let st : Stepped = step b n (asked i) in
+    let rest : List Event = play b (st .node) is .events in
+    play-queue (step-valid v (asked i)) is ∙ flow-join (left rest) (arrivals rest) (step-queue v (asked i))

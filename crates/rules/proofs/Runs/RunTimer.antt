@@ -1,0 +1,143 @@
+-- The timer over a run: while a message stays in the hardware queue, ticks are counted by the timer, and whatever sets the timer back takes a
+-- message out. So ticks and timer together grow by at most a timeout for each message that leaves. Assumes nothing.
+use Prim.Native.Nat.{ℕ, _+_, _*_, _≤_}
+use native.Mathlib.Nat.{mul-le-mul-left, mul-one}
+use native.Mathlib.Omega.{arith}
+use mathlib.Core.Path.{_≡_, refl, sym, ap, _∙_, subst}
+use mathlib.Core.Bool.{Bool, true, false, cond, not, _&&_, true≢false}
+use mathlib.Core.List.{List, [], _∷_}
+use borrow.Author.Tests.{eqb-false, ne-eqb}
+use lib.Dec.{eqb}
+use lib.ListN.{length}
+use Rattle.rules.specs.Lists.{isEmpty}
+use Rattle.rules.specs.Build.{Build}
+use Rattle.rules.specs.Node.{Message, Node, withRunning, withTimer, withQueue, withGroup, buffered}
+use Rattle.rules.specs.Operation.{poll, peek, dispose, beginAtomic, endAtomic, describe, launch}
+use Rattle.rules.specs.Operation.{Operation, arrive, schedule, tick, user, unknown, accepted, noTrap, disposeExtend}
+use Rattle.rules.specs.Refusal.{refusal, queued}
+use Rattle.rules.specs.Settling.{mayStay, pass, settle, drain, upcall}
+use Rattle.rules.specs.Step.{Effect, Stepped, valued, scheduled, ticks, flagged, disposed, extending, described, launched, serve, act, finish, step}
+use Rattle.rules.specs.Run.{wasAccepted, disposedBy, leftBy, tickedBy}
+use Rattle.rules.specs.Valid.{Valid}
+use Rattle.rules.proofs.Steps.SettlingLaws.{pass-moves, settle-keeps, upcall-kept, settle-moved, drain-queue}
+use Rattle.rules.proofs.Steps.LineLaws.{stays, buffered-empty}
+use Rattle.rules.proofs.Steps.TickLaws.{Ticked, idle, counting, timeout, ticked-by}
+use Rattle.rules.proofs.Steps.ActLaws.{scheduled-cases}
+use Rattle.rules.proofs.Steps.StepLaws.{step-cases}
+use Rattle.rules.proofs.Private.RequestLaws.{suc-zero}
+use Rattle.rules.proofs.Steps.ListLaws.{some-length}
+use Rattle.rules.proofs.Private.EventLaws.{eventOf, refusal-answer, ticked-none}
+use Rattle.rules.proofs.Runs.RunQueue.{taken, upcall-queue}
+
+-- the upcall leaves the timer
+upcall-timer : (n : Node) → upcall n .timer ≡ n .timer
+unfolding withGroup
+upcall-timer n = upcall-kept (λ k. k .timer) n (λ G. refl)
+
+-- What an accepted operation does to the timer, where the queue had a message and one stays after settling. l is how many leave.
+module _ {b : Build} {n : Node} (v : Valid b n) (some : isEmpty (n .queue) ≡ false) where
+  -- setting the timer back is paid for by a message that leaves
+  paid : (l : ℕ) → 1 ≤ l → n .timer ≤ b .timeout * l
+  paid l h =
+      let t : b .timeout * 1 ≤ b .timeout * l = mul-le-mul-left (b .timeout) h in
+      omega (arith, v .timer-bound, mul-one (b .timeout), t)
+
+  -- the queue is not empty
+  queue-some : n .queue ≡ [] → ⊥
+  queue-some e = true≢false (sym (ap isEmpty e) ∙ some)
+
+  -- S to another group: the head was the last runner's
+  switch-moves : (h : ℕ) → eqb h (n .running) ≡ false → 1 ≤ settle (withTimer 0 (withRunning h n)) .moved
+  unfolding settle withTimer withRunning mayStay
+  switch-moves h ne = go (n .queue) refl
+    where
+      k : Node
+      k = withTimer 0 (withRunning h n)
+
+      go : (q : List Message) → n .queue ≡ q → 1 ≤ pass (n .queue) k .moved
+      go [] e = absurd (queue-some e)
+      go (m ∷ q) e =
+          let own : m .group ≡ n .running = stays n m (v .head-stays m q e) .0 in
+          let gone : eqb (m .group) h ≡ false = ne-eqb (m .group) h (λ x. eqb-false _ _ ne (sym x ∙ own)) in
+          let leaves : mayStay k m ≡ false = ap (λ (t : Bool). t && not (buffered k (m .group))) gone in
+          subst (λ (l : List Message). 1 ≤ pass l k .moved) (sym e) (pass-moves m q k leaves)
+
+  -- the queue that an operation leaves is not empty where one is left after settling
+  left-some : (k : Node) → isEmpty (settle k .node .queue) ≡ false → k .queue ≡ [] → ⊥
+  left-some k s e = omega (arith, settle-moved k, ap length e, some-length (settle k .node .queue) s)
+
+  -- S
+  schedule-timer : (h : ℕ) → 0 + n .timer ≤ b .timeout * (0 + settle (scheduled h n) .moved) + scheduled h n .timer
+  unfolding withTimer
+  schedule-timer h =
+      scheduled-cases (λ k. 0 + n .timer ≤ b .timeout * (0 + settle k .moved) + k .timer) h n (λ e. omega arith)
+      (λ e.
+      let moved : ℕ = settle (withTimer 0 (withRunning h n)) .moved in
+      omega (arith, paid (0 + moved) (omega (arith, switch-moves h e))))
+
+  -- T
+  tick-timer : (k : ℕ) → isEmpty (settle (ticks b k (valued 0 n) .node) .node .queue) ≡ false
+      → k + n .timer
+      ≤ b .timeout * (taken (tick k) (ticks b k (valued 0 n)) + settle (ticks b k (valued 0 n) .node) .moved) + ticks b k (valued 0 n) .node .timer
+  unfolding valued withTimer
+  tick-timer k = go (ticked-by v k)
+    where
+      Goal : Effect → Type 0
+      Goal e =
+          isEmpty (settle (e .node) .node .queue) ≡ false
+          → k + n .timer ≤ b .timeout * (taken (tick k) e + settle (e .node) .moved) + e .node .timer
+
+      go : Ticked b k n → Goal (ticks b k (valued 0 n))
+      go (idle q e) = absurd (queue-some q)
+      go (counting q h e) = subst Goal (sym e) (λ s. omega arith)
+      go (timeout q e) = subst Goal (sym e) (λ s. absurd (left-some (withTimer 0 (drain (n .queue) n)) s (drain-queue (n .queue) n)))
+
+  -- D
+  dispose-timer : (l : ℕ)
+      → 0 + n .timer ≤ b .timeout * (0 + cond (eqb (cond (buffered n (n .running)) disposeExtend noTrap) noTrap) 1 0 + l) + 0
+  dispose-timer l = go (buffered n (n .running)) refl
+    where
+      go : (t : Bool)
+          → buffered n (n .running) ≡ t
+          → 0 + n .timer ≤ b .timeout * (0 + cond (eqb (cond t disposeExtend noTrap) noTrap) 1 0 + l) + 0
+      go true t = absurd (queue-some (buffered-empty v t))
+      go false t = omega (arith, paid (0 + 1 + l) (omega arith))
+
+  act-timer : (op : Operation) → refusal b n op ≡ 0 → isEmpty (settle (act b n op .node) .node .queue) ≡ false
+      → tickedBy op true + n .timer ≤ b .timeout * (taken op (act b n op) + settle (act b n op .node) .moved) + act b n op .node .timer
+  unfolding act tickedBy refusal valued taken disposedBy serve extending launched described flagged withGroup queued withQueue disposed withTimer
+  act-timer (arrive h ws) z s = omega arith
+  act-timer (schedule h) z s = schedule-timer h
+  act-timer (tick k) z s = tick-timer k s
+  act-timer (user poll) z s = omega arith
+  act-timer (user (peek i)) z s = omega arith
+  act-timer (user dispose) z s = dispose-timer (settle (disposed b n) .moved)
+  act-timer (user beginAtomic) z s = omega arith
+  act-timer (user endAtomic) z s = omega arith
+  act-timer (user (describe w)) z s = omega arith
+  act-timer (user (launch k)) z s = omega arith
+  act-timer unknown z s = suc-zero z
+
+  -- a step
+  pub step-timer : (op : Operation) → isEmpty (step b n op .node .queue) ≡ false
+      → tickedBy op (eqb (step b n op .report .answer) accepted) + n .timer
+      ≤ b .timeout * leftBy (eventOf n op (step b n op)) + step b n op .node .timer
+  unfolding finish leftBy wasAccepted taken
+  step-timer op = step-cases b n op Goal finished (λ r z s. rw (refusal-answer r, ticked-none op) (omega arith))
+    where
+      Goal : Stepped → Type 0
+      Goal s =
+          isEmpty (s .node .queue) ≡ false
+          → tickedBy op (eqb (s .report .answer) accepted) + n .timer
+          ≤ b .timeout * leftBy (eventOf n op s) + s .node .timer
+
+      finished : refusal b n op ≡ 0 → Goal (finish (act b n op))
+      finished z s =
+          let e : Effect = act b n op in
+          let k : Node = settle (e .node) .node in
+          let left : isEmpty (k .queue) ≡ false = ap isEmpty (sym (upcall-queue k)) ∙ s in
+          let kept : upcall k .timer ≡ e .node .timer = upcall-timer k ∙ settle-keeps (e .node) left in
+          let d : ℕ = disposedBy op (eqb (e .trap) noTrap) in
+          let m : ℕ = settle (e .node) .moved in
+          let order : b .timeout * (e .moved + d + m) ≡ b .timeout * (e .moved + m + d) = ap (λ (x : ℕ). b .timeout * x) (omega arith) in
+          omega (arith, act-timer op z left, order, kept)

@@ -1,0 +1,12 @@
+-- A node stays a node: lists, then buffers and frames, settling, lines, ticks, each operation, a step.
+pub mod EveryLaws
+pub mod ListLaws
+pub mod SoundLaws
+pub mod NodeLaws
+pub mod FrameLaws
+pub mod StoreLaws
+pub mod SettlingLaws
+pub mod LineLaws
+pub mod TickLaws
+pub mod ActLaws
+pub mod StepLaws

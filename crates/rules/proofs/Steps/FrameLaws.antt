@@ -1,0 +1,304 @@
+-- Frames and buffers. A count of frames rounded up is told by two inequalities, enough and the least that is, so that no later proof
+-- divides. Storing finds room or takes a frame, and puts the message behind the waiting ones; removing uses up the first place or frees the
+-- first frame. Either way the buffer stays good, and each frame stands as often as it did, in the free line and the buffer's list together,
+-- which is said for any weight of frames. Assumes nothing.
+use Prim.Native.Nat.{ℕ, _+_, _-_, _*_, _≤_, _<_}
+use mathlib.Core.Path.{_≡_, refl, sym, ap, _∙_}
+use mathlib.Core.Logic.{_≢_}
+use mathlib.Core.Bool.{Bool, true, false, cond, _||_}
+use mathlib.Core.List.{List, [], _∷_, _++_, map, map-append}
+use native.Mathlib.Nat.{not-suc-le-zero, add-suc, lt-div-mul-add, div-mul-le-self, div-eq-of-lt-le, lt-of-mul-lt-mul-right}
+use native.Mathlib.Numerals.{add-one}
+use native.Mathlib.Omega.{arith}
+use lib.Dec.{ltb, eqb}
+use lib.ListN.{length, take, drop, getD, length-append, length-set, length-drop, length-take}
+use lib.Seq.{drop-drop, take-append-le, drop-append-le, take-suc-set, length-take-le}
+use borrow.Author.Tests.{ltb-true, ltb-false, eqb-true, eqb-false}
+use Rattle.rules.specs.Lists.{Every}
+use Rattle.rules.specs.Build.{Build, wordLimit}
+use Rattle.rules.specs.Node.{Message, Frame, Buffer, placeOf, waiting}
+use Rattle.rules.specs.Frames.{Stock, ceilDiv, extended, takeFrame, withRoom, appended, firstFrame, freeFirst, useUp, removeFirst}
+use Rattle.rules.specs.Valid.{GoodMessage, GoodPlace, GoodWaiting, GoodFrame, GoodBuffer, Zero, frameNumber}
+use Rattle.rules.proofs.Steps.EveryLaws.{every-append, every-set, every-take, every-drop}
+use Rattle.rules.proofs.Steps.ListLaws.{take-drop, weight, weight-append, length-pad, drop-pad}
+
+-- a frame count, rounded up, suffices
+pub ceil-enough : (a d : ℕ) → 1 ≤ d → a ≤ ceilDiv a d * d
+unfolding ceilDiv
+ceil-enough a d some = omega (arith, lt-div-mul-add {a = a + (d - 1)} some)
+
+-- and is the least that does
+pub ceil-least : (a d : ℕ) → 1 ≤ d → ceilDiv a d * d < a + d
+unfolding ceilDiv
+ceil-least a d some = omega (arith, div-mul-le-self (a + (d - 1)) d)
+
+-- nothing else is both
+pub ceil-unique : (a d c : ℕ) → a ≤ c * d → c * d < a + d → c ≡ ceilDiv a d
+unfolding ceilDiv
+ceil-unique a d c enough least = sym (div-eq-of-lt-le {k = c} d (omega arith) (omega arith))
+
+-- more messages want no fewer frames
+pub ceil-mono : (a a′ d : ℕ) → 1 ≤ d → a ≤ a′ → ceilDiv a d ≤ ceilDiv a′ d
+ceil-mono a a′ d some le =
+    omega (arith, lt-of-mul-lt-mul-right d {m = ceilDiv a d} {n = ceilDiv a′ d + 1} (omega (arith, ceil-least a d some, ceil-enough a′ d some)))
+
+-- no frames for no messages
+pub ceil-none : (d : ℕ) → 1 ≤ d → 0 ≡ ceilDiv 0 d
+ceil-none d some = ceil-unique 0 d 0 (omega arith) (omega arith)
+
+-- some messages want some frame
+ceil-some : (a d : ℕ) → 1 ≤ d → 1 ≤ a → 1 ≤ ceilDiv a d
+ceil-some a d some more = omega (arith, ceil-mono 1 a d some more, ceil-unique 1 d 1 (omega arith) (omega arith))
+
+-- the frames of a free line and of a buffer's list, together, weigh what they weighed, whatever each weighs: none is lost or doubled
+abbrev pub SameFrames : List Frame → List ℕ → List Frame → List ℕ → Type 0
+SameFrames fs l fs′ l′ = (w : ℕ → ℕ) → weight w (map frameNumber fs) + weight w l ≡ weight w (map frameNumber fs′) + weight w l′
+
+-- frames go between a free line and a buffer, and what was good stays so
+pub record Traded (b : Build) (fs : List Frame) (v : Buffer) (t : Stock) : Type 0 where
+  pub good : GoodBuffer b (t .buffer)
+  pub free-good : Every (GoodFrame b) (t .free)
+  pub weights : SameFrames (t .free) (t .buffer .frames) fs (v .frames)
+
+-- the waiting messages of a good buffer lie within its places
+pub fits : {b : Build} {v : Buffer} → GoodBuffer b v → v .used + v .count ≤ length (v .places)
+fits {b} {v} g = omega (arith, rw (g .list-length) at (g .whole), ceil-enough (v .used + v .count) (b .perFrame) (omega arith))
+
+-- as waiting messages are read: the places up to the last of them, without the used-up ones
+waiting-front : (v : Buffer) → waiting v ≡ drop (v .used) (take (v .used + v .count) (v .places))
+unfolding waiting
+waiting-front v = take-drop (v .used) (v .count) (v .places)
+
+-- a message put behind the waiting ones is the last of them
+waiting-appended : (m : Message) (v : Buffer) → v .used + v .count < length (v .places)
+    → waiting (appended m v) ≡ waiting v ++ (placeOf m ∷ [])
+unfolding appended
+waiting-appended m v room =
+    let inside : v .used ≤ length (take (v .used + v .count) (v .places)) = simp length-take (omega arith) in
+    rw (waiting-front (appended m v), waiting-front v, add-one, add-suc, take-suc-set, drop-append-le)
+
+-- a message as it is kept is a good place, and a good waiting one
+pub placeOf-good : (m : Message) → GoodPlace (placeOf m)
+unfolding placeOf
+placeOf-good m = record { eight = length-pad wordLimit (m .words) }
+
+placeOf-waiting : (m : Message) → GoodMessage m → GoodWaiting (placeOf m)
+unfolding placeOf
+placeOf-waiting m g =
+    record { some-words = g .some-words; few-words = g .few-words; rest-zero = drop-pad Zero refl wordLimit (m .words) }
+
+-- a stock whose buffer is the given one with room for one more message
+record Roomy (b : Build) (fs : List Frame) (v : Buffer) (s : Stock) : Type 0 where
+  used : s .buffer .used ≡ v .used
+  count : s .buffer .count ≡ v .count
+  room : v .used + v .count < length (s .buffer .places)
+  list-length : length (s .buffer .frames) ≡ ceilDiv (v .used + v .count + 1) (b .perFrame)
+  whole : length (s .buffer .places) ≡ length (s .buffer .frames) * b .perFrame
+  places : Every GoodPlace (s .buffer .places)
+  waits : waiting (s .buffer) ≡ waiting v
+  free-good : Every (GoodFrame b) (s .free)
+  weights : SameFrames (s .free) (s .buffer .frames) fs (v .frames)
+
+-- the stock in which the buffer has the message too
+abbrev pub stocked : Message → Stock → Stock
+stocked m s = record { free = s .free; buffer = appended m (s .buffer) }
+
+-- what storing a message does to a free line and a buffer
+pub record Stored (b : Build) (m : Message) (fs : List Frame) (v : Buffer) (t : Stock) : Type 0 where
+  pub traded : Traded b fs v t
+  pub used : t .buffer .used ≡ v .used
+  pub count : t .buffer .count ≡ v .count + 1
+  pub waits : waiting (t .buffer) ≡ waiting v ++ (placeOf m ∷ [])
+
+module _ {b : Build} {v : Buffer} (good : GoodBuffer b v) where
+  -- there is room already
+  roomy-already : (fs : List Frame) → Every (GoodFrame b) fs → v .used + v .count < length (v .places)
+      → Roomy b fs v (record { free = fs; buffer = v })
+  roomy-already fs free-good room =
+      let ends : length (v .frames) * b .perFrame < v .used + v .count + 1 + b .perFrame =
+      omega (arith, ceil-least (v .used + v .count) (b .perFrame) (omega arith), ap (λ (k : ℕ). k * b .perFrame) (good .list-length)) in
+      record {
+        used = refl;
+        count = refl;
+        room = room;
+        list-length = ceil-unique (v .used + v .count + 1) (b .perFrame) (length (v .frames)) (omega (arith, good .whole)) ends;
+        whole = good .whole;
+        places = good .places;
+        waits = refl;
+        free-good = free-good;
+        weights = λ w. refl;
+      }
+
+  -- a frame is taken
+  roomy-taken : (f : Frame) (fs : List Frame) → Every (GoodFrame b) (f ∷ fs) → length (v .places) ≤ v .used + v .count
+      → Roomy b (f ∷ fs) v (takeFrame (f ∷ fs) v)
+  unfolding takeFrame extended frameNumber
+  roomy-taken f fs free-good full =
+      let joined = length-append (v .places) (f .places) in
+      let longer : length (v .frames ++ (f .number ∷ [])) ≡ length (v .frames) + 1 = length-append (v .frames) (f .number ∷ []) in
+      let exact : length (v .frames) * b .perFrame ≡ v .used + v .count = omega (arith, good .whole, fits good) in
+      record {
+        used = refl;
+        count = refl;
+        room = omega (arith, joined, free-good .0 .whole, fits good);
+        list-length =
+            longer ∙ ceil-unique (v .used + v .count + 1) (b .perFrame) (length (v .frames) + 1) (omega arith) (omega arith);
+        whole = rw longer (omega (arith, joined, free-good .0 .whole, good .whole));
+        places = every-append GoodPlace (v .places) (f .places) .1 (good .places, free-good .0 .places);
+        waits =
+            rw (waiting-front (extended f v), waiting-front v, take-append-le (v .used + v .count) (v .places) (f .places) (fits good));
+        free-good = free-good .1;
+        weights = λ w. omega (arith, weight-append w (v .frames) (f .number ∷ []));
+      }
+
+  -- either way there is room, if a full buffer meets a free frame
+  with-room : (fs : List Frame) → Every (GoodFrame b) fs → (length (v .places) ≤ v .used + v .count → 1 ≤ length fs) → Roomy b fs v (withRoom fs v)
+  unfolding withRoom
+  with-room fs free-good frame = go (ltb (v .used + v .count) (length (v .places))) refl
+    where
+      taken : (fs : List Frame) → Every (GoodFrame b) fs → length (v .places) ≤ v .used + v .count → 1 ≤ length fs → Roomy b fs v (takeFrame fs v)
+      taken [] free-good full some = absurd (not-suc-le-zero some)
+      taken (f ∷ fs) free-good full some = roomy-taken f fs free-good full
+
+      go : (t : Bool) → ltb (v .used + v .count) (length (v .places)) ≡ t → Roomy b fs v (cond t (record { free = fs; buffer = v }) (takeFrame fs v))
+      go true e = roomy-already fs free-good (ltb-true _ _ e)
+      go false e = taken fs free-good (ltb-false _ _ e) (frame (ltb-false _ _ e))
+
+  -- a message is stored, if a full buffer meets a free frame
+  pub stored : (m : Message) → GoodMessage m → (fs : List Frame) → Every (GoodFrame b) fs
+      → (length (v .places) ≤ v .used + v .count → 1 ≤ length fs) → Stored b m fs v (stocked m (withRoom fs v))
+  unfolding appended
+  stored m message fs free-good frame =
+      let s = withRoom fs v in
+      let r = with-room fs free-good frame in
+      let at : s .buffer .used + s .buffer .count ≡ v .used + v .count = cc in
+      let ends = waiting-appended m (s .buffer) (rw at (r .room)) in
+      record {
+        traded = record {
+          good = record {
+            used-bound = rw (r .used) (good .used-bound);
+            used-empty = λ none. omega arith;
+            list-length = r .list-length ∙ ap (λ (k : ℕ). ceilDiv k (b .perFrame)) (omega arith);
+            whole = length-set (s .buffer .places) (s .buffer .used + s .buffer .count) (placeOf m) ∙ r .whole;
+            places = every-set GoodPlace (s .buffer .places) (s .buffer .used + s .buffer .count) (placeOf m) (r .places) (placeOf-good m);
+            waiting-good =
+                rw (ends, r .waits)
+                (every-append GoodWaiting (waiting v) (placeOf m ∷ []) .1 (good .waiting-good, (placeOf-waiting m message, tt)));
+          };
+          free-good = r .free-good;
+          weights = r .weights;
+        };
+        used = r .used;
+        count = rw (r .count);
+        waits = ends ∙ rw (r .waits);
+      }
+
+-- what removing the first message does to a free line and a buffer
+pub record Removed (b : Build) (fs : List Frame) (v : Buffer) (t : Stock) : Type 0 where
+  pub traded : Traded b fs v t
+  pub less : t .buffer .used + t .buffer .count ≤ v .used + v .count
+  pub waits : waiting (t .buffer) ≡ drop 1 (waiting v)
+
+-- a list's first element weighs what the rest lacks
+weight-first : (w : ℕ → ℕ) (xs : List ℕ) → 1 ≤ length xs → w (getD xs 0 0) + weight w (drop 1 xs) ≡ weight w xs
+weight-first w [] some = absurd (not-suc-le-zero some)
+weight-first w (x ∷ xs) some = refl
+
+module _ {b : Build} {v : Buffer} (good : GoodBuffer b v) (some : 1 ≤ v .count) where
+  -- the waiting messages but the first, as they are read behind it
+  waiting-rest : take (v .count - 1) (drop (v .used + 1) (v .places)) ≡ drop 1 (waiting v)
+  unfolding waiting
+  waiting-rest =
+      let count : 1 + (v .count - 1) ≡ v .count = omega arith in
+      rw (← drop-drop 1 (v .used) (v .places), take-drop 1 (v .count - 1) (drop (v .used) (v .places)), count)
+
+  -- the buffer has a frame, and the others are one less
+  pub held : 1 ≤ length (v .frames)
+  held = rw (good .list-length) (ceil-some (v .used + v .count) (b .perFrame) (omega arith) (omega arith))
+
+  fewer : length (v .frames) ≡ length (drop 1 (v .frames)) + 1
+  fewer = omega (arith, held, length-drop 1 (v .frames))
+
+  -- the first place is used up, and its frame stays
+  removed-used : (fs : List Frame) → Every (GoodFrame b) fs → v .count ≢ 1 → v .used + 1 ≢ b .perFrame → Removed b fs v (useUp fs v)
+  unfolding useUp waiting
+  removed-used fs free-good more inside =
+      record {
+        traded = record {
+          good = record {
+            used-bound = omega arith;
+            used-empty = λ none. omega arith;
+            list-length = good .list-length ∙ ap (λ (k : ℕ). ceilDiv k (b .perFrame)) (omega arith);
+            whole = good .whole;
+            places = good .places;
+            waiting-good = rw waiting-rest (every-drop GoodWaiting 1 (waiting v) (good .waiting-good));
+          };
+          free-good = free-good;
+          weights = λ w. refl;
+        };
+        less = omega arith;
+        waits = waiting-rest;
+      }
+
+  -- the first frame is freed
+  removed-freed : (fs : List Frame) → Every (GoodFrame b) fs → length (drop 1 (v .frames)) ≡ ceilDiv (0 + (v .count - 1)) (b .perFrame)
+      → take (v .count - 1) (drop (b .perFrame) (v .places)) ≡ take (v .count - 1) (drop (v .used + 1) (v .places))
+      → Removed b fs v (freeFirst b fs v)
+  unfolding freeFirst firstFrame waiting frameNumber
+  removed-freed fs free-good lists front =
+      let places : length (v .places) ≡ length (drop 1 (v .frames)) * b .perFrame + b .perFrame =
+      omega (arith, good .whole, ap (λ (k : ℕ). k * b .perFrame) fewer) in
+      record {
+        traded = record {
+          good = record {
+            used-bound = omega arith;
+            used-empty = λ none. refl;
+            list-length = lists;
+            whole = omega (arith, length-drop (b .perFrame) (v .places));
+            places = every-drop GoodPlace (b .perFrame) (v .places) (good .places);
+            waiting-good = rw (front, waiting-rest) (every-drop GoodWaiting 1 (waiting v) (good .waiting-good));
+          };
+          free-good = every-append (GoodFrame b) fs (firstFrame b v ∷ []) .1 (
+            free-good,
+            (
+              record {
+                whole = length-take-le (b .perFrame) (v .places) (omega arith);
+                places = every-take GoodPlace (b .perFrame) (v .places) (good .places);
+              },
+              tt,
+            ),
+          );
+          weights = λ w.
+              rw map-append (omega (arith, weight-append w (map frameNumber fs) (getD (v .frames) 0 0 ∷ []), weight-first w (v .frames) held));
+        };
+        less = omega arith;
+        waits = front ∙ waiting-rest;
+      }
+
+  -- where the last message goes, its frame is the only one
+  removed-last : (fs : List Frame) → Every (GoodFrame b) fs → v .count ≡ 1 → Removed b fs v (freeFirst b fs v)
+  removed-last fs free-good last =
+      let only : 1 ≡ ceilDiv (v .used + v .count) (b .perFrame) = ceil-unique (v .used + v .count) (b .perFrame) 1 (omega arith) (omega arith) in
+      let lists : length (drop 1 (v .frames)) ≡ 0 = omega (arith, good .list-length, fewer) in
+      let none : v .count - 1 ≡ 0 = omega arith in
+      removed-freed fs free-good (lists ∙ ceil-unique (0 + (v .count - 1)) (b .perFrame) 0 (omega arith) (omega arith)) (rw none)
+
+  -- where the first frame is used up, the others hold the rest
+  removed-frame : (fs : List Frame) → Every (GoodFrame b) fs → v .used + 1 ≡ b .perFrame → Removed b fs v (freeFirst b fs v)
+  removed-frame fs free-good whole =
+      let spread = ap (λ (k : ℕ). k * b .perFrame) (sym (good .list-length) ∙ fewer) in
+      let enough = ceil-enough (v .used + v .count) (b .perFrame) (omega arith) in
+      let least = ceil-least (v .used + v .count) (b .perFrame) (omega arith) in
+      let lists = ceil-unique (0 + (v .count - 1)) (b .perFrame) (length (drop 1 (v .frames))) (omega arith) (omega arith) in
+      removed-freed fs free-good lists (rw whole)
+
+  -- the first message is removed
+  pub removed-first : (fs : List Frame) → Every (GoodFrame b) fs → Removed b fs v (removeFirst b fs v)
+  unfolding removeFirst
+  removed-first fs free-good = go (eqb (v .count) 1) refl (eqb (v .used + 1) (b .perFrame)) refl
+    where
+      go : (t : Bool) → eqb (v .count) 1 ≡ t → (u : Bool) → eqb (v .used + 1) (b .perFrame) ≡ u
+          → Removed b fs v (cond (t || u) (freeFirst b fs v) (useUp fs v))
+      go true e u f = removed-last fs free-good (eqb-true _ _ e)
+      go false e true f = removed-frame fs free-good (eqb-true _ _ f)
+      go false e false f = removed-used fs free-good (eqb-false _ _ e) (eqb-false _ _ f)

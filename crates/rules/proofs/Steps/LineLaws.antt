@@ -1,0 +1,188 @@
+-- What arrivals and disposals do to lines. An arrival joins the end of one line. A disposal takes the first of the running group's line: the
+-- buffer's first where the group is buffered, else the queue's head, which is the group's since a head that stays is the running group's.
+-- Assumes nothing.
+use Prim.Native.Nat.{ℕ, _≤_}
+use mathlib.Core.Path.{_≡_, refl, sym, ap, _∙_}
+use mathlib.Core.Logic.{_≢_}
+use mathlib.Core.Bool.{Bool, true, false, true≢false, cond, not, and-eq-true-iff}
+use mathlib.Core.List.{List, [], _∷_, _++_, map, append-assoc}
+use native.Mathlib.Decide.{ℕ-discrete}
+use native.Mathlib.Omega.{arith}
+use lib.Dec.{eqb}
+use lib.ListN.{length, drop, length-drop, length-take, length-map}
+use lib.Seq.{drop-append-le}
+use borrow.Author.Tests.{ltb-true, ltb-false, eqb-true, eq-eqb, ne-eqb, not-true}
+use Rattle.rules.specs.Lists.{filter, isEmpty}
+use Rattle.rules.specs.Build.{Build, groupCount}
+use Rattle.rules.specs.Node.{Message, Place, Buffer, Node, groupOf, withQueue, withFree, withGroup, buffered, messageOf, waiting, isOf, inBuffer, inQueue, line}
+use Rattle.rules.specs.Frames.{removeFirst, withStock}
+use Rattle.rules.specs.Refusal.{queued}
+use Rattle.rules.specs.Settling.{mayStay}
+use Rattle.rules.specs.Step.{withoutFirst, removed}
+use Rattle.rules.specs.Valid.{Valid}
+use Rattle.rules.specs.Sound.{Sound}
+use Rattle.rules.proofs.Steps.SoundLaws.{SameFlags, flags-refl, valid-sound}
+use Rattle.rules.proofs.Steps.ListLaws.{filter-pass, filter-fail, filter-tail, filter-append, map-drop}
+use Rattle.rules.proofs.Steps.FrameLaws.{fits, removed-first}
+use Rattle.rules.proofs.Steps.NodeLaws.{is-of, not-of, stock-same, stock-other, within, group-good, line-same, restocked-flags}
+
+-- an arrival joins the end of its group's line
+pub arrive-line : (m : Message) (n : Node) (g : ℕ) → line (queued m n) g ≡ line n g ++ filter (isOf g) (m ∷ [])
+unfolding line queued withQueue inBuffer inQueue groupOf
+arrive-line m n g =
+    ap (λ (ms : List Message). inBuffer n g ++ ms) (filter-append (isOf g) (n .queue) (m ∷ []))
+    ∙ sym (append-assoc (inBuffer n g) (inQueue n g) (filter (isOf g) (m ∷ [])))
+
+-- a head that stays is the running group's, and that is direct
+pub stays : (n : Node) (m : Message) → mayStay n m ≡ true → (m .group ≡ n .running) × (buffered n (n .running) ≡ false)
+unfolding mayStay
+stays n m e =
+    let tests = and-eq-true-iff (eqb (m .group) (n .running)) (not (buffered n (m .group))) .0 e in
+    let same = eqb-true (m .group) (n .running) (tests .0) in
+    (same, rw same at (not-true (buffered n (m .group)) (tests .1)))
+
+-- a running group that is buffered meets an empty queue
+pub buffered-empty : {b : Build} {n : Node} → Valid b n → buffered n (n .running) ≡ true → n .queue ≡ []
+buffered-empty {b} {n} v yes′ = go (n .queue) refl
+  where
+    go : (q : List Message) → n .queue ≡ q → n .queue ≡ []
+    go [] e = e
+    go (m ∷ q) e = let direct = stays n m (v .head-stays m q e) .1 in cc
+
+-- a direct group has its line in the queue
+pub direct-line : (n : Node) (g : ℕ) → buffered n g ≡ false → line n g ≡ inQueue n g
+unfolding buffered line inBuffer waiting
+direct-line n g direct =
+    let none : groupOf n g .buffer .count ≡ 0 = omega (arith, ltb-false 0 (groupOf n g .buffer .count) direct) in
+    rw none
+
+-- a running group that is direct and has a line has the queue's head
+pub direct-head : {b : Build} {n : Node} → Valid b n → buffered n (n .running) ≡ false → isEmpty (line n (n .running)) ≡ false
+    → (m : Message) × (q : List Message) × (n .queue ≡ m ∷ q) × (m .group ≡ n .running)
+unfolding inQueue
+direct-head {b} {n} v direct some = go (n .queue) refl (rw (direct-line n (n .running) direct) at some)
+  where
+    go : (q : List Message) → n .queue ≡ q → isEmpty (filter (isOf (n .running)) q) ≡ false
+        → (m : Message) × (q : List Message) × (n .queue ≡ m ∷ q) × (m .group ≡ n .running)
+    go [] e some = absurd (true≢false some)
+    go (m ∷ q) e some = (m, q, e, stays n m (v .head-stays m q e) .0)
+
+-- a disposal takes from the buffer where the running group is buffered, else from the queue
+pub removed-cases : (P : Node → Type 0) (b : Build) (n : Node)
+    → (buffered n (n .running) ≡ true → P (withStock (n .running) (removeFirst b (n .free) (groupOf n (n .running) .buffer)) n))
+    → (buffered n (n .running) ≡ false → P (withQueue (withoutFirst (n .running) (n .queue)) n)) → P (removed b n)
+unfolding removed
+removed-cases P b n buffer queue = go (buffered n (n .running)) refl
+  where
+    go : (t : Bool) → buffered n (n .running) ≡ t
+        → P (cond t
+        (withStock (n .running) (removeFirst b (n .free) (groupOf n (n .running) .buffer)) n)
+        (withQueue (withoutFirst (n .running) (n .queue)) n))
+    go true e = buffer e
+    go false e = queue e
+
+-- flags and descriptors stay
+pub removed-flags : (b : Build) (n : Node) (g : ℕ) → SameFlags (groupOf (removed b n) g) (groupOf n g)
+unfolding groupOf withQueue
+removed-flags b n g =
+    removed-cases (λ r. SameFlags (groupOf r g) (groupOf n g)) b n
+    (λ e. restocked-flags (n .running) (removeFirst b (n .free) (groupOf n (n .running) .buffer)) n g) (λ e. flags-refl)
+
+-- and so does the running group
+pub removed-running : (b : Build) (n : Node) → removed b n .running ≡ n .running
+unfolding withStock withGroup withFree withQueue
+removed-running b n = removed-cases (λ r. r .running ≡ n .running) b n (λ e. refl) (λ e. refl)
+
+-- the queue stays where the group is buffered
+pub removed-queue-buffered : (b : Build) (n : Node) → buffered n (n .running) ≡ true → removed b n .queue ≡ n .queue
+unfolding withStock withGroup withFree
+removed-queue-buffered b n e = removed-cases (λ r. r .queue ≡ n .queue) b n (λ e′. refl) (λ e′. cc)
+
+-- a queue without the first message of a group: the head where it is the group's
+without-head : (g : ℕ) (m : Message) (q : List Message) → m .group ≡ g → withoutFirst g (m ∷ q) ≡ q
+unfolding withoutFirst isOf
+without-head g m q same =
+    ap (λ (t : Bool). elim t as (λ u. List Message) [ true ↦ q | false ↦ m ∷ withoutFirst g q ]) (eq-eqb (m .group) g same)
+
+-- without a head that is not
+without-later : (g : ℕ) (m : Message) (q : List Message) → m .group ≢ g → withoutFirst g (m ∷ q) ≡ m ∷ withoutFirst g q
+unfolding withoutFirst isOf
+without-later g m q other =
+    ap (λ (t : Bool). elim t as (λ u. List Message) [ true ↦ q | false ↦ m ∷ withoutFirst g q ]) (ne-eqb (m .group) g other)
+
+-- of the group it lacks the first, of any other nothing
+without-own : (g : ℕ) (q : List Message) → filter (isOf g) (withoutFirst g q) ≡ drop 1 (filter (isOf g) q)
+unfolding withoutFirst
+without-own g [] = refl
+without-own g (m ∷ q) = go (ℕ-discrete (m .group) g) (without-own g q)
+  where
+    go : Dec (m .group ≡ g) → filter (isOf g) (withoutFirst g q) ≡ drop 1 (filter (isOf g) q)
+        → filter (isOf g) (withoutFirst g (m ∷ q)) ≡ drop 1 (filter (isOf g) (m ∷ q))
+    go (yes same) later = ap (filter (isOf g)) (without-head g m q same) ∙ ap (drop 1) (sym (filter-pass (isOf g) m q (is-of g m same)))
+    go (no other) later =
+        ap (filter (isOf g)) (without-later g m q other)
+        ∙ filter-fail (isOf g) m (withoutFirst g q) (not-of g m other)
+        ∙ later
+        ∙ ap (drop 1) (sym (filter-fail (isOf g) m q (not-of g m other)))
+
+without-other : (g h : ℕ) → h ≢ g → (q : List Message) → filter (isOf h) (withoutFirst g q) ≡ filter (isOf h) q
+unfolding withoutFirst
+without-other g h other [] = refl
+without-other g h other (m ∷ q) = go (ℕ-discrete (m .group) g) (without-other g h other q)
+  where
+    go : Dec (m .group ≡ g) → filter (isOf h) (withoutFirst g q) ≡ filter (isOf h) q
+        → filter (isOf h) (withoutFirst g (m ∷ q)) ≡ filter (isOf h) (m ∷ q)
+    go (yes same) later =
+        ap (filter (isOf h)) (without-head g m q same) ∙ sym (filter-fail (isOf h) m q (not-of h m (λ mine. other (sym mine ∙ same))))
+    go (no later-first) later = ap (filter (isOf h)) (without-later g m q later-first) ∙ filter-tail (isOf h) m (withoutFirst g q) q later
+
+-- a queue without the running group's first message has lost its head
+pub without-running : {b : Build} {n : Node} → Valid b n → withoutFirst (n .running) (n .queue) ≡ drop 1 (n .queue)
+unfolding withoutFirst
+without-running {b} {n} v = go (n .queue) refl
+  where
+    go : (q : List Message) → n .queue ≡ q → withoutFirst (n .running) q ≡ drop 1 q
+    go [] same = refl
+    go (m ∷ q) same = without-head (n .running) m q (stays n m (v .head-stays m q same) .0)
+
+-- so the queue loses its head where the group is direct
+pub removed-queue-direct : {b : Build} {n : Node} → Valid b n → buffered n (n .running) ≡ false → removed b n .queue ≡ drop 1 (n .queue)
+unfolding withQueue
+removed-queue-direct {b} {n} v e = removed-cases (λ r. r .queue ≡ drop 1 (n .queue)) b n (λ e′. cc) (λ e′. without-running v)
+
+-- a group without its buffer's first message has lost the first of its line
+unbuffered-line : {b : Build} {n : Node} → Sound b n → (g : ℕ) → 1 ≤ g → g ≤ groupCount → buffered n g ≡ true
+    → line (withStock g (removeFirst b (n .free) (groupOf n g .buffer)) n) g ≡ drop 1 (line n g)
+unfolding line buffered inBuffer inQueue waiting withStock withGroup withFree
+unbuffered-line {b} {n} s g low high e =
+    let w = groupOf n g .buffer in
+    let queue = filter (isOf g) (n .queue) in
+    let good = group-good s g low high .buffer in
+    let some = ltb-true 0 (w .count) e in
+    let gone = removed-first good some (n .free) (s .free-good) in
+    let front : 1 ≤ length (map (messageOf g) (waiting w)) = simp (length-map, length-take, length-drop) (omega (arith, fits good)) in
+    ap (λ (u : Buffer). map (messageOf g) (waiting u) ++ queue) (stock-same g (removeFirst b (n .free) w) n (within s g low high))
+    ∙ ap (λ (ps : List Place). map (messageOf g) ps ++ queue) (gone .waits)
+    ∙ ap (λ (ms : List Message). ms ++ queue) (map-drop (messageOf g) 1 (waiting w))
+    ∙ sym (drop-append-le 1 (map (messageOf g) (waiting w)) queue front)
+
+-- so has a direct one without its first message in the queue
+unqueued-line : (n : Node) (g : ℕ) → buffered n g ≡ false → line (withQueue (withoutFirst g (n .queue)) n) g ≡ drop 1 (line n g)
+unfolding withQueue inQueue buffered groupOf
+unqueued-line n g e =
+    direct-line (withQueue (withoutFirst g (n .queue)) n) g e ∙ without-own g (n .queue) ∙ ap (drop 1) (sym (direct-line n g e))
+
+-- a disposal takes the first of the running group's line
+pub removed-line : {b : Build} {n : Node} → Valid b n → 1 ≤ n .running → line (removed b n) (n .running) ≡ drop 1 (line n (n .running))
+removed-line {b} {n} v low =
+    removed-cases (λ r. line r (n .running) ≡ drop 1 (line n (n .running))) b n
+    (unbuffered-line (valid-sound v) (n .running) low (v .running-bound)) (unqueued-line n (n .running))
+
+-- and leaves the others
+pub removed-other : (b : Build) (n : Node) → 1 ≤ n .running → (h : ℕ) → 1 ≤ h → h ≢ n .running → line (removed b n) h ≡ line n h
+unfolding line inBuffer inQueue withStock withGroup withFree withQueue groupOf
+removed-other b n low h low′ other =
+    let t = removeFirst b (n .free) (groupOf n (n .running) .buffer) in
+    removed-cases (λ r. line r h ≡ line n h) b n
+    (λ e. line-same n (withStock (n .running) t n) h (stock-other (n .running) h t n low low′ other) refl)
+    (λ e. ap (λ (ms : List Message). inBuffer n h ++ ms) (without-other (n .running) h other (n .queue)))

@@ -1,0 +1,215 @@
+-- Settling and draining, which are storing again and again: a sound node stays sound, and every line, flag and descriptor and the running
+-- group are as they were. Of the queue they take the front: moved counts what is gone, and a head that is left may stay. Assumes nothing.
+use Prim.Native.Nat.{ℕ, _+_, _≤_}
+use mathlib.Core.Path.{_≡_, refl, sym, ap, _∙_}
+use mathlib.Core.Bool.{Bool, true, false, cond}
+use mathlib.Core.List.{List, [], _∷_}
+use native.Mathlib.Nat.{zero-add}
+use native.Mathlib.Omega.{arith}
+use lib.ListN.{length, drop}
+use Rattle.rules.specs.Lists.{isEmpty}
+use Rattle.rules.specs.Build.{Build, groupCount}
+use Rattle.rules.specs.Node.{Message, Group, Node, groupOf, withTimer, withQueue, withFree, withGroup, withFlags, buffered, inBuffer, inQueue, line}
+use Rattle.rules.specs.Frames.{store, withStock}
+use Rattle.rules.specs.Settling.{Moved, oneMore, mayStay, pass, restTimer, settle, drain, calls, upcall}
+use Rattle.rules.specs.Sound.{Sound}
+use Rattle.rules.proofs.Steps.SoundLaws.{SameFlags, flags-refl, flags-trans}
+use Rattle.rules.proofs.Steps.NodeLaws.{sound-timer}
+use Rattle.rules.proofs.Steps.StoreLaws.{store-sound, store-line, store-flags}
+
+-- what holds of a pass that ends and is handed on by a message stored holds of every pass
+pass-induct : (P : List Message → Node → Moved → Type 0)
+    → ((n : Node) → P [] n (record { node = withQueue [] n; moved = 0 }))
+    → ((m : Message) (q : List Message) (n : Node) → mayStay n m ≡ true → P (m ∷ q) n (record { node = withQueue (m ∷ q) n; moved = 0 }))
+    → ((m : Message) (q : List Message) (n : Node) (s : Moved) → P q (store m n) s → P (m ∷ q) n (oneMore s))
+    → (q : List Message) (n : Node) → P q n (pass q n)
+unfolding pass
+pass-induct P done stays moves [] n = done n
+pass-induct P done stays moves (m ∷ q) n = go (mayStay n m) refl (pass-induct P done stays moves q (store m n))
+  where
+    go : (t : Bool) → mayStay n m ≡ t → P q (store m n) (pass q (store m n))
+        → P (m ∷ q) n (elim t [ true ↦ record { node = withQueue (m ∷ q) n; moved = 0 } | false ↦ oneMore (pass q (store m n)) ])
+    go true e later = stays m q n e
+    go false e later = moves m q n (pass q (store m n)) later
+
+-- a pass leaves a sound node
+pub pass-sound : {b : Build} (q : List Message) (n : Node) → Sound b (withQueue q n) → Sound b (pass q n .node)
+unfolding oneMore
+pass-sound {b} =
+    pass-induct (λ q n s. Sound b (withQueue q n) → Sound b (s .node)) (λ n h. h) (λ m q n e h. h) (λ m q n s later h. later (store-sound m q n h))
+
+-- and every line
+pub pass-line : {b : Build} (q : List Message) (n : Node) → Sound b (withQueue q n) → (g : ℕ) → 1 ≤ g → g ≤ groupCount
+    → line (pass q n .node) g ≡ line (withQueue q n) g
+unfolding oneMore
+pass-line {b} =
+    pass-induct (λ q n s. Sound b (withQueue q n) → (g : ℕ) → 1 ≤ g → g ≤ groupCount → line (s .node) g ≡ line (withQueue q n) g)
+    (λ n h g low high. refl) (λ m q n e h g low high. refl)
+    (λ m q n s later h g low high. later (store-sound m q n h) g low high ∙ store-line m q n h g low high)
+
+-- flags and descriptors
+pub pass-flags : (q : List Message) (n : Node) (g : ℕ) → SameFlags (groupOf (pass q n .node) g) (groupOf n g)
+unfolding oneMore groupOf withQueue
+pass-flags =
+    pass-induct (λ q n s. (g : ℕ) → SameFlags (groupOf (s .node) g) (groupOf n g))
+    (λ n g. flags-refl) (λ m q n e g. flags-refl) (λ m q n s later g. flags-trans (later g) (store-flags m n g))
+
+-- storing, and so a pass, leaves the running group
+store-running : (m : Message) (n : Node) → store m n .running ≡ n .running
+unfolding store withStock withGroup withFree
+store-running m n = refl
+
+pub pass-running : (q : List Message) (n : Node) → pass q n .node .running ≡ n .running
+unfolding oneMore withQueue
+pass-running =
+    pass-induct (λ q n s. s .node .running ≡ n .running) (λ n. refl) (λ m q n e. refl) (λ m q n s later. later ∙ store-running m n)
+
+-- of the queue it leaves what it has not moved
+pub pass-queue : (q : List Message) (n : Node) → pass q n .node .queue ≡ drop (pass q n .moved) q
+unfolding oneMore withQueue
+pass-queue = pass-induct (λ q n s. s .node .queue ≡ drop (s .moved) q) (λ n. refl) (λ m q n e. refl) (λ m q n s later. later)
+
+pub pass-moved : (q : List Message) (n : Node) → pass q n .moved + length (pass q n .node .queue) ≡ length q
+unfolding oneMore withQueue
+pass-moved =
+    pass-induct (λ q n s. s .moved + length (s .node .queue) ≡ length q) (λ n. refl) (λ m q n e. zero-add _) (λ m q n s later. omega arith)
+
+-- a head that it leaves may stay
+pub pass-head : (q : List Message) (n : Node) (m : Message) (r : List Message) → pass q n .node .queue ≡ m ∷ r → mayStay (pass q n .node) m ≡ true
+unfolding oneMore withQueue mayStay buffered groupOf
+pass-head =
+    pass-induct (λ q n s. (m : Message) (r : List Message) → s .node .queue ≡ m ∷ r → mayStay (s .node) m ≡ true)
+    (λ n m r none. cc) (λ m q n e m′ r same. let first : m ≡ m′ = cc in rw first at e) (λ m q n s later. later)
+
+-- the timer is no part of a line
+pub timer-line : (t : ℕ) (n : Node) (g : ℕ) → line (withTimer t n) g ≡ line n g
+unfolding withTimer line inBuffer inQueue groupOf
+timer-line t n g = refl
+
+-- a timer put to rest, or not
+rest-cases : (P : Node → Type 0) (n : Node) → P (withTimer 0 n) → P n → P (restTimer n)
+unfolding restTimer
+rest-cases P n rest runs = go (isEmpty (n .queue))
+  where
+    go : (t : Bool) → P (cond t (withTimer 0 n) n)
+    go true = rest
+    go false = runs
+
+-- settling leaves a sound node
+pub settle-sound : {b : Build} {n : Node} → Sound b n → Sound b (settle n .node)
+unfolding settle withQueue
+settle-sound {b} {n} s =
+    let p = pass-sound (n .queue) n s in
+    rest-cases (Sound b) (pass (n .queue) n .node) (sound-timer p 0 (omega (arith, s .timer-bound))) p
+
+-- every line
+pub settle-line : {b : Build} {n : Node} → Sound b n → (g : ℕ) → 1 ≤ g → g ≤ groupCount → line (settle n .node) g ≡ line n g
+unfolding settle withQueue
+settle-line {b} {n} s g low high =
+    let p = pass (n .queue) n .node in
+    rest-cases (λ r. line r g ≡ line p g) p (timer-line 0 p g) refl ∙ pass-line (n .queue) n s g low high
+
+-- flags and descriptors
+pub settle-flags : (n : Node) (g : ℕ) → SameFlags (groupOf (settle n .node) g) (groupOf n g)
+unfolding settle groupOf withTimer
+settle-flags n g =
+    let p = pass-flags (n .queue) n g in
+    rest-cases (λ r. SameFlags (groupOf r g) (groupOf n g)) (pass (n .queue) n .node) p p
+
+-- and the running group
+pub settle-running : (n : Node) → settle n .node .running ≡ n .running
+unfolding settle withTimer
+settle-running n =
+    let p = pass-running (n .queue) n in
+    rest-cases (λ r. r .running ≡ n .running) (pass (n .queue) n .node) p p
+
+-- of the queue it leaves what it has not moved
+settled-queue : (n : Node) → settle n .node .queue ≡ pass (n .queue) n .node .queue
+unfolding settle withTimer
+settled-queue n =
+    let p = pass (n .queue) n .node in
+    rest-cases (λ r. r .queue ≡ p .queue) p refl refl
+
+pub settle-queue : (n : Node) → settle n .node .queue ≡ drop (settle n .moved) (n .queue)
+unfolding settle
+settle-queue n = settled-queue n ∙ pass-queue (n .queue) n
+
+pub settle-moved : (n : Node) → settle n .moved + length (settle n .node .queue) ≡ length (n .queue)
+unfolding settle
+settle-moved n = ap (λ (q : List Message). pass (n .queue) n .moved + length q) (settled-queue n) ∙ pass-moved (n .queue) n
+
+-- a head that it leaves may stay
+pub settle-head : (n : Node) (m : Message) (q : List Message) → settle n .node .queue ≡ m ∷ q → mayStay (settle n .node) m ≡ true
+unfolding settle withTimer mayStay buffered groupOf
+settle-head n m q head =
+    let stays = pass-head (n .queue) n m q (sym (settled-queue n) ∙ head) in
+    rest-cases (λ r. mayStay r m ≡ true) (pass (n .queue) n .node) stays stays
+
+-- where it leaves none the timer is 0
+pub settle-timer : (n : Node) → settle n .node .queue ≡ [] → settle n .node .timer ≡ 0
+unfolding settle restTimer withTimer
+settle-timer n none =
+    let p = pass (n .queue) n .node in
+    ap (λ (q : List Message). cond (isEmpty q) (withTimer 0 p) p .timer) (sym (settled-queue n) ∙ none)
+
+-- where a message stays, the timer stays too
+pass-timer : (q : List Message) (n : Node) → pass q n .node .timer ≡ n .timer
+unfolding oneMore withQueue store withStock withGroup withFree
+pass-timer = pass-induct (λ q n s. s .node .timer ≡ n .timer) (λ n. refl) (λ m q n e. refl) (λ m q n s later. later)
+
+pub settle-keeps : (n : Node) → isEmpty (settle n .node .queue) ≡ false → settle n .node .timer ≡ n .timer
+unfolding settle restTimer withTimer
+settle-keeps n some =
+    let p = pass (n .queue) n .node in
+    ap (λ (t : Bool). cond t (withTimer 0 p) p .timer) (ap isEmpty (sym (settled-queue n)) ∙ some) ∙ pass-timer (n .queue) n
+
+-- a head that may not stay moves
+pub pass-moves : (m : Message) (q : List Message) (n : Node) → mayStay n m ≡ false → 1 ≤ pass (m ∷ q) n .moved
+unfolding pass oneMore
+pass-moves m q n e = rw (e, pass) (omega arith)
+
+-- draining leaves a sound node
+pub drain-sound : {b : Build} (q : List Message) (n : Node) → Sound b (withQueue q n) → Sound b (drain q n)
+unfolding drain
+drain-sound [] n s = s
+drain-sound (m ∷ q) n s = drain-sound q (store m n) (store-sound m q n s)
+
+-- every line
+pub drain-line : {b : Build} (q : List Message) (n : Node) → Sound b (withQueue q n) → (g : ℕ) → 1 ≤ g → g ≤ groupCount
+    → line (drain q n) g ≡ line (withQueue q n) g
+unfolding drain
+drain-line [] n s g low high = refl
+drain-line (m ∷ q) n s g low high = drain-line q (store m n) (store-sound m q n s) g low high ∙ store-line m q n s g low high
+
+-- flags and descriptors
+pub drain-flags : (q : List Message) (n : Node) (g : ℕ) → SameFlags (groupOf (drain q n) g) (groupOf n g)
+unfolding drain groupOf withQueue
+drain-flags [] n g = flags-refl
+drain-flags (m ∷ q) n g = flags-trans (drain-flags q (store m n) g) (store-flags m n g)
+
+-- and the running group
+pub drain-running : (q : List Message) (n : Node) → drain q n .running ≡ n .running
+unfolding drain withQueue
+drain-running [] n = refl
+drain-running (m ∷ q) n = drain-running q (store m n) ∙ store-running m n
+
+-- the queue is then empty
+pub drain-queue : (q : List Message) (n : Node) → drain q n .queue ≡ []
+unfolding drain withQueue
+drain-queue [] n = refl
+drain-queue (m ∷ q) n = drain-queue q (store m n)
+
+-- an upcall changes the running group's flags where one is due, and else nothing
+pub upcall-cases : (P : Node → Type 0) (n : Node)
+    → (calls n ≡ true → P (withGroup (n .running) (withFlags true true (groupOf n (n .running))) n))
+    → (calls n ≡ false → P n) → P (upcall n)
+unfolding upcall
+upcall-cases P n due quiet = go (calls n) refl
+  where
+    go : (t : Bool) → calls n ≡ t → P (cond t (withGroup (n .running) (withFlags true true (groupOf n (n .running))) n) n)
+    go true e = due e
+    go false e = quiet e
+
+-- so it leaves what does not look at the groups
+pub upcall-kept : {A : Type 0} (f : Node → A) (n : Node) → ((G : Group) → f (withGroup (n .running) G n) ≡ f n) → f (upcall n) ≡ f n
+upcall-kept f n same = upcall-cases (λ k. f k ≡ f n) n (λ e. same (withFlags true true (groupOf n (n .running)))) (λ e. refl)

@@ -1,0 +1,248 @@
+-- Power-on makes a node, and a node stays a node. At power-on every group is empty and wants no frame, and the free line has each frame
+-- once. What an accepted operation leaves is settled, so that a head that is left may stay and an empty queue has its timer at rest, and
+-- then called up, so that a running group with a line is atomic. A refused step leaves the node. Assumes nothing.
+use Prim.Native.Nat.{ℕ, zero, suc, _≤_, pred}
+use mathlib.Core.Path.{_≡_, refl, sym, subst, ap, _∙_}
+use mathlib.Core.Logic.{_≢_}
+use mathlib.Core.Bool.{Bool, true, false, true≢false, not, _&&_, false≢true, and-eq-true-iff}
+use mathlib.Core.List.{List, [], _∷_, map, append-nil}
+use native.Mathlib.Omega.{arith}
+use native.Mathlib.Nat.{zero-mul, not-suc-le-zero}
+use lib.Dec.{ltb, eqb}
+use lib.ListN.{length, getD, replicate, length-replicate}
+use borrow.Author.Tests.{eqb-false, ne-eqb, not-true}
+use Rattle.rules.specs.Lists.{isEmpty, concatMap, countOf, upFrom}
+use Rattle.rules.specs.Build.{Build, Sensible, groupCount}
+use Rattle.rules.specs.Node.{Message, Buffer, Group, Node, groupOf, withGroup, withFlags, buffered, line, emptyPlace, emptyFrame, emptyGroup, powerOn, waiting, inQueue}
+use Rattle.rules.specs.Frames.{pledge, pledges}
+use Rattle.rules.specs.Operation.{refused, Operation}
+use Rattle.rules.specs.Refusal.{refusal}
+use Rattle.rules.specs.Settling.{mayStay, settle, calls, upcall}
+use Rattle.rules.specs.Step.{Effect, Stepped, act, finish, step}
+use Rattle.rules.specs.Valid.{GoodGroup, Valid, GoodPlace, GoodFrame, frameList, frameNumber, frameNumbers}
+use Rattle.rules.specs.Sound.{Sound}
+use Rattle.rules.proofs.Steps.EveryLaws.{every-replicate, every-map}
+use Rattle.rules.proofs.Steps.ListLaws.{sum-le, count-within, length-upFrom}
+use Rattle.rules.proofs.Steps.FrameLaws.{ceil-none}
+use Rattle.rules.proofs.Steps.NodeLaws.{group-same, kept, within, group-good, reflagged}
+use Rattle.rules.proofs.Steps.SettlingLaws.{upcall-cases, settle-sound, settle-line, settle-flags, settle-head, settle-timer}
+use Rattle.rules.proofs.Steps.ActLaws.{Ready, reflagged-pending, act-ready}
+
+-- a node after settling: ready, its head stays, and its timer rests with an empty queue
+record Settled (b : Build) (n : Node) : Type 0 where
+  ready : Ready b n
+  head-stays : (m : Message) (q : List Message) → n .queue ≡ m ∷ q → mayStay n m ≡ true
+  timer-idle : n .queue ≡ [] → n .timer ≡ 0
+
+-- settling settles
+settled : {b : Build} {n : Node} → Ready b n → Settled b (settle n .node)
+settled {b} {n} y =
+    record {
+      ready = record {
+        sound = settle-sound (y .sound);
+        pending = λ g low high e. rw (settle-line (y .sound) g low high) (y .pending g low high (sym (settle-flags n g .pending) ∙ e));
+      };
+      head-stays = settle-head n;
+      timer-idle = settle-timer n;
+    }
+
+-- it is a node, if the running group with a line is atomic
+settled-valid : {b : Build} {n : Node} → Settled b n
+    → (1 ≤ n .running → isEmpty (line n (n .running)) ≡ false → groupOf n (n .running) .atomic ≡ true) → Valid b n
+settled-valid d atomic =
+    let s = d .ready .sound in
+    record {
+      running-bound = s .running-bound;
+      timer-bound = s .timer-bound;
+      queue-length = s .queue-length;
+      queue-good = s .queue-good;
+      group-count = s .group-count;
+      groups-good = s .groups-good;
+      free-good = s .free-good;
+      frames-once = s .frames-once;
+      frames-all = s .frames-all;
+      pledged = s .pledged;
+      pending-line = d .ready .pending;
+      running-atomic = atomic;
+      head-stays = d .head-stays;
+      timer-idle = d .timer-idle;
+    }
+
+-- of three tests that do not all fail the one between passes, if the first and the last fail
+between : (t u w : Bool) → not t && (not u && not w) ≡ false → t ≡ false → w ≡ false → u ≡ true
+between true u w e first last = absurd (true≢false first)
+between false true w e first last = refl
+between false false true e first last = absurd (true≢false last)
+between false false false e first last = absurd (true≢false e)
+
+-- flags do not bear on whether a head may stay
+reflagged-stays : (n : Node) (g : ℕ) (G : Group) → G .buffer ≡ groupOf n g .buffer → (m : Message) → mayStay (withGroup g G n) m ≡ mayStay n m
+unfolding mayStay buffered withGroup
+reflagged-stays n g G same m =
+    ap (λ (v : Buffer). eqb (m .group) (n .running) && not (ltb 0 (v .count))) (kept (λ K. K .buffer) n g G same (m .group))
+
+-- an upcall is due to a group whose line is not empty
+record Due (n : Node) : Type 0 where
+  group : 1 ≤ n .running
+  line-waits : isEmpty (line n (n .running)) ≡ false
+
+due : (n : Node) → calls n ≡ true → Due n
+unfolding calls
+due n e =
+    let r = n .running in
+    let runs = and-eq-true-iff (not (eqb r 0)) (not (groupOf n r .atomic) && not (isEmpty (line n r))) .0 e in
+    let waits = and-eq-true-iff (not (groupOf n r .atomic)) (not (isEmpty (line n r))) .0 (runs .1) in
+    let nonzero : r ≢ 0 = eqb-false r 0 (not-true (eqb r 0) (runs .0)) in
+    record { group = omega arith; line-waits = not-true (isEmpty (line n r)) (waits .1) }
+
+-- only a group is called up
+pub calls-group : (n : Node) → calls n ≡ true → 1 ≤ n .running
+calls-group n e = due n e .group
+
+-- a group called up
+called : {b : Build} {n : Node} → Settled b n → calls n ≡ true → Valid b (withGroup (n .running) (withFlags true true (groupOf n (n .running))) n)
+unfolding withFlags withGroup
+called {b} {n} d e =
+    let s = d .ready .sound in
+    let r = n .running in
+    let low = due n e .group in
+    let high = s .running-bound in
+    let G = withFlags true true (groupOf n r) in
+    let old = group-good s r low high in
+    let good : GoodGroup b G = record { buffer = old .buffer; descriptor = old .descriptor; pending-atomic = λ p. refl } in
+    settled-valid
+    (record {
+      ready = record {
+        sound = reflagged s r low high G good refl;
+        pending = reflagged-pending s r low high G refl (λ p. due n e .line-waits) (λ h low′ high′ other p. d .ready .pending h low′ high′ p);
+      };
+      head-stays = λ m q head. reflagged-stays n r G refl m ∙ d .head-stays m q head;
+      timer-idle = d .timer-idle;
+    })
+    (λ low′ some′. ap (λ (K : Group). K .atomic) (group-same n r G (within s r low high)))
+
+-- the upcall makes it a node
+upcall-valid : {b : Build} {n : Node} → Settled b n → Valid b (upcall n)
+unfolding calls
+upcall-valid {b} {n} d = upcall-cases (Valid b) n (called d) quiet
+  where
+    quiet : calls n ≡ false → Valid b n
+    quiet e =
+        let test : 1 ≤ n .running → eqb (n .running) 0 ≡ false = λ low. ne-eqb (n .running) 0 (λ none. omega arith) in
+        settled-valid d (λ low some. between (eqb (n .running) 0) (groupOf n (n .running) .atomic) (isEmpty (line n (n .running))) e (test low) some)
+
+-- settling and the upcall leave a node
+pub finish-valid : {b : Build} (e : Effect) → Ready b (e .node) → Valid b (finish e .node)
+unfolding finish
+finish-valid e y = upcall-valid (settled y)
+
+-- what an accepted operation leaves is sound
+pub act-sound : {b : Build} {n : Node} → Valid b n → (op : Operation) → refusal b n op ≡ 0 → Sound b (act b n op .node)
+act-sound v op e = act-ready v op e .sound
+
+-- an accepted step acts and finishes
+pub step-accepted : (b : Build) (n : Node) (op : Operation) → refusal b n op ≡ 0 → step b n op ≡ finish (act b n op)
+unfolding step
+step-accepted b n op e = rw (e, step)
+
+-- a refused step reports its number and leaves the node
+pub step-refused : (b : Build) (n : Node) (op : Operation) (r : ℕ) → refusal b n op ≡ suc r → step b n op ≡ record { report = refused (suc r); node = n }
+unfolding step
+step-refused b n op r e = rw (e, step)
+
+-- what holds of a refused step, and of an accepted one, holds of a step
+pub step-cases : (b : Build) (n : Node) (op : Operation) (P : Stepped → Type 0)
+    → (refusal b n op ≡ 0 → P (finish (act b n op)))
+    → ((r : ℕ) → refusal b n op ≡ suc r → P (record { report = refused (suc r); node = n }))
+    → P (step b n op)
+step-cases b n op P accepts refuses = go (refusal b n op) refl
+  where
+    go : (r : ℕ) → refusal b n op ≡ r → P (step b n op)
+    go zero e = subst P (sym (step-accepted b n op e)) (accepts e)
+    go (suc r) e = subst P (sym (step-refused b n op r e)) (refuses r e)
+
+-- a node stays a node
+pub step-valid : {b : Build} {n : Node} → Valid b n → (op : Operation) → Valid b (step b n op .node)
+step-valid {b} {n} v op =
+    step-cases b n op (λ s. Valid b (s .node)) (λ e. finish-valid (act b n op) (act-ready v op e)) (λ r e. v)
+
+-- an empty group is good
+empty-good : (b : Build) → 1 ≤ b .perFrame → GoodGroup b emptyGroup
+unfolding waiting
+empty-good b some =
+    record {
+      buffer = record {
+        used-bound = some;
+        used-empty = λ e. refl;
+        list-length = ceil-none (b .perFrame) some;
+        whole = sym (zero-mul (b .perFrame));
+        places = tt;
+        waiting-good = tt;
+      };
+      descriptor = omega arith;
+      pending-atomic = λ e. absurd (false≢true e);
+    }
+
+-- an empty frame is good
+frame-good : (b : Build) (f : ℕ) → GoodFrame b (emptyFrame b f)
+unfolding emptyFrame
+frame-good b f =
+    record {
+      whole = length-replicate (b .perFrame) emptyPlace;
+      places = every-replicate GoodPlace (b .perFrame) emptyPlace (record { eight = refl });
+    }
+
+-- groups that are all empty hold no frames
+empty-frames : (k : ℕ) → concatMap frameList (replicate k emptyGroup) ≡ []
+unfolding frameList
+empty-frames zero = refl
+empty-frames (suc k) = empty-frames k
+
+-- and each of them is empty
+empty-group : (k i : ℕ) → getD (replicate k emptyGroup) i emptyGroup ≡ emptyGroup
+empty-group zero i = refl
+empty-group (suc k) zero = refl
+empty-group (suc k) (suc i) = empty-group k i
+
+-- the numbers of empty frames are those that they were made with
+empty-numbers : (b : Build) (xs : List ℕ) → map frameNumber (map (emptyFrame b) xs) ≡ xs
+unfolding frameNumber emptyFrame
+empty-numbers b [] = refl
+empty-numbers b (x ∷ xs) = ap {B = List ℕ} (λ r. x ∷ r) (empty-numbers b xs)
+
+-- so the frames are numbered upward
+power-on-frames : (b : Build) → frameNumbers (powerOn b) ≡ upFrom 0 (b .frames)
+unfolding frameNumbers powerOn
+power-on-frames b = rw (empty-numbers b (upFrom 0 (b .frames)), empty-frames groupCount, append-nil)
+
+-- every group is the empty one
+pub power-on-group : (b : Build) (g : ℕ) → groupOf (powerOn b) g ≡ emptyGroup
+unfolding groupOf powerOn
+power-on-group b g = empty-group groupCount (pred g)
+
+-- and pledges nothing
+power-on-pledge : (b : Build) → 1 ≤ b .perFrame → (g : ℕ) → pledge b (powerOn b) g ≡ 0
+unfolding pledge inQueue powerOn
+power-on-pledge b some g = rw (power-on-group b g) (sym (ceil-none (b .perFrame) some))
+
+-- power-on makes a node
+pub power-on-valid : (b : Build) → Sensible b → Valid b (powerOn b)
+unfolding powerOn pledges
+power-on-valid b s =
+    let none = sum-le (pledge b (powerOn b)) (λ g. 0) 1 groupCount (λ g low high. omega (arith, power-on-pledge b (s .perFrame) g)) in
+    record {
+      running-bound = omega arith;
+      timer-bound = s .timeout;
+      queue-length = omega arith;
+      queue-good = tt;
+      group-count = length-replicate groupCount emptyGroup;
+      groups-good = every-replicate (GoodGroup b) groupCount emptyGroup (empty-good b (s .perFrame));
+      free-good = every-map (GoodFrame b) (emptyFrame b) (frame-good b) (upFrom 0 (b .frames));
+      frames-once = λ f below. ap (countOf f) (power-on-frames b) ∙ count-within f 0 (b .frames) (omega arith) (omega arith);
+      frames-all = ap length (power-on-frames b) ∙ length-upFrom 0 (b .frames);
+      pledged = omega arith;
+      pending-line = λ g low high e. absurd (false≢true (sym (ap (λ (G : Group). G .pending) (power-on-group b g)) ∙ e));
+      running-atomic = λ low. absurd (not-suc-le-zero low);
+      head-stays = λ m q e. cc;
+      timer-idle = λ e. refl;
+    }

@@ -1,0 +1,3 @@
+-- The laws of lines played one after the other.
+pub mod CutLaws
+pub mod PlayLaws

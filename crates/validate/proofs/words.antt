@@ -1,0 +1,2 @@
+-- The laws of the clauses on words alone.
+pub mod WordLaws

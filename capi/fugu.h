@@ -4,10 +4,12 @@
  * in the rules that crates/capi cites; docs/LISTING.md explains the operations and the numbers of a report.
  *
  * A node is FUGU_SIZE words of memory that the caller lends, and nothing else: it may be copied, kept and handed on as words. Memory may be
- * longer; what stands behind the first FUGU_SIZE words is never touched. Memory may also be anything: words that are no node are refused.
+ * longer; what stands behind the first FUGU_SIZE words is never touched. Memory may also be anything: a step on words that are no node is
+ * refused.
  *
- * A call tells what it reports in a part that the caller lends beside the memory, and returns how many words it wrote there. Where the part is
- * too short it returns 0, and neither the memory nor the part has changed. Words of the part behind those written stay as they were.
+ * What a call has to tell, a report or where the head message stands, it writes into a part that the caller lends beside the memory, and
+ * returns how many words it wrote there. Where the part is too short it returns 0, and neither the memory nor the part has changed. Words of
+ * the part behind those written stay as they were.
  *
  * What a caller owes: each pointer is not null, is aligned for its type, and has as many words or bytes behind it as the length after it says,
  * where a length may be 0; and what a call writes overlaps nothing else that it is handed.
@@ -35,7 +37,7 @@ enum {
 enum {
     FUGU_ANSWER = 0,      /* 0 accepted, else the number of the refusal, below */
     FUGU_VALUE = 1,       /* what M, E, P or L hands back */
-    FUGU_TRAP = 2,        /* 1 dispose-extend, 2 atomicity-extend, 3 timeout */
+    FUGU_TRAP = 2,        /* 1 dispose-extend, 2 atomicity-extend, 3 timeout, else 0 */
     FUGU_UPCALL = 3,      /* the group that gets an upcall, or 0 */
     FUGU_MOVED = 4,       /* how many messages went from the hardware queue to buffers */
     FUGU_SENT_NODE = 5,   /* an accepted L: the node, */
@@ -74,8 +76,8 @@ uint32_t fugu_power_on(uint32_t *FUGU_LENT memory, size_t memory_length, uint32_
 /* 1 where the memory is a node, else 0. */
 uint32_t fugu_test(const uint32_t *memory, size_t memory_length);
 
-/* One step: the operation by its letter in a script, 'A' to 'T', and its numbers, for 'A' the group and the words. Memory that is no node is
- * refused with 1; then a letter of no operation, or a wrong count of numbers, with 2. A refused step leaves the memory as it was. */
+/* One step: the operation by its letter in a script, one of A S T M E D B N P L, and its numbers, for 'A' the group and the words. Memory that
+ * is no node is refused with 1; then a letter of no operation, or a wrong count of numbers, with 2. A refused step leaves the memory as it was. */
 uint32_t fugu_step(uint32_t *FUGU_LENT memory, size_t memory_length, uint8_t letter, const uint32_t *arguments, size_t arguments_length,
                    uint32_t *FUGU_LENT report, size_t report_length);
 

@@ -14,9 +14,9 @@ use judge::state;
 
 const NAME: &str = "judge";
 const USAGE: &str = "\
-usage: judge < SCRIPT > LISTING
-       judge --state FILE
-       judge --help
+usage: bin/judge < SCRIPT > LISTING
+       bin/judge --state FILE
+       bin/judge --help
 
 Reads a script from standard input and writes its listing to standard output.
 

@@ -95,7 +95,7 @@ pub fn line(memory: &mut [u32], text: &[u8], report: &mut [u32]) -> u32 {
 }
 
 /// Where the running group's first message stands in the memory, and how many words it has; 0 and 0
-/// where there is none.
+/// where there is none or the memory is no node.
 pub fn head(memory: &[u32], part: &mut [u32]) -> u32 {
     unsafe { raw::fugu_head(memory.as_ptr(), memory.len(), part.as_mut_ptr(), part.len()) }
 }

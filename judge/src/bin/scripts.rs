@@ -9,10 +9,10 @@ use judge::program::{arguments, finish, met_all, misused, number};
 
 const NAME: &str = "scripts";
 const USAGE: &str = "\
-usage: scripts SEED LINES FLAVOUR             writes a random script
-       scripts --list                         lists the flavours
-       scripts --counts SEED LINES [FLAVOUR]  counts the answers and traps that a script meets
-       scripts --help
+usage: bin/scripts SEED LINES FLAVOUR             writes a random script
+       bin/scripts --list                         lists the flavours
+       bin/scripts --counts SEED LINES [FLAVOUR]  counts the answers and traps that a script meets
+       bin/scripts --help
 
 SEED and LINES are decimal numbers; a seed fixes every byte. Without a FLAVOUR, --counts runs one
 script of each flavour, and fails if some answer 2 to 15 or some trap 0 to 3 was met by none.";

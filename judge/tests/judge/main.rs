@@ -1,4 +1,5 @@
-//! The judge's own tests: every case that the paper gives.
+//! The judge's own tests: every case that the paper gives, the choices that it leaves, the private line
+//! over random runs, memories and what is told of them, and the programs as they are called.
 
 mod cases;
 mod comparisons;

@@ -101,7 +101,7 @@ fn judge_tells_errors_of_input_and_output() {
 fn judge_tells_how_it_is_used() {
     let help = judge().arg("--help").output().expect("the program runs");
     assert!(help.status.success());
-    assert!(text(&help.stdout).starts_with("usage: judge"));
+    assert!(text(&help.stdout).starts_with("usage: bin/judge"));
     assert!(text(&help.stdout).contains("--state FILE"));
 
     for arguments in [
@@ -116,7 +116,7 @@ fn judge_tells_how_it_is_used() {
         assert_eq!(misused.status.code(), Some(2), "{arguments}");
         assert!(misused.stdout.is_empty(), "{arguments}");
         assert!(
-            text(&misused.stderr).contains("usage: judge"),
+            text(&misused.stderr).contains("usage: bin/judge"),
             "{arguments}"
         );
     }
@@ -230,7 +230,7 @@ fn scripts_counts_and_names_what_is_missing() {
 fn scripts_tells_how_it_is_used() {
     let help = scripts("--help");
     assert!(help.status.success());
-    assert!(text(&help.stdout).starts_with("usage: scripts"));
+    assert!(text(&help.stdout).starts_with("usage: bin/scripts"));
     for arguments in [
         "",
         "1",
@@ -249,7 +249,7 @@ fn scripts_tells_how_it_is_used() {
         assert_eq!(misused.status.code(), Some(2), "{arguments}");
         assert!(misused.stdout.is_empty(), "{arguments}");
         assert!(
-            text(&misused.stderr).contains("usage: scripts"),
+            text(&misused.stderr).contains("usage: bin/scripts"),
             "{arguments}"
         );
     }

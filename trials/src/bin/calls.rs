@@ -23,7 +23,7 @@ usage: calls [--script FILE]
 Plays the lines of a script's first 64 KiB, 64 times over from power-on, by fugu_step, by fugu_line
 and by the judge's step on words, each of which tests the memory first; the lines are read to
 operations before, but for fugu_line. The time of a memory test is that of as many steps with one
-more test after each, less that of the steps.
+more test after each, less that of the steps; that of a step without a test is what is left of it.
 
 The reports and the memory must be the judge's, else the exit status is 1. The time of each of the 64
 passes is the best of fifteen rounds, of five for the judge, so that other work on the machine counts
@@ -115,21 +115,28 @@ fn measured(script: &[u8]) -> Result<String, String> {
         }
     }
     let calls = lines.len() * TESTED_TIMES;
-    let [judge_step, judge_test] = [
-        ("the judge's step", judge_steps.sum()),
-        ("the judge's test", judge_with_test.less(&judge_steps)),
+    let (step, judge_step) = (steps.sum(), judge_steps.sum());
+    let (test, judge_test) = (with_test.less(&steps), judge_with_test.less(&judge_steps));
+    let by_judge = [
+        ("the judge's step", judge_step),
+        ("the judge's test", judge_test),
+        (
+            "the judge's step without its test",
+            judge_step.saturating_sub(judge_test),
+        ),
     ];
+    let [judged, test_judged, untested_judged] = by_judge;
     let own = [
-        (("fugu_step", steps.sum()), judge_step),
-        (("fugu_line", by_line.sum()), judge_step),
-        (("fugu_test", with_test.less(&steps)), judge_test),
+        (("fugu_step", step), judged),
+        (("fugu_line", by_line.sum()), judged),
+        (("fugu_test", test), test_judged),
+        (
+            ("fugu_step without its test", step.saturating_sub(test)),
+            untested_judged,
+        ),
     ];
     let mut text = format!("{calls} calls of each, in process");
-    for (name, time) in own
-        .map(|(own, _)| own)
-        .into_iter()
-        .chain([judge_step, judge_test])
-    {
+    for (name, time) in own.map(|(own, _)| own).into_iter().chain(by_judge) {
         let time = time.as_secs_f64() * 1e9 / calls as f64;
         text += &format!("\n{time:>8.0} ns a call  {name}");
     }

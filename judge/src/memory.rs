@@ -7,7 +7,7 @@ mod map;
 pub mod trials;
 
 pub use clauses::{broken_clause, clauses, Fault};
-pub use map::{what_stands_at, SIZE};
+pub use map::{what_stands_at, FRAMES_AT, SIZE};
 
 use std::ops::Range;
 

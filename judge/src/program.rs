@@ -6,7 +6,6 @@ use std::io::{self, ErrorKind, Write};
 use std::path::{Path, PathBuf};
 use std::process::{Command, ExitCode, Stdio};
 
-use crate::counts::Counts;
 use crate::generator::Flavour;
 
 /// The measured script, if none is named: random, of so many lines.
@@ -16,6 +15,9 @@ const MEASURED_LINES: u64 = 1_000_000;
 /// first bytes, so many times over. The bytes are the most that target/bin/tested takes.
 const TESTED_BYTES: usize = 64 << 10;
 pub const TESTED_TIMES: usize = 64;
+/// How often each is measured, and how often the judge, which takes far longer.
+pub const ROUNDS: u32 = 15;
+pub const JUDGE_ROUNDS: u32 = 5;
 
 /// The arguments of the call.
 pub fn arguments() -> Vec<String> {
@@ -64,9 +66,8 @@ pub fn unread(name: &str, reason: &str) -> ExitCode {
     ExitCode::from(2)
 }
 
-/// The exit code of scripts that were to meet every answer and every trap.
-pub fn met_all(name: &str, counts: &Counts) -> ExitCode {
-    let missing = counts.missing();
+/// The exit code of a run that was to meet everything of some kind: what it missed.
+pub fn met_all(name: &str, missing: &[String]) -> ExitCode {
     if missing.is_empty() {
         return ExitCode::SUCCESS;
     }

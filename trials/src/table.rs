@@ -3,8 +3,8 @@
 
 use std::fmt::{self, Display, Formatter};
 
-use judge::memory::{clauses, SIZE};
-use judge::node::{Operation, FRAMES, FRAME_PLACES, MESSAGE_WORDS};
+use judge::memory::{clauses, FRAMES_AT, SIZE};
+use judge::node::Operation;
 
 use crate::asked::{taken_apart, Asked};
 use crate::calls::Calls;
@@ -20,8 +20,6 @@ const OPERATIONS: &[u8; 11] = b"ASTMEDBNPL?";
 const ROWS: usize = 2 * OPERATIONS.len() + 1;
 const ANSWERS: usize = 16;
 const TRAPS: usize = 4;
-/// The first word of the frames, where a place has a length and words.
-const FRAMES_AT: usize = SIZE - FRAMES * FRAME_PLACES * (1 + MESSAGE_WORDS);
 const HEADS: [&str; 3] = ["none", "in the hardware queue", "in a frame"];
 
 #[derive(Clone, Default)]

@@ -7,8 +7,8 @@ use lib.ListN.{length, getD}
 use Rattle.rules.specs.Build.{paper01}
 use Rattle.rules.specs.Frames.{store}
 use Rattle.rules.specs.Lists.{isEmpty}
-use Rattle.rules.specs.Node.{Message, Node, withTimer, buffered, line}
-use Rattle.rules.specs.Operation.{Request, Operation, user, disposeExtend, timeoutTrap, noTrap}
+use Rattle.rules.specs.Node.{Message, Node, buffered, line}
+use Rattle.rules.specs.Operation.{Request, Operation, user, disposeExtend, noTrap}
 use Rattle.rules.specs.Settling.{mayStay, settle, drain, upcall, upcallGroup}
 use Rattle.rules.specs.Step.{Effect, finish, step, removed}
 use Rattle.rules.specs.Types.{operationOf, reportOf}
@@ -84,10 +84,6 @@ pub record Called (m′ : List ℕ) (n : Node) (rest : List ℕ) (g : ℕ) : Typ
 -- an operation that sends nothing
 abbrev pub effect : Node → ℕ → ℕ → ℕ → Effect
 effect n value trap moved = record { node = n; value = value; trap = trap; moved = moved; sent = [] }
-
--- a timeout: "the whole hardware queue moves to the buffers, timer 0"
-abbrev pub timingOut : Node → Effect
-timingOut n = effect (withTimer 0 (drain (n .queue) n)) 0 timeoutTrap (length (n .queue))
 
 -- what comes after an operation with this effect
 pub record Finished (m′ : List ℕ) (e : Effect) (rest : List ℕ) (rep : Report·rt) : Type 0 where

@@ -5,9 +5,10 @@ use memory::map;
 use rules::Report;
 ghost use Rattle.rules.specs.Build.{paper01};
 ghost use Rattle.rules.specs.Operation.{schedule, tick};
+ghost use Rattle.rules.specs.Step.{valued, timedOut};
 ghost use Rattle.rules.specs.Sound.{Sound};
 ghost use Rattle.memory.specs.Holds.{Some};
-ghost use Rattle.node.specs.Steps.{IsNode, Steps, timingOut, Finishes};
+ghost use Rattle.node.specs.Steps.{IsNode, Steps, Finishes};
 
 // S: the processor is given to group g, 0 to nobody.
 pub fn schedule(m: &mut [u32], g: u32) -> Report
@@ -50,7 +51,7 @@ pub fn tick(m: &mut [u32], k: u32) -> Report
 // The whole queue moves to the buffers, and the timer is 0.
 pub fn timeout(m: &mut [u32]) -> Report
     requires { ⌜ Some (now m) (Sound paper01) ⌝ }
-    ensures { λ rep. ⌜ Finishes (now (m .entry)) (now (m .exit)) timingOut rep ⌝ }
+    ensures { λ rep. ⌜ Finishes (now (m .entry)) (now (m .exit)) (λ n. timedOut (valued 0 n)) rep ⌝ }
 {
     let moved = settling::drain(m);
     m[map::TIMER] = 0;

@@ -8,7 +8,8 @@ use std::process::{Command, ExitCode, Stdio};
 use std::time::{Duration, Instant};
 
 use judge::program::{
-    arguments, failed, finish, fugu, measured_script, misused, print, tested_lines, TESTED_TIMES,
+    arguments, failed, finish, fugu, measured_script, misused, print, tested_lines, JUDGE_ROUNDS,
+    ROUNDS, TESTED_TIMES,
 };
 use judge::script::write_listing;
 
@@ -29,9 +30,6 @@ standard output to /dev/null; the time told is the best of fifteen runs, of five
 Last come the calls of target/staticlib/libcapi.a on the same lines, 64 times over, against the
 judge's step on words and its memory test: PROGRAM is asked nothing there. They are left out if the
 library is not there.";
-
-const ROUNDS: u32 = 15;
-const JUDGE_ROUNDS: u32 = 5;
 
 struct Call<'a> {
     script: Option<&'a str>,

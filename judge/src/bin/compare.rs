@@ -101,5 +101,5 @@ fn tell(lines: u64, counts: &Counts) -> io::Result<ExitCode> {
     if lines < ENOUGH {
         return Ok(ExitCode::SUCCESS);
     }
-    Ok(met_all(NAME, counts))
+    Ok(met_all(NAME, &counts.missing()))
 }

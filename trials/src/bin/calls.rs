@@ -9,7 +9,8 @@ use fugu::{REPORT, SIZE};
 use judge::memory;
 use judge::node::Operation;
 use judge::program::{
-    arguments, failed, finish, measured_script, misused, print, tested_lines, TESTED_TIMES,
+    arguments, failed, finish, measured_script, misused, print, tested_lines, JUDGE_ROUNDS, ROUNDS,
+    TESTED_TIMES,
 };
 use judge::script;
 use trials::asked::taken_apart;
@@ -28,9 +29,6 @@ more test after each, less that of the steps; that of a step without a test is w
 The reports and the memory must be the judge's, else the exit status is 1. The time of each of the 64
 passes is the best of fifteen rounds, of five for the judge, so that other work on the machine counts
 little.";
-
-const ROUNDS: u32 = 15;
-const JUDGE_ROUNDS: u32 = 5;
 
 fn main() -> ExitCode {
     let arguments = arguments();

@@ -2,7 +2,7 @@
 
 use std::process::ExitCode;
 
-use judge::program::{arguments, failed, finish, misused, number, print};
+use judge::program::{arguments, failed, finish, met_all, misused, number, print};
 use trials::calls::Proved;
 use trials::table::{table_of, Table};
 
@@ -54,9 +54,5 @@ fn tell(table: &Table) -> ExitCode {
     if let Err(error) = print(&table.to_string()) {
         return finish(NAME, Err(error));
     }
-    let missing = table.missing();
-    if missing.is_empty() {
-        return ExitCode::SUCCESS;
-    }
-    failed(NAME, &format!("not met: {}", missing.join(", ")))
+    met_all(NAME, &table.missing())
 }

@@ -1,6 +1,6 @@
 -- S and T: when they are refused, and what they do to a node. Assumes nothing.
 use Rattle.rules.specs.Node.{line, Node, buffered, groupOf, inBuffer, inQueue, withQueue, withRunning, withTimer}
-use Rattle.rules.specs.Step.{act, Effect, scheduled, valued}
+use Rattle.rules.specs.Step.{act, Effect, scheduled, timedOut, valued}
 use Rattle.rules.specs.Settling.{drain, calls, mayStay}
 use Prim.Native.Nat.{_+_, _<_, _≤_, ℕ}
 use native.Mathlib.Omega.{arith}
@@ -17,7 +17,7 @@ use Rattle.rules.proofs.Steps.NodeLaws.{sound-timer}
 use Rattle.rules.proofs.Steps.SettlingLaws.{drain-sound}
 use Rattle.rules.specs.Sound.{Sound}
 use Rattle.rules.proofs.Steps.StepLaws.{act-sound}
-use Rattle.rules.proofs.Steps.TickLaws.{idle, ticks-counted, ticks-idle, ticks-timeout, timeoutEffect}
+use Rattle.rules.proofs.Steps.TickLaws.{idle, ticks-counted, ticks-idle, ticks-timeout}
 use Rattle.node.proofs.QuietLaws.{valid-quiet, Quiet}
 use Rattle.node.specs.Steps.{effect}
 use Rattle.node.proofs.settling.MoveLaws.{none-queued}
@@ -73,7 +73,7 @@ module _ {n : Node} (v : Valid paper01 n) (k : ℕ) where
   tick-counted some below = ticks-counted paper01 k n (length-some (n .queue) some) below
 
   -- else there is a timeout
-  pub tick-timeout : 1 ≤ length (n .queue) → paper01 .timeout ≤ n .timer + k → act paper01 n (tick k) ≡ timeoutEffect n
+  pub tick-timeout : 1 ≤ length (n .queue) → paper01 .timeout ≤ n .timer + k → act paper01 n (tick k) ≡ timedOut (valued 0 n)
   unfolding act
   tick-timeout some reached = ticks-timeout paper01 k n (length-some (n .queue) some) (v .timer-bound) reached
 

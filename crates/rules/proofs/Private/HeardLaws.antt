@@ -13,7 +13,7 @@ use Rattle.rules.specs.Node.{Message, Node, groupOf, withRunning, withTi
 use Rattle.rules.specs.Operation.{Request, Operation, arrive, schedule, tick, user, unknown, Report, accepted, nobodyRuns, refused}
 use Rattle.rules.specs.Refusal.{refusal, refuseRequest, queued}
 use Rattle.rules.specs.Settling.{settle, drain, upcall}
-use Rattle.rules.specs.Step.{Effect, Stepped, valued, scheduled, ticks, serve, act, finish, step}
+use Rattle.rules.specs.Step.{Effect, Stepped, valued, scheduled, timedOut, ticks, serve, act, finish, step}
 use Rattle.rules.specs.Private.{PrivateLine, message, request, nothing, told, Answer, Heard, refuses, unchanged, own, isCalled, called, afterwards, answered, unheard, joined, withHas, hear}
 use Rattle.rules.specs.Run.{answerOf, answerTo}
 use Rattle.rules.specs.Valid.{Valid}
@@ -152,7 +152,7 @@ schedule-view n h g =
 
 -- T: ticks, and a timeout's drain, are invisible
 pub tick-view : {b : Build} {n : Node} → Valid b n → (k g : ℕ) → 1 ≤ g → g ≤ groupCount → view g (ticks b k (valued 0 n) .node) ≡ view g n
-unfolding valued withQueue
+unfolding valued timedOut withQueue
 tick-view {b} {n} v k g lo hi = go (ticked-by v k)
   where
     drained : view g (drain (n .queue) n) ≡ view g n

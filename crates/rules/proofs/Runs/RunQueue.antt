@@ -15,7 +15,7 @@ use Rattle.rules.specs.Operation.{poll, peek, dispose, beginAtomic, endA
 use Rattle.rules.specs.Operation.{Operation, arrive, schedule, tick, user, unknown, accepted, noTrap, disposeExtend}
 use Rattle.rules.specs.Refusal.{refusal, refuseRequest, queued}
 use Rattle.rules.specs.Settling.{settle, drain, upcall}
-use Rattle.rules.specs.Step.{Effect, Stepped, valued, scheduled, ticks, removed, flagged, disposed, extending, described, launched, serve, act, finish, step}
+use Rattle.rules.specs.Step.{Effect, Stepped, valued, scheduled, timedOut, ticks, removed, flagged, disposed, extending, described, launched, serve, act, finish, step}
 use Rattle.rules.specs.Run.{Input, asked, Event, play, wasAccepted, arrivedBy, arrived, arrivals, disposedBy, leftBy, left}
 use Rattle.rules.specs.Valid.{Valid}
 use Rattle.rules.proofs.Steps.SettlingLaws.{upcall-kept, settle-queue, settle-moved, drain-queue}
@@ -39,15 +39,15 @@ scheduled-queue h n = scheduled-cases (λ k. k .queue ≡ n .queue) h n (λ e. r
 -- T
 ticked-queue : {b : Build} {n : Node} → Valid b n → (k : ℕ)
     → Flow (n .queue) (ticks b k (valued 0 n) .node .queue) [] (taken (tick k) (ticks b k (valued 0 n)))
-unfolding taken disposedBy valued withTimer
+unfolding taken disposedBy valued timedOut withTimer
 ticked-queue {b} {n} v k = go (ticked-by v k)
   where
     Goal : Effect → Type 0
     Goal e = Flow (n .queue) (e .node .queue) [] (e .moved + 0)
 
-    drained : Flow (n .queue) (drain (n .queue) n .queue) [] (length (n .queue) + 0)
+    drained : Flow (n .queue) (drain (n .queue) n .queue) [] (0 + length (n .queue) + 0)
     drained =
-        rw add-zero
+        rw (add-zero, zero-add)
         (record {
           same = drain-queue (n .queue) n ∙ sym (drop-length (n .queue)) ∙ ap (drop (length (n .queue))) (sym (append-nil (n .queue)));
           enough = rw append-nil (omega arith);

@@ -16,7 +16,7 @@ use Rattle.rules.specs.Operation.{poll, peek, dispose, beginAtomic, endA
 use Rattle.rules.specs.Operation.{Operation, arrive, schedule, tick, user, unknown, accepted, noTrap, disposeExtend}
 use Rattle.rules.specs.Refusal.{refusal, queued}
 use Rattle.rules.specs.Settling.{mayStay, pass, settle, drain, upcall}
-use Rattle.rules.specs.Step.{Effect, Stepped, valued, scheduled, ticks, flagged, disposed, extending, described, launched, serve, act, finish, step}
+use Rattle.rules.specs.Step.{Effect, Stepped, valued, scheduled, timedOut, ticks, flagged, disposed, extending, described, launched, serve, act, finish, step}
 use Rattle.rules.specs.Run.{wasAccepted, disposedBy, leftBy, tickedBy}
 use Rattle.rules.specs.Valid.{Valid}
 use Rattle.rules.proofs.Steps.SettlingLaws.{pass-moves, settle-keeps, upcall-kept, settle-moved, drain-queue}
@@ -79,7 +79,7 @@ module _ {b : Build} {n : Node} (v : Valid b n) (some : isEmpty (n .queue) ≡ f
   tick-timer : (k : ℕ) → isEmpty (settle (ticks b k (valued 0 n) .node) .node .queue) ≡ false
       → k + n .timer
       ≤ b .timeout * (taken (tick k) (ticks b k (valued 0 n)) + settle (ticks b k (valued 0 n) .node) .moved) + ticks b k (valued 0 n) .node .timer
-  unfolding valued withTimer
+  unfolding valued timedOut withTimer
   tick-timer k = go (ticked-by v k)
     where
       Goal : Effect → Type 0

@@ -18,7 +18,7 @@ use Rattle.rules.specs.Operation.{Request, poll, peek, dispose, beginAto
 use Rattle.rules.specs.Operation.{Operation, arrive, schedule, tick, user, unknown, nobodyRuns}
 use Rattle.rules.specs.Refusal.{queued, refuseArrive, refuseSchedule, refuseEnd, refuseDescribe, refuseRequest, refusal}
 use Rattle.rules.specs.Settling.{drain}
-use Rattle.rules.specs.Step.{valued, scheduled, ticks, removed, flagged, disposed, extending, described, launched, serve, act}
+use Rattle.rules.specs.Step.{valued, scheduled, timedOut, ticks, removed, flagged, disposed, extending, described, launched, serve, act}
 use Rattle.rules.specs.Valid.{GoodMessage, GoodGroup, Valid}
 use Rattle.rules.specs.Sound.{Sound}
 use Rattle.rules.proofs.Steps.SoundLaws.{PendingLines, valid-sound}
@@ -237,7 +237,7 @@ module _ {b : Build} {n : Node} (v : Valid b n) where
 
   -- ticks
   ticks-ready : (k : ℕ) → Ready b (ticks b k (valued 0 n) .node)
-  unfolding valued
+  unfolding valued timedOut
   ticks-ready k = go (ticked-by v k)
     where
       go : Ticked b k n → Ready b (ticks b k (valued 0 n) .node)

@@ -5,7 +5,7 @@ use mathlib.Core.Path.{_≡_, refl, sym, ap, _∙_}
 use mathlib.Core.Logic.{_≢_}
 use mathlib.Core.Bool.{Bool, true, false, true≢false, cond}
 use mathlib.Core.List.{List, [], _∷_}
-use native.Mathlib.Nat.{add-zero, zero-add}
+use native.Mathlib.Nat.{add-zero}
 use native.Mathlib.Decide.{ℕ-discrete}
 use native.Mathlib.Omega.{arith}
 use lib.Dec.{eqb, ltb}
@@ -99,30 +99,17 @@ pub ticks-counted : (b : Build) (k : ℕ) (n : Node) → isEmpty (n .queue) ≡ 
 unfolding valued timed
 ticks-counted b k n some below = counts b k (valued 0 n) some below
 
--- the effect of a timeout
-abbrev pub timeoutEffect : Node → Effect
-timeoutEffect n = record { node = withTimer 0 (drain (n .queue) n); value = 0; trap = timeoutTrap; moved = length (n .queue); sent = [] }
-
 -- else there is exactly one timeout: the queue is drained, and the timer is 0
 pub ticks-timeout : (b : Build) (k : ℕ) (n : Node) → isEmpty (n .queue) ≡ false → n .timer < b .timeout → b .timeout ≤ n .timer + k
-    → ticks b k (valued 0 n) ≡ timeoutEffect n
-unfolding valued timedOut
-ticks-timeout b k n some below reached =
-    reaches b k (valued 0 n) some below reached
-    ∙ (λ i.
-    record {
-      node = withTimer 0 (drain (n .queue) n);
-      value = 0;
-      trap = timeoutTrap;
-      moved = zero-add (length (n .queue)) i;
-      sent = [];
-    })
+    → ticks b k (valued 0 n) ≡ timedOut (valued 0 n)
+unfolding valued
+ticks-timeout b k n some below reached = reaches b k (valued 0 n) some below reached
 
 -- so ticks do one of three things to a node: nothing, count, or one timeout
 pub data Ticked (b : Build) (k : ℕ) (n : Node) : Type 0 where
   idle : n .queue ≡ [] → ticks b k (valued 0 n) ≡ valued 0 n → Ticked b k n
   counting : isEmpty (n .queue) ≡ false → n .timer + k < b .timeout → ticks b k (valued 0 n) ≡ valued 0 (withTimer (n .timer + k) n) → Ticked b k n
-  timeout : isEmpty (n .queue) ≡ false → ticks b k (valued 0 n) ≡ timeoutEffect n → Ticked b k n
+  timeout : isEmpty (n .queue) ≡ false → ticks b k (valued 0 n) ≡ timedOut (valued 0 n) → Ticked b k n
 
 pub ticked-by : {b : Build} {n : Node} → Valid b n → (k : ℕ) → Ticked b k n
 ticked-by {b} {n} v k = go (n .queue) refl

@@ -1,14 +1,16 @@
 -- `node::kernel::timeout` meets its contract: drained, the timer set, and finished. Assumes nothing.
 use Prim.Native.Nat.{_≤_, ℕ}
 use native.Mathlib.Omega.{arith}
+use native.Mathlib.Nat.{zero-add}
 use mathlib.Core.List.{List}
-use mathlib.Core.Path.{_∙_, subst}
-use lib.ListN.{length-set, set}
+use mathlib.Core.Path.{_∙_, sym, subst}
+use lib.ListN.{length, length-set, set}
 use borrow.Author.Needs.{needs}
 use Rattle.rules.specs.Build.{paper01}
 use Rattle.rules.specs.Memory.{timerAt}
 use Rattle.rules.specs.Node.{Node, withTimer}
 use Rattle.rules.specs.Settling.{drain}
+use Rattle.rules.specs.Step.{valued, timedOut}
 use Rattle.rules.specs.Sound.{Sound}
 use Rattle.memory.specs.Holds.{Holds}
 use Rattle.memory.proofs.PieceLaws.{holds-pieces}
@@ -42,7 +44,12 @@ same-length : tie.Need-same-length
 same-length c = c .before .before .finish .kept .0 ∙ simp length-set (c .before .before .before .before .before .before .drain .kept .0)
 
 returns : tie.Need-returns
-returns c n r h s = let d = c .before .before .before .before .before .before .drain .ensures n r h s in subst (λ (k : ℕ). Finished (c .before .before .finish .last .0) (effect (withTimer 0 (drain (n .queue) n)) 0 3 k) r (c .before .before .finish .result)) (d .count) (c .before .before .finish .ensures _ r (drained (c .before .before .before .before .before .before) n r h s) (timeout-sound s))
+unfolding valued timedOut
+returns c n r h s =
+    let d = c .before .before .before .before .before .before .drain .ensures n r h s in
+    let f = c .before .before .finish in
+    subst (λ (k : ℕ). Finished (f .last .0) (effect (withTimer 0 (drain (n .queue) n)) 0 3 k) r (f .result)) (d .count ∙ sym (zero-add (length (n .queue))))
+    (f .ensures _ r (drained (c .before .before .before .before .before .before) n r h s) (timeout-sound s))
 
 pub timeout-spec : {M : Type 1} → statement M
 timeout-spec =

@@ -1,10 +1,12 @@
--- A build of the node: the sizes that the rules are stated over, and paper 01's as one value. Assumes nothing.
-use Prim.Native.Nat.{ℕ, _≤_}
+-- A build of the node: the sizes that the rules are stated over, and those of paper 01 with order 1's swap pages as one value. Assumes nothing.
+use Prim.Native.Nat.{ℕ, _+_, _≤_}
 
 -- the sizes of one build
 pub record Build : Type 0 where
   -- page frames
   pub frames : ℕ
+  -- swap pages
+  pub swap : ℕ
   -- messages that a frame holds
   pub perFrame : ℕ
   -- messages that the hardware queue holds
@@ -12,9 +14,14 @@ pub record Build : Type 0 where
   -- ticks to a timeout
   pub timeout : ℕ
 
--- "The hardware queue holds at most 16 messages"; "There are 32 page frames. A frame holds 8 messages."; "At 256: timeout"
+-- "The hardware queue holds at most 16 messages"; "There are 32 page frames. A frame holds 8 messages."; "At 256: timeout"; "there are now 64
+-- swap pages"
 abbrev pub paper01 : Build
-paper01 = record { frames = 32; perFrame = 8; places = 16; timeout = 256 }
+paper01 = record { frames = 32; swap = 64; perFrame = 8; places = 16; timeout = 256 }
+
+-- frames and swap pages together: "Answer 6 and the memory test now read 96 for 32"
+abbrev pub pageCount : Build → ℕ
+pageCount b = b .frames + b .swap
 
 -- "Groups are 1 to 8."
 abbrev pub groupCount : ℕ
@@ -32,9 +39,11 @@ lastNode = 63
 abbrev pub tickLimit : ℕ
 tickLimit = 65535
 
--- a build that makes sense: at least one of each of its parts
+-- a build that makes sense: at least one of each of its parts, and two frames. With one frame the running group's first page, which is never
+-- sent out, could stand in it, and no other page could be written; with two there is always a page to send out.
 pub record Sensible (b : Build) : Type 0 where
-  pub frames : 1 ≤ b .frames
+  pub frames : 2 ≤ b .frames
+  pub swap : 1 ≤ b .swap
   pub perFrame : 1 ≤ b .perFrame
   pub places : 1 ≤ b .places
   pub timeout : 1 ≤ b .timeout

@@ -1,20 +1,21 @@
--- How a buffer takes and frees frames, and what a group's messages need of them. Assumes nothing.
+-- How a buffer takes and frees frames, and what a group's messages need of them. How pages come to be in frames is in Paging. Assumes nothing.
 use Prim.Native.Nat.{ℕ, _+_, _-_, _/_}
-use mathlib.Core.Bool.{cond, _||_}
+use mathlib.Core.Bool.{cond, not, _||_}
 use mathlib.Core.List.{List, [], _∷_, _++_, map}
 use lib.Dec.{ltb, eqb}
 use lib.ListN.{length, take, drop, getD, set}
-use Rattle.rules.specs.Lists.{sum, upFrom}
+use Rattle.rules.specs.Lists.{filter, sum, upFrom}
 use Rattle.rules.specs.Build.{Build, groupCount}
-use Rattle.rules.specs.Node.{Message, Frame, Buffer, Node, groupOf, withFree, withGroup, withBuffer, placeOf, inQueue}
+use Rattle.rules.specs.Node.{Message, Frame, Buffer, Node, groupOf, withFree, withPaging, withEntered, withGroup, withBuffer, placeOf, inQueue}
 
 -- a / d rounded up
 unfoldable pub ceilDiv : ℕ → ℕ → ℕ
 ceilDiv a d = (a + (d - 1)) / d
 
--- a free line and a buffer, between which frames go
+-- a free line, the order of entry and a buffer, between which frames go
 pub record Stock : Type 0 where
   pub free : List Frame
+  pub entered : List ℕ
   pub buffer : Buffer
 
 -- the buffer with a frame more at its end
@@ -22,14 +23,15 @@ unfoldable pub extended : Frame → Buffer → Buffer
 extended f v =
     record { used = v .used; count = v .count; frames = v .frames ++ (f .number ∷ []); places = v .places ++ f .places }
 
--- "A frame is taken from the front"
-unfoldable pub takeFrame : List Frame → Buffer → Stock
-takeFrame [] v = record { free = []; buffer = v }
-takeFrame (f ∷ fs) v = record { free = fs; buffer = extended f v }
+-- "A frame is taken from the front", and is the last in the order of entry
+unfoldable pub takeFrame : List Frame → List ℕ → Buffer → Stock
+takeFrame [] es v = record { free = []; entered = es; buffer = v }
+takeFrame (f ∷ fs) es v = record { free = fs; entered = es ++ (f .number ∷ []); buffer = extended f v }
 
 -- a frame is taken where the places of those at hand are all written: "a list of frames, filled in order"
-unfoldable pub withRoom : List Frame → Buffer → Stock
-withRoom fs v = cond (ltb (v .used + v .count) (length (v .places))) (record { free = fs; buffer = v }) (takeFrame fs v)
+unfoldable pub withRoom : List Frame → List ℕ → Buffer → Stock
+withRoom fs es v =
+    cond (ltb (v .used + v .count) (length (v .places))) (record { free = fs; entered = es; buffer = v }) (takeFrame fs es v)
 
 -- the message at the first place behind the waiting ones
 unfoldable pub appended : Message → Buffer → Buffer
@@ -41,36 +43,46 @@ appended m v =
       places = set (v .places) (v .used + v .count) (placeOf m);
     }
 
--- the node in which this stock is the free line and the buffer of group g
+-- the node in which this stock is the free line, the order of entry and the buffer of group g
 unfoldable pub withStock : ℕ → Stock → Node → Node
-withStock g s n = withGroup g (withBuffer (s .buffer) (groupOf n g)) (withFree (s .free) n)
+withStock g s n =
+    withGroup g (withBuffer (s .buffer) (groupOf n g)) (withFree (s .free) (withPaging (withEntered (s .entered) (n .paging)) n))
 
--- the message "moves to the end of its group's buffer"
-unfoldable pub store : Message → Node → Node
-store m n =
-    let s = withRoom (n .free) (groupOf n (m .group) .buffer) in
-    withStock (m .group) (record { free = s .free; buffer = appended m (s .buffer) }) n
+-- the message is put at the end of its group's buffer, in a frame at hand or in the front of the free line
+unfoldable pub put : Message → Node → Node
+put m n =
+    let s = withRoom (n .free) (n .paging .entered) (groupOf n (m .group) .buffer) in
+    withStock (m .group) (record { free = s .free; entered = s .entered; buffer = appended m (s .buffer) }) n
 
 -- the first frame of a buffer, with its contents
 unfoldable pub firstFrame : Build → Buffer → Frame
 firstFrame b v = record { number = getD (v .frames) 0 0; places = take (b .perFrame) (v .places) }
 
--- "a freed one joins the end. Freed words, and the length kept with each message, stay unchanged."
-unfoldable pub freeFirst : Build → List Frame → Buffer → Stock
-freeFirst b fs v =
+-- the numbers without f
+unfoldable pub without : ℕ → List ℕ → List ℕ
+without f xs = filter (λ x. not (eqb x f)) xs
+
+-- "a freed one joins the end. Freed words, and the length kept with each message, stay unchanged." It leaves the order of entry
+unfoldable pub freeFirst : Build → List Frame → List ℕ → Buffer → Stock
+freeFirst b fs es v =
     record {
       free = fs ++ (firstFrame b v ∷ []);
+      entered = without (firstFrame b v .number) es;
       buffer = record { used = 0; count = v .count - 1; frames = drop 1 (v .frames); places = drop (b .perFrame) (v .places) };
     }
 
 -- the first message's place is used up
-unfoldable pub useUp : List Frame → Buffer → Stock
-useUp fs v =
-    record { free = fs; buffer = record { used = v .used + 1; count = v .count - 1; frames = v .frames; places = v .places } }
+unfoldable pub useUp : List Frame → List ℕ → Buffer → Stock
+useUp fs es v =
+    record {
+      free = fs;
+      entered = es;
+      buffer = record { used = v .used + 1; count = v .count - 1; frames = v .frames; places = v .places };
+    }
 
 -- "A frame whose places are all used up is freed; when n becomes 0 its last frame is freed too."
-unfoldable pub removeFirst : Build → List Frame → Buffer → Stock
-removeFirst b fs v = cond (eqb (v .count) 1 || eqb (v .used + 1) (b .perFrame)) (freeFirst b fs v) (useUp fs v)
+unfoldable pub removeFirst : Build → List Frame → List ℕ → Buffer → Stock
+removeFirst b fs es v = cond (eqb (v .count) 1 || eqb (v .used + 1) (b .perFrame)) (freeFirst b fs es v) (useUp fs es v)
 
 -- "Its pledge, with k messages in the hardware queue, is (h + n + k) / 8 rounded up."
 unfoldable pub pledge : Build → Node → ℕ → ℕ

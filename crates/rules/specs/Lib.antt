@@ -2,6 +2,7 @@ pub mod Lists
 pub mod Build
 pub mod Node
 pub mod Frames
+pub mod Paging
 pub mod Operation
 pub mod Types
 pub mod Refusal

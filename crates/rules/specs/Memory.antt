@@ -6,9 +6,10 @@ use mathlib.Core.List.{List, [], _∷_, _++_, map}
 use lib.Dec.{eqb}
 use lib.ListN.{length, take, drop, getD}
 use Rattle.rules.specs.Lists.{concatMap, upFrom, pad}
-use Rattle.rules.specs.Build.{paper01, groupCount, wordLimit}
-use Rattle.rules.specs.Node.{Message, Place, Frame, Buffer, Group, Node}
-use Rattle.rules.specs.Valid.{frameNumber}
+use Rattle.rules.specs.Build.{paper01, pageCount, groupCount, wordLimit}
+use Rattle.rules.specs.Node.{Message, Place, Frame, Buffer, Group, Paging, Node}
+use Rattle.rules.specs.Paging.{framesOf, placesOf}
+use Rattle.rules.specs.Valid.{frameNumber, idle}
 
 -- the running group
 abbrev pub runningAt : ℕ
@@ -38,13 +39,13 @@ queueStride = 10
 abbrev pub freeAt : ℕ
 freeAt = 164
 
--- the groups: 8 records of 46 words, and what stands where in one
+-- the groups: 8 records of 110 words, and what stands where in one
 abbrev pub groupsAt : ℕ
 groupsAt = 196
 
 -- the words of one record
 abbrev pub groupStride : ℕ
-groupStride = 46
+groupStride = 110
 
 -- the flag atomic
 abbrev pub atomicOffset : ℕ
@@ -62,7 +63,7 @@ usedOffset = 2
 abbrev pub countOffset : ℕ
 countOffset = 3
 
--- how many frames are in the list
+-- how many pages are in the list
 abbrev pub heldOffset : ℕ
 heldOffset = 4
 
@@ -74,27 +75,55 @@ describedOffset = 5
 abbrev pub descriptorOffset : ℕ
 descriptorOffset = 6
 
--- the list's 32 frame numbers
+-- the list's 96 numbers: those below 32 are frames, the others swap pages, 32 for the first
 abbrev pub listOffset : ℕ
 listOffset = 14
 
--- the frames: 32 of eight places, each a kept length and eight words
+-- the 32 frames and behind them the 64 swap pages: each has eight places, and each place a kept length and eight words
 abbrev pub framesAt : ℕ
-framesAt = 564
+framesAt = 1076
 
 -- the words of one place
 abbrev pub placeStride : ℕ
 placeStride = 9
 
--- the words of one frame
+-- the words of one frame or swap page
 abbrev pub frameStride : ℕ
 frameStride = 72
 
+-- swap space and the order of entry
+abbrev pub pagingAt : ℕ
+pagingAt = 7988
+
+-- how many swap pages are in the swap line
+abbrev pub swapCountAt : ℕ
+swapCountAt = 7988
+
+-- how many frames are in the order of entry
+abbrev pub enteredCountAt : ℕ
+enteredCountAt = 7989
+
+-- pages sent out
+abbrev pub outAt : ℕ
+outAt = 7990
+
+-- pages brought in
+abbrev pub broughtAt : ℕ
+broughtAt = 7991
+
+-- the swap line: 64 numbers
+abbrev pub swapAt : ℕ
+swapAt = 7992
+
+-- the order of entry: 32 numbers
+abbrev pub enteredAt : ℕ
+enteredAt = 8056
+
 -- the size of a node
 abbrev pub size : ℕ
-size = 2868
+size = 8088
 
--- where frame f stands
+-- where the frame or swap page with number f stands
 unfoldable pub frameAddress : ℕ → ℕ
 frameAddress f = framesAt + frameStride * f
 
@@ -117,9 +146,13 @@ messageWords m = m .group ∷ length (m .words) ∷ pad wordLimit (m .words)
 unfoldable pub queueWords : List Message → List ℕ
 queueWords q = pad (paper01 .places * queueStride) (concatMap messageWords q)
 
--- a line or list of frame numbers
+-- the free line, or the order of entry
 unfoldable pub lineWords : List ℕ → List ℕ
 lineWords fs = pad (paper01 .frames) fs
+
+-- a list of pages
+unfoldable pub listWords : List ℕ → List ℕ
+listWords ps = pad (pageCount paper01) ps
 
 -- a group's record
 unfoldable pub groupWords : Group → List ℕ
@@ -130,34 +163,28 @@ groupWords G =
     ∷ G .buffer .count
     ∷ length (G .buffer .frames)
     ∷ length (G .descriptor)
-    ∷ pad wordLimit (G .descriptor) ++ lineWords (G .buffer .frames)
+    ∷ pad wordLimit (G .descriptor) ++ listWords (G .buffer .frames)
 
 -- a place of a frame
 unfoldable pub placeWords : Place → List ℕ
 placeWords p = p .len ∷ p .words
 
--- the frames of a buffer, each with its share of the places
-unfoldable pub framesFrom : List ℕ → List Place → List Frame
-framesFrom [] ps = []
-framesFrom (f ∷ fs) ps =
-    record { number = f; places = take (paper01 .perFrame) ps } ∷ framesFrom fs (drop (paper01 .perFrame) ps)
-
--- the frames of a group
-unfoldable pub framesOf : Group → List Frame
-framesOf G = framesFrom (G .buffer .frames) (G .buffer .places)
-
--- the places of the frame with number f
-unfoldable pub placesOf : ℕ → List Frame → List Place
-placesOf f [] = []
-placesOf f (x ∷ xs) = elim (eqb (x .number) f) [ true ↦ x .places | false ↦ placesOf f xs ]
-
--- all frames, the free ones first
+-- all frames and swap pages, those that no buffer holds first
 unfoldable pub allFrames : Node → List Frame
-allFrames n = n .free ++ concatMap framesOf (n .groups)
+allFrames n = idle n ++ concatMap (framesOf paper01) (n .groups)
 
--- the words of the frame with number f
+-- the words of the frame or swap page with number f
 unfoldable pub frameWords : List Frame → ℕ → List ℕ
 frameWords xs f = concatMap placeWords (placesOf f xs)
+
+-- swap space and the order of entry
+unfoldable pub pagingWords : Paging → List ℕ
+pagingWords s =
+    length (s .swap)
+    ∷ length (s .entered)
+    ∷ s .out
+    ∷ s .brought
+    ∷ pad (paper01 .swap) (map frameNumber (s .swap)) ++ lineWords (s .entered)
 
 -- the node's words
 unfoldable pub words : Node → List ℕ
@@ -167,7 +194,9 @@ words n =
     ∷ length (n .queue)
     ∷ length (n .free)
     ∷ queueWords (n .queue)
-    ++ (lineWords (map frameNumber (n .free)) ++ (concatMap groupWords (n .groups) ++ concatMap (frameWords (allFrames n)) (upFrom 0 (paper01 .frames))))
+    ++ (lineWords (map frameNumber (n .free))
+    ++ (concatMap groupWords (n .groups)
+    ++ (concatMap (frameWords (allFrames n)) (upFrom 0 (pageCount paper01)) ++ pagingWords (n .paging))))
 
 -- From words to a node.
 
@@ -198,11 +227,11 @@ unfoldable pub placesAt : List ℕ → ℕ → ℕ → List Place
 placesAt m a zero = []
 placesAt m a (suc k) = placeAt m a ∷ placesAt m (a + placeStride) k
 
--- the places of frame f
+-- the places of the frame or swap page with number f
 unfoldable pub framePlaces : List ℕ → ℕ → List Place
 framePlaces m f = placesAt m (frameAddress f) (paper01 .perFrame)
 
--- frame f with its contents
+-- it, with its contents
 unfoldable pub frameAt : List ℕ → ℕ → Frame
 frameAt m f = record { number = f; places = framePlaces m f }
 
@@ -216,7 +245,7 @@ flagAt m a = eqb (word m a) 1
 unfoldable pub listAt : List ℕ → ℕ → List ℕ
 listAt m a = wordsAt m (a + listOffset) (word m (a + heldOffset))
 
--- a buffer, with the contents of its frames
+-- a buffer, with the contents of its pages
 unfoldable pub bufferAt : List ℕ → ℕ → Buffer
 bufferAt m a =
     record {
@@ -241,6 +270,16 @@ unfoldable pub groupsFrom : List ℕ → ℕ → ℕ → List Group
 groupsFrom m a zero = []
 groupsFrom m a (suc k) = groupAt m a ∷ groupsFrom m (a + groupStride) k
 
+-- swap space and the order of entry
+unfoldable pub pagingFrom : List ℕ → Paging
+pagingFrom m =
+    record {
+      swap = map (frameAt m) (wordsAt m swapAt (word m swapCountAt));
+      entered = wordsAt m enteredAt (word m enteredCountAt);
+      out = word m outAt;
+      brought = word m broughtAt;
+    }
+
 -- the node that the words hold
 unfoldable pub nodeAt : List ℕ → Node
 nodeAt m =
@@ -249,5 +288,6 @@ nodeAt m =
       timer = word m timerAt;
       queue = messagesAt m queueAt (word m queuedAt);
       free = map (frameAt m) (wordsAt m freeAt (word m freeCountAt));
+      paging = pagingFrom m;
       groups = groupsFrom m groupsAt groupCount;
     }

@@ -5,12 +5,12 @@ use mathlib.Core.List.{List, [], _∷_, _++_}
 use lib.Dec.{eqb, leb}
 use lib.ListN.{length, take, drop}
 use Rattle.rules.specs.Lists.{all, passes, isEmpty, upFrom}
-use Rattle.rules.specs.Build.{paper01, groupCount, wordLimit}
+use Rattle.rules.specs.Build.{paper01, pageCount, groupCount, wordLimit}
 use Rattle.rules.specs.Node.{Node, powerOn, buffered, line}
 use Rattle.rules.specs.Operation.{Operation, Report, allZero, notNode, refused}
 use Rattle.rules.specs.Valid.{isNode}
 use Rattle.rules.specs.Step.{step}
-use Rattle.rules.specs.Memory.{queuedAt, freeCountAt, queueAt, queueStride, freeAt, atomicOffset, pendingOffset, usedOffset, heldOffset, describedOffset, descriptorOffset, listOffset, placeStride, size}
+use Rattle.rules.specs.Memory.{queuedAt, freeCountAt, queueAt, queueStride, freeAt, atomicOffset, pendingOffset, usedOffset, heldOffset, describedOffset, descriptorOffset, listOffset, placeStride, swapCountAt, enteredCountAt, outAt, broughtAt, swapAt, enteredAt, size}
 use Rattle.rules.specs.Memory.{words, word, wordsAt, frameAddress, groupAddress, nodeAt}
 
 -- the k words from address a on are 0
@@ -24,14 +24,16 @@ lengthInBounds m i = leb (word m (queueAt + queueStride * i + 1)) wordLimit
 -- "counts .. are within the bounds above": those of a group's list and descriptor
 unfoldable pub groupCounts : List ℕ → ℕ → Bool
 groupCounts m g =
-    leb (word m (groupAddress g + heldOffset)) (paper01 .frames) && leb (word m (groupAddress g + describedOffset)) wordLimit
+    leb (word m (groupAddress g + heldOffset)) (pageCount paper01) && leb (word m (groupAddress g + describedOffset)) wordLimit
 
 -- "counts .. [and] waiting messages' lengths .. are within the bounds above", as far as words alone tell
 unfoldable pub countsInBounds : List ℕ → Bool
 countsInBounds m =
     leb (word m queuedAt) (paper01 .places)
     && (leb (word m freeCountAt) (paper01 .frames)
-    && (all (groupCounts m) (upFrom 1 groupCount) && all (lengthInBounds m) (upFrom 0 (word m queuedAt))))
+    && (leb (word m swapCountAt) (paper01 .swap)
+    && (leb (word m enteredCountAt) (paper01 .frames)
+    && (all (groupCounts m) (upFrom 1 groupCount) && all (lengthInBounds m) (upFrom 0 (word m queuedAt))))))
 
 -- "flags are 0 or 1": those of one group
 unfoldable pub groupFlags : List ℕ → ℕ → Bool
@@ -53,12 +55,24 @@ freeUnused m =
     let k = word m freeCountAt in
     zeroAt m (freeAt + k) (paper01 .frames - k)
 
+-- the same of the swap line
+unfoldable pub swapUnused : List ℕ → Bool
+swapUnused m =
+    let k = word m swapCountAt in
+    zeroAt m (swapAt + k) (paper01 .swap - k)
+
+-- the order of entry has "its unused places 0"
+unfoldable pub enteredUnused : List ℕ → Bool
+enteredUnused m =
+    let k = word m enteredCountAt in
+    zeroAt m (enteredAt + k) (paper01 .frames - k)
+
 -- "unused places of the .. lists, unused descriptor words .. are 0": those of one group
 unfoldable pub groupUnused : List ℕ → ℕ → Bool
 groupUnused m g =
     let held = word m (groupAddress g + heldOffset) in
     let described = word m (groupAddress g + describedOffset) in
-    zeroAt m (groupAddress g + listOffset + held) (paper01 .frames - held)
+    zeroAt m (groupAddress g + listOffset + held) (pageCount paper01 - held)
     && zeroAt m (groupAddress g + descriptorOffset + described) (wordLimit - described)
 
 -- "a waiting message's words past its length are 0": of the i-th in the queue; of one in a buffer it is asked of the node
@@ -71,7 +85,9 @@ messageUnused m i =
 unfoldable pub unusedAreZero : List ℕ → Bool
 unusedAreZero m =
     queueUnused m
-    && (freeUnused m && (all (groupUnused m) (upFrom 1 groupCount) && all (messageUnused m) (upFrom 0 (word m queuedAt))))
+    && (freeUnused m
+    && (swapUnused m
+    && (enteredUnused m && (all (groupUnused m) (upFrom 1 groupCount) && all (messageUnused m) (upFrom 0 (word m queuedAt))))))
 
 -- the memory test: the size, the clauses on words, then those on the node that the words hold
 unfoldable pub memoryTests : List (List ℕ → Bool)
@@ -123,7 +139,7 @@ pub record Part : Type 0 where
 abbrev pub emptyPart : Part
 emptyPart = record { start = 0; len = 0 }
 
--- where the first message of group g is kept while it is buffered: in its first frame, behind the used-up places
+-- where the first message of group g is kept while it is buffered: in its first page, behind the used-up places
 unfoldable pub firstPlace : List ℕ → ℕ → ℕ
 firstPlace m g =
     frameAddress (word m (groupAddress g + listOffset)) + placeStride * word m (groupAddress g + usedOffset)
@@ -149,3 +165,16 @@ headPart m = elim (isMemory m) [ true ↦ runnerPart m (nodeAt m) | false ↦ em
 -- the words of that part
 unfoldable pub headWords : List ℕ → List ℕ
 headWords m = take (headPart m .len) (drop (headPart m .start) m)
+
+-- pages sent out, and pages brought in
+pub record PageCounts : Type 0 where
+  pub out : ℕ
+  pub brought : ℕ
+
+-- "A separate call gives pages sent out and brought in so far", zeros where the memory is no node
+unfoldable pub pageCounts : List ℕ → PageCounts
+pageCounts m =
+    elim (isMemory m) [
+      | true ↦ record { out = word m outAt; brought = word m broughtAt }
+      | false ↦ record { out = 0; brought = 0 }
+    ]

@@ -1,5 +1,6 @@
 -- The node as records and lists. A frame carries its contents: taking one moves them from the free line into a buffer, freeing one moves
--- them back, so no two parts of a node name the same storage. Assumes nothing.
+-- them back, so no two parts of a node name the same storage. Swap pages are numbered behind the frames, so that one number says where a
+-- page is. Assumes nothing.
 use Prim.Native.Nat.{ℕ, pred}
 use mathlib.Core.Bool.{Bool, false}
 use mathlib.Core.List.{List, [], _++_, map}
@@ -18,20 +19,22 @@ pub record Place : Type 0 where
   pub len : ℕ
   pub words : List ℕ
 
--- a page frame: its number and its places
+-- a page frame, or a swap page, which has places as a frame has: its number and its places. Frame f has number f, and swap page s the number of
+-- frames and s more
 pub record Frame : Type 0 where
   pub number : ℕ
   pub places : List Place
 
--- "Each group has a virtual buffer: a list of frames, filled in order. Let n be its messages, h the used-up places before the first"
+-- "Each group has a virtual buffer: a list of frames, filled in order. Let n be its messages, h the used-up places before the first". A page of
+-- it may be in a swap page; where its pages are changes nothing of its places
 pub record Buffer : Type 0 where
   -- h
   pub used : ℕ
   -- n
   pub count : ℕ
-  -- the numbers of its frames, the first message's first
+  -- the numbers of the frames and swap pages that its pages are in, the first message's first
   pub frames : List ℕ
-  -- the places of these frames, one frame's after the other's
+  -- the places of its pages, one page's after the other's
   pub places : List Place
 
 -- "Each group has a flag atomic, a flag pending and a descriptor of 0 to 8 words."
@@ -41,12 +44,22 @@ pub record Group : Type 0 where
   pub buffer : Buffer
   pub descriptor : List ℕ
 
+-- swap space, "the order of entry into frames" and the "pages sent out and brought in so far"
+pub record Paging : Type 0 where
+  -- the free swap pages: "swap pages are taken and freed in a line, as frames are"
+  pub swap : List Frame
+  -- the numbers of the frames in use, the one whose page entered first first
+  pub entered : List ℕ
+  pub out : ℕ
+  pub brought : ℕ
+
 -- the running group is 0 for nobody; the queue stands in order of arrival; "Free frames stand in a line"; group g is the g-th of the groups
 pub record Node : Type 0 where
   pub running : ℕ
   pub timer : ℕ
   pub queue : List Message
   pub free : List Frame
+  pub paging : Paging
   pub groups : List Group
 
 -- "every queue, buffer, flag and descriptor is empty or off, all message words are 0": an empty place
@@ -65,6 +78,10 @@ emptyBuffer = record { used = 0; count = 0; frames = []; places = [] }
 abbrev pub emptyGroup : Group
 emptyGroup = record { atomic = false; pending = false; buffer = emptyBuffer; descriptor = [] }
 
+-- no page is in a frame, none was sent out or brought in, and every swap page is free, the first in front
+unfoldable pub emptyPaging : Build → Paging
+emptyPaging b = record { swap = map (emptyFrame b) (upFrom (b .frames) (b .swap)); entered = []; out = 0; brought = 0 }
+
 -- "At power-on nobody runs"; "Free frames stand in a line, at power-on 0 to 31."
 unfoldable pub powerOn : Build → Node
 powerOn b =
@@ -73,6 +90,7 @@ powerOn b =
       timer = 0;
       queue = [];
       free = map (emptyFrame b) (upFrom 0 (b .frames));
+      paging = emptyPaging b;
       groups = replicate groupCount emptyGroup;
     }
 
@@ -82,24 +100,43 @@ groupOf n g = getD (n .groups) (pred g) emptyGroup
 
 -- the node with this running group
 unfoldable pub withRunning : ℕ → Node → Node
-withRunning g n = record { running = g; timer = n .timer; queue = n .queue; free = n .free; groups = n .groups }
+withRunning g n = record { running = g; timer = n .timer; queue = n .queue; free = n .free; paging = n .paging; groups = n .groups }
 
 -- with this timer
 unfoldable pub withTimer : ℕ → Node → Node
-withTimer t n = record { running = n .running; timer = t; queue = n .queue; free = n .free; groups = n .groups }
+withTimer t n = record { running = n .running; timer = t; queue = n .queue; free = n .free; paging = n .paging; groups = n .groups }
 
 -- with this hardware queue
 unfoldable pub withQueue : List Message → Node → Node
-withQueue q n = record { running = n .running; timer = n .timer; queue = q; free = n .free; groups = n .groups }
+withQueue q n = record { running = n .running; timer = n .timer; queue = q; free = n .free; paging = n .paging; groups = n .groups }
 
 -- with this free line
 unfoldable pub withFree : List Frame → Node → Node
-withFree fs n = record { running = n .running; timer = n .timer; queue = n .queue; free = fs; groups = n .groups }
+withFree fs n = record { running = n .running; timer = n .timer; queue = n .queue; free = fs; paging = n .paging; groups = n .groups }
+
+-- with this paging
+unfoldable pub withPaging : Paging → Node → Node
+withPaging s n = record { running = n .running; timer = n .timer; queue = n .queue; free = n .free; paging = s; groups = n .groups }
+
+-- with these groups
+unfoldable pub withGroups : List Group → Node → Node
+withGroups Gs n = record { running = n .running; timer = n .timer; queue = n .queue; free = n .free; paging = n .paging; groups = Gs }
 
 -- with this group under number g
 unfoldable pub withGroup : ℕ → Group → Node → Node
 withGroup g G n =
-    record { running = n .running; timer = n .timer; queue = n .queue; free = n .free; groups = set (n .groups) (pred g) G }
+    record {
+      running = n .running;
+      timer = n .timer;
+      queue = n .queue;
+      free = n .free;
+      paging = n .paging;
+      groups = set (n .groups) (pred g) G;
+    }
+
+-- the paging with this order of entry
+unfoldable pub withEntered : List ℕ → Paging → Paging
+withEntered es s = record { swap = s .swap; entered = es; out = s .out; brought = s .brought }
 
 -- the group with these flags
 unfoldable pub withFlags : Bool → Bool → Group → Group

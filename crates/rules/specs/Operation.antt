@@ -54,7 +54,7 @@ badWords = 4
 abbrev pub queueFull : ℕ
 queueFull = 5
 
--- "6: with this message the pledges would sum to above 32."
+-- "6: with this message the pledges would sum to above 32."; "Answer 6 .. now read[s] 96 for 32"
 abbrev pub noFrames : ℕ
 noFrames = 6
 

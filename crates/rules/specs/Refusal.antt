@@ -5,7 +5,7 @@ use mathlib.Core.List.{List, [], _∷_, _++_}
 use lib.Dec.{ltb, leb, eqb}
 use lib.ListN.{length}
 use Rattle.rules.specs.Lists.{isEmpty}
-use Rattle.rules.specs.Build.{Build, groupCount, wordLimit, lastNode, tickLimit}
+use Rattle.rules.specs.Build.{Build, pageCount, groupCount, wordLimit, lastNode, tickLimit}
 use Rattle.rules.specs.Node.{Message, Node, groupOf, withQueue, line}
 use Rattle.rules.specs.Frames.{pledges}
 use Rattle.rules.specs.Operation.{Request, poll, peek, dispose, beginAtomic, endAtomic, describe, launch}
@@ -23,7 +23,7 @@ refuseArrive b n m =
     cond (eqb (m .group) 0 || ltb groupCount (m .group)) badGroup
     (cond (isEmpty (m .words) || ltb wordLimit (length (m .words))) badWords
     (cond (leb (b .places) (length (n .queue))) queueFull
-    (cond (ltb (b .frames) (pledges b (queued m n))) noFrames
+    (cond (ltb (pageCount b) (pledges b (queued m n))) noFrames
     accepted)))
 
 -- "14: S above 8."

@@ -4,8 +4,9 @@ use mathlib.Core.Bool.{Bool, true, false, cond, not, _&&_}
 use mathlib.Core.List.{List, [], _∷_}
 use lib.Dec.{eqb}
 use Rattle.rules.specs.Lists.{isEmpty}
+use Rattle.rules.specs.Build.{Build}
 use Rattle.rules.specs.Node.{Message, Node, groupOf, withTimer, withQueue, withGroup, withFlags, buffered, line}
-use Rattle.rules.specs.Frames.{store}
+use Rattle.rules.specs.Paging.{store}
 
 -- a node, and how many messages were taken from the hardware queue to buffers on the way to it
 pub record Moved : Type 0 where
@@ -21,12 +22,12 @@ unfoldable pub mayStay : Node → Message → Bool
 mayStay n m = eqb (m .group) (n .running) && not (buffered n (m .group))
 
 -- "that head moves to the end of its group's buffer. The pass ends at the first head that may stay."
-unfoldable pub pass : List Message → Node → Moved
-pass [] n = record { node = withQueue [] n; moved = 0 }
-pass (m ∷ q) n =
+unfoldable pub pass : Build → List Message → Node → Moved
+pass b [] n = record { node = withQueue [] n; moved = 0 }
+pass b (m ∷ q) n =
     elim (mayStay n m) [
       | true ↦ record { node = withQueue (m ∷ q) n; moved = 0 }
-      | false ↦ oneMore (pass q (store m n))
+      | false ↦ oneMore (pass b q (store b m n))
     ]
 
 -- "If the queue is then empty, the timer is 0."
@@ -34,15 +35,15 @@ unfoldable pub restTimer : Node → Node
 restTimer n = cond (isEmpty (n .queue)) (withTimer 0 n) n
 
 -- "while the hardware queue has a head that is not the running group's, or whose group is buffered"
-unfoldable pub settle : Node → Moved
-settle n =
-    let s = pass (n .queue) n in
+unfoldable pub settle : Build → Node → Moved
+settle b n =
+    let s = pass b (n .queue) n in
     record { node = restTimer (s .node); moved = s .moved }
 
 -- "the whole hardware queue moves to the buffers"
-unfoldable pub drain : List Message → Node → Node
-drain [] n = withQueue [] n
-drain (m ∷ q) n = drain q (store m n)
+unfoldable pub drain : Build → List Message → Node → Node
+drain b [] n = withQueue [] n
+drain b (m ∷ q) n = drain b q (store b m n)
 
 -- "if the running group isn't atomic and its line isn't empty"
 unfoldable pub calls : Node → Bool

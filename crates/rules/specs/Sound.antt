@@ -3,14 +3,15 @@
 use Prim.Native.Nat.{ℕ, _*_, _≤_, _<_}
 use mathlib.Core.Path.{_≡_}
 use lib.ListN.{length}
-use Rattle.rules.specs.Lists.{Every, countOf}
-use Rattle.rules.specs.Build.{Build, paper01, groupCount, wordLimit}
+use Rattle.rules.specs.Lists.{Every, concatMap, countOf}
+use Rattle.rules.specs.Build.{Build, Sensible, paper01, pageCount, groupCount, wordLimit}
 use Rattle.rules.specs.Node.{Group, Node}
 use Rattle.rules.specs.Frames.{pledges}
-use Rattle.rules.specs.Valid.{GoodMessage, GoodPlace, GoodFrame, GoodGroup, frameNumbers}
+use Rattle.rules.specs.Valid.{GoodMessage, GoodPlace, GoodFrame, GoodGroup, IsSwap, frameList, frameNumbers, frameOrder}
 
 -- the bounds, the parts and the frames of a node
 pub record Sound (b : Build) (n : Node) : Type 0 where
+  pub sensible : Sensible b
   pub running-bound : n .running ≤ groupCount
   pub timer-bound : n .timer < b .timeout
   pub queue-length : length (n .queue) ≤ b .places
@@ -18,14 +19,22 @@ pub record Sound (b : Build) (n : Node) : Type 0 where
   pub group-count : length (n .groups) ≡ groupCount
   pub groups-good : Every (GoodGroup b) (n .groups)
   pub free-good : Every (GoodFrame b) (n .free)
-  pub frames-once : (f : ℕ) → f < b .frames → countOf f (frameNumbers n) ≡ 1
-  pub frames-all : length (frameNumbers n) ≡ b .frames
-  pub pledged : pledges b n ≤ b .frames
+  pub swap-good : Every (GoodFrame b) (n .paging .swap)
+  pub frames-once : (f : ℕ) → f < pageCount b → countOf f (frameNumbers n) ≡ 1
+  pub frames-all : length (frameNumbers n) ≡ pageCount b
+  pub swap-numbers : Every (IsSwap b) (n .paging .swap)
+  pub entered-once : (f : ℕ) → f < b .frames → countOf f (frameOrder n) ≡ 1
+  pub entered-all : length (frameOrder n) ≡ b .frames
+  pub pledged : pledges b n ≤ pageCount b
+
+-- page p is one of a group's
+abbrev pub Listed : ℕ → Node → Type 0
+Listed p n = 1 ≤ countOf p (concatMap frameList (n .groups))
 
 -- What the memory map asks of a node: less than Sound, so that it also holds where a buffer has a frame more than its messages need, and
 -- where a message stands in a buffer and still in the queue.
 
--- a group whose descriptor fits its record, and which has eight places for each frame
+-- a group whose descriptor fits its record, and which has eight places for each page
 pub record WholeGroup (G : Group) : Type 0 where
   pub descriptor : length (G .descriptor) ≤ wordLimit
   pub whole : length (G .buffer .places) ≡ length (G .buffer .frames) * paper01 .perFrame
@@ -38,5 +47,9 @@ pub record Mapped (n : Node) : Type 0 where
   pub group-count : length (n .groups) ≡ groupCount
   pub groups-whole : Every WholeGroup (n .groups)
   pub free-good : Every (GoodFrame paper01) (n .free)
-  pub frames-once : (f : ℕ) → f < paper01 .frames → countOf f (frameNumbers n) ≡ 1
-  pub frames-all : length (frameNumbers n) ≡ paper01 .frames
+  pub swap-good : Every (GoodFrame paper01) (n .paging .swap)
+  pub frames-once : (f : ℕ) → f < pageCount paper01 → countOf f (frameNumbers n) ≡ 1
+  pub frames-all : length (frameNumbers n) ≡ pageCount paper01
+  pub free-short : length (n .free) ≤ paper01 .frames
+  pub swap-short : length (n .paging .swap) ≤ paper01 .swap
+  pub entered-short : length (n .paging .entered) ≤ paper01 .frames

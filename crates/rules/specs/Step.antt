@@ -7,6 +7,7 @@ use lib.ListN.{length, getD}
 use Rattle.rules.specs.Build.{Build}
 use Rattle.rules.specs.Node.{Message, Node, groupOf, withRunning, withTimer, withQueue, withGroup, withFlags, withDescriptor, buffered, isOf, line}
 use Rattle.rules.specs.Frames.{removeFirst, withStock}
+use Rattle.rules.specs.Paging.{runnerResident}
 use Rattle.rules.specs.Operation.{Request, poll, peek, dispose, beginAtomic, endAtomic, describe, launch}
 use Rattle.rules.specs.Operation.{Operation, arrive, schedule, tick, user, unknown}
 use Rattle.rules.specs.Operation.{Report, accepted, noTrap, disposeExtend, atomicityExtend, timeoutTrap, refused}
@@ -30,10 +31,10 @@ unfoldable pub scheduled : ℕ → Node → Node
 scheduled g n = cond (eqb g (n .running)) n (withTimer 0 (withRunning g n))
 
 -- "At 256: timeout, the whole hardware queue moves to the buffers, timer 0"
-unfoldable pub timedOut : Effect → Effect
-timedOut e =
+unfoldable pub timedOut : Build → Effect → Effect
+timedOut b e =
     record {
-      node = withTimer 0 (drain (e .node .queue) (e .node));
+      node = withTimer 0 (drain b (e .node .queue) (e .node));
       value = e .value;
       trap = timeoutTrap;
       moved = e .moved + length (e .node .queue);
@@ -54,7 +55,7 @@ counted e =
 -- "A tick adds 1 to the timer if the hardware queue isn't empty."
 unfoldable pub oneTick : Build → List Message → Effect → Effect
 oneTick b [] e = e
-oneTick b (m ∷ q) e = cond (eqb (e .node .timer + 1) (b .timeout)) (timedOut e) (counted e)
+oneTick b (m ∷ q) e = cond (eqb (e .node .timer + 1) (b .timeout)) (timedOut b e) (counted e)
 
 -- T: "n single ticks"
 unfoldable pub ticks : Build → ℕ → Effect → Effect
@@ -80,7 +81,7 @@ withoutFirst g (m ∷ q) = elim (isOf g m) [ true ↦ q | false ↦ m ∷ withou
 unfoldable pub removed : Build → Node → Node
 removed b n =
     cond (buffered n (n .running))
-    (withStock (n .running) (removeFirst b (n .free) (groupOf n (n .running) .buffer)) n)
+    (withStock (n .running) (removeFirst b (n .free) (n .paging .entered) (groupOf n (n .running) .buffer)) n)
     (withQueue (withoutFirst (n .running) (n .queue)) n)
 
 -- the running group's flags changed
@@ -130,27 +131,28 @@ pub record Stepped : Type 0 where
   pub report : Report
   pub node : Node
 
--- "An accepted operation acts, then come settling and the upcall."
-unfoldable pub finish : Effect → Stepped
-finish e =
-    let s = settle (e .node) in
+-- "An accepted operation acts, then come settling and the upcall." The running group's first page is brought in "once settling is done"
+unfoldable pub finish : Build → Effect → Stepped
+finish b e =
+    let s = settle b (e .node) in
+    let n = runnerResident b (s .node) in
     record {
       report =
           record {
             answer = accepted;
             value = e .value;
             trap = e .trap;
-            upcall = upcallGroup (s .node);
+            upcall = upcallGroup n;
             moved = e .moved + s .moved;
             sent = e .sent;
           };
-      node = upcall (s .node);
+      node = upcall n;
     }
 
 -- "A refused step reports its number and zeros, and nothing in memory changes: no settling, no upcall."
 unfoldable pub step : Build → Node → Operation → Stepped
 step b n op =
     elim (refusal b n op) [
-      | zero ↦ finish (act b n op)
+      | zero ↦ finish b (act b n op)
       | suc r ↦ record { report = refused (suc r); node = n }
     ]

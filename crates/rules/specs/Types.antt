@@ -45,7 +45,7 @@ reportOf r =
 
 -- a build
 abbrev pub buildOf : Build → Build·rt
-buildOf b = record { frames = b .frames; «per_frame» = b .perFrame; places = b .places; timeout = b .timeout }
+buildOf b = record { frames = b .frames; swap = b .swap; «per_frame» = b .perFrame; places = b .places; timeout = b .timeout }
 
 -- the limits that every build shares
 abbrev pub limits : Limits·rt

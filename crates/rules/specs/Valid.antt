@@ -7,12 +7,13 @@ use mathlib.Core.List.{List, [], _∷_, _++_, map}
 use lib.Dec.{eqb, leb, ltb}
 use lib.ListN.{length, drop}
 use Rattle.rules.specs.Lists.{Every, all, passes, isEmpty, concatMap, countOf, upFrom}
-use Rattle.rules.specs.Build.{Build, groupCount, wordLimit}
+use Rattle.rules.specs.Build.{Build, Sensible, pageCount, groupCount, wordLimit}
 use Rattle.rules.specs.Node.{Message, Place, Frame, Buffer, Group, Node, groupOf, waiting, line}
 use Rattle.rules.specs.Frames.{ceilDiv, pledges}
+use Rattle.rules.specs.Paging.{inFrame}
 use Rattle.rules.specs.Settling.{mayStay}
 
--- a group's list of frames, by their numbers
+-- a group's list of pages, by their numbers
 unfoldable pub frameList : Group → List ℕ
 frameList G = G .buffer .frames
 
@@ -20,9 +21,17 @@ frameList G = G .buffer .frames
 unfoldable pub frameNumber : Frame → ℕ
 frameNumber f = f .number
 
--- the numbers of all frames: those of the free line, then each group's list
+-- the frames and swap pages that no buffer holds: the free line, then the swap line
+unfoldable pub idle : Node → List Frame
+idle n = n .free ++ n .paging .swap
+
+-- the numbers of all frames and swap pages: those of the two lines, then each group's list
 unfoldable pub frameNumbers : Node → List ℕ
-frameNumbers n = map frameNumber (n .free) ++ concatMap frameList (n .groups)
+frameNumbers n = map frameNumber (idle n) ++ concatMap frameList (n .groups)
+
+-- the numbers of the frames, the free ones and then those in use in the order of entry
+unfoldable pub frameOrder : Node → List ℕ
+frameOrder n = map frameNumber (n .free) ++ n .paging .entered
 
 -- a queued message: "A message has a group and 1 to 8 words", "Groups are 1 to 8."
 pub record GoodMessage (m : Message) : Type 0 where
@@ -45,7 +54,7 @@ pub record GoodWaiting (p : Place) : Type 0 where
   pub few-words : p .len ≤ wordLimit
   pub rest-zero : Every Zero (drop (p .len) (p .words))
 
--- a free frame has all its places
+-- a free frame or swap page has all its places
 pub record GoodFrame (b : Build) (f : Frame) : Type 0 where
   pub whole : length (f .places) ≡ b .perFrame
   pub places : Every GoodPlace (f .places)
@@ -65,8 +74,18 @@ pub record GoodGroup (b : Build) (G : Group) : Type 0 where
   pub descriptor : length (G .descriptor) ≤ wordLimit
   pub pending-atomic : G .pending ≡ true → G .atomic ≡ true
 
--- a node
+-- a swap page is numbered behind the frames
+abbrev pub IsSwap : Build → Frame → Type 0
+IsSwap b s = b .frames ≤ s .number
+
+-- the first page of a list is in a frame
+abbrev pub FirstInFrame : Build → List ℕ → Type 0
+FirstInFrame b [] = Unit {0}
+FirstInFrame b (p ∷ ps) = p < b .frames
+
+-- a node of a build that makes sense
 pub record Valid (b : Build) (n : Node) : Type 0 where
+  pub sensible : Sensible b
   -- "running is 0 to 8"
   pub running-bound : n .running ≤ groupCount
   -- "counts, groups, waiting messages' lengths, h and timer are within the bounds above"
@@ -76,11 +95,16 @@ pub record Valid (b : Build) (n : Node) : Type 0 where
   pub group-count : length (n .groups) ≡ groupCount
   pub groups-good : Every (GoodGroup b) (n .groups)
   pub free-good : Every (GoodFrame b) (n .free)
-  -- "each frame stands once, in the free line or in one list"
-  pub frames-once : (f : ℕ) → f < b .frames → countOf f (frameNumbers n) ≡ 1
-  pub frames-all : length (frameNumbers n) ≡ b .frames
-  -- "pledges sum to at most 32"
-  pub pledged : pledges b n ≤ b .frames
+  pub swap-good : Every (GoodFrame b) (n .paging .swap)
+  -- "each frame stands once, in the free line or in one list"; "swap pages and their line meet what 01 asks of frames and the free line"
+  pub frames-once : (f : ℕ) → f < pageCount b → countOf f (frameNumbers n) ≡ 1
+  pub frames-all : length (frameNumbers n) ≡ pageCount b
+  pub swap-numbers : Every (IsSwap b) (n .paging .swap)
+  -- "this order holds each frame in use once": each frame stands once, in the free line or in the order of entry
+  pub entered-once : (f : ℕ) → f < b .frames → countOf f (frameOrder n) ≡ 1
+  pub entered-all : length (frameOrder n) ≡ b .frames
+  -- "pledges sum to at most 32", which now reads 96
+  pub pledged : pledges b n ≤ pageCount b
   -- "pending only with atomic and a line not empty" (with atomic: GoodGroup)
   pub pending-line : (g : ℕ) → 1 ≤ g → g ≤ groupCount → groupOf n g .pending ≡ true → isEmpty (line n g) ≡ false
   -- "a running group with a line not empty is atomic"
@@ -89,6 +113,8 @@ pub record Valid (b : Build) (n : Node) : Type 0 where
   pub head-stays : (m : Message) (q : List Message) → n .queue ≡ m ∷ q → mayStay n m ≡ true
   -- "if it is empty the timer is 0"
   pub timer-idle : n .queue ≡ [] → n .timer ≡ 0
+  -- "a running group's first page is in a frame"
+  pub runner-resident : 1 ≤ n .running → FirstInFrame b (groupOf n (n .running) .buffer .frames)
 
 -- The same as tests.
 
@@ -133,6 +159,19 @@ unfoldable pub headStays : List Message → Node → Bool
 headStays [] n = eqb (n .timer) 0
 headStays (m ∷ q) n = mayStay n m
 
+-- IsSwap
+unfoldable pub isSwap : Build → Frame → Bool
+isSwap b s = leb (b .frames) (s .number)
+
+-- FirstInFrame
+unfoldable pub firstInFrame : Build → List ℕ → Bool
+firstInFrame b [] = true
+firstInFrame b (p ∷ ps) = inFrame b p
+
+-- "a running group's first page is in a frame"
+unfoldable pub runnerInFrame : Build → Node → Bool
+runnerInFrame b n = eqb (n .running) 0 || firstInFrame b (groupOf n (n .running) .buffer .frames)
+
 -- "each frame stands once"
 unfoldable pub standsOnce : List ℕ → ℕ → Bool
 standsOnce fs f = eqb (countOf f fs) 1
@@ -147,12 +186,17 @@ nodeTests b =
     ∷ (λ n. eqb (length (n .groups)) groupCount)
     ∷ (λ n. all (isGroup b) (n .groups))
     ∷ (λ n. all (isFrame b) (n .free))
-    ∷ (λ n. all (standsOnce (frameNumbers n)) (upFrom 0 (b .frames)))
-    ∷ (λ n. eqb (length (frameNumbers n)) (b .frames))
-    ∷ (λ n. leb (pledges b n) (b .frames))
+    ∷ (λ n. all (isFrame b) (n .paging .swap))
+    ∷ (λ n. all (standsOnce (frameNumbers n)) (upFrom 0 (pageCount b)))
+    ∷ (λ n. eqb (length (frameNumbers n)) (pageCount b))
+    ∷ (λ n. all (isSwap b) (n .paging .swap))
+    ∷ (λ n. all (standsOnce (frameOrder n)) (upFrom 0 (b .frames)))
+    ∷ (λ n. eqb (length (frameOrder n)) (b .frames))
+    ∷ (λ n. leb (pledges b n) (pageCount b))
     ∷ (λ n. all (pendingHasLine n) (upFrom 1 groupCount))
     ∷ runnerAtomic
     ∷ (λ n. headStays (n .queue) n)
+    ∷ runnerInFrame b
     ∷ []
 
 -- a node passes them all

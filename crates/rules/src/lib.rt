@@ -118,6 +118,7 @@ impl Report {
 // The sizes of a build.
 pub struct Build {
     pub frames: u32,
+    pub swap: u32,
     pub per_frame: u32,
     pub places: u32,
     pub timeout: u32,

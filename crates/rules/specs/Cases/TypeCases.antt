@@ -48,7 +48,7 @@ pub record TypesHold : Type 0 where
         sent = record { node = 6; group = 7; len = 2; words = 8 ∷ 9 ∷ 0 ∷ 0 ∷ 0 ∷ 0 ∷ 0 ∷ 0 ∷ [] };
       }
   pub nothing-sent : sentOf [] ≡ record { node = 0; group = 0; len = 0; words = replicate 8 0 }
-  -- "16 queue places, 32 frames, 256 ticks"; "A frame holds 8 messages."
-  pub build : buildOf paper01 ≡ record { frames = 32; «per_frame» = 8; places = 16; timeout = 256 }
+  -- "16 queue places, 32 frames, 256 ticks"; "A frame holds 8 messages."; "64 swap pages"
+  pub build : buildOf paper01 ≡ record { frames = 32; swap = 64; «per_frame» = 8; places = 16; timeout = 256 }
   -- "8 groups"; "1 to 8 words"; "node 0 to 63"; "1 to 65,535"
   pub shared-limits : limits ≡ record { groups = 8; words = 8; «last_node» = 63; «tick_limit» = 65535 }

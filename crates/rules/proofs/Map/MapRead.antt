@@ -207,7 +207,7 @@ module _ (m : List ℕ) (n : Node) (v : Mapped n) (s : MapStands m n) where
   unfolding nodeAt
   read =
       let queue : messagesAt m queueAt (word m queuedAt) ≡ n .queue = rw (s .queued) (queue-read .0 .0) in
-      let free : map (frameAt m) (wordsAt m freeAt (word m freeCountAt)) ≡ n .free = 
+      let free : map (frameAt m) (wordsAt m freeAt (word m freeCountAt)) ≡ n .free =
       rw (s .free-count, line-read .0) (frames-at m (n .free) (idle-read .0)) in (
         λ i. record { running = s .running i; timer = s .timer i; queue = queue i; free = free i; paging = paging-read .0 i; groups = group-records .0 i },
         record {

@@ -1,7 +1,6 @@
 -- A run over memory is the run over nodes, seen through the map: each step reads the node that the last one wrote, and the words past the
 -- node's size stay. Assumes nothing.
 use Prim.Native.Nat.{ℕ, _≤_}
-use native.Mathlib.Omega.{arith}
 use mathlib.Core.Path.{_≡_, refl, ap, _∙_}
 use mathlib.Core.Bool.{true}
 use mathlib.Core.List.{List, [], _∷_, _++_}

@@ -11,11 +11,11 @@ use native.Mathlib.Nat.{eq-or-lt-of-le}
 use lib.Dec.{leb, ltb, eqb}
 use borrow.Author.Tests.{leb-true, ltb-true, eqb-true, le-leb, lt-ltb, eq-eqb, eqb-false, ne-eqb, not-true}
 use Rattle.rules.specs.Lists.{all, Every, passes, isEmpty, countOf, upFrom}
-use Rattle.rules.specs.Build.{Build, Sensible, pageCount, groupCount}
+use Rattle.rules.specs.Build.{Build, Sensible, groupCount}
 use Rattle.rules.specs.Node.{Message, Place, Frame, Buffer, Group, Node, groupOf, line}
 use Rattle.rules.specs.Paging.{inFrame}
 use Rattle.rules.specs.Settling.{mayStay}
-use Rattle.rules.specs.Valid.{Zero, GoodMessage, GoodPlace, GoodWaiting, GoodFrame, GoodBuffer, GoodGroup, IsSwap, FirstInFrame, Valid, frameNumbers, frameOrder}
+use Rattle.rules.specs.Valid.{Zero, GoodMessage, GoodPlace, GoodWaiting, GoodFrame, GoodBuffer, GoodGroup, IsSwap, FirstInFrame, Valid}
 use Rattle.rules.specs.Valid.{isMessage, isPlace, isWaiting, isFrame, isBuffer, isGroup, pendingHasLine, runnerAtomic, headStays, isSwap, firstInFrame, runnerInFrame, standsOnce, nodeTests, isNode}
 
 -- Tests in general.
@@ -208,4 +208,4 @@ pub valid-isNode : (b : Build) (n : Node) → Valid b n → isNode b n ≡ true
 unfolding isNode nodeTests
 valid-isNode b n v =
     simp node-facts
-    (v .running-bound, (v .timer-bound, (v .queue-length, (v .queue-good, (v .group-count, (v .groups-good, (v .free-good, (v .swap-good, (v .frames-once, (v .frames-all, (v .swap-numbers, (v .entered-once, (v .entered-all, (v .pledged, (v .pending-line, (v .running-atomic, ((v .head-stays, v .timer-idle), (v .runner-resident, tt))))))))))))))))))
+    (search, (search, (search, (search, (search, (search, (search, (search, (v .frames-once, (search, (search, (v .entered-once, search))))))))))))

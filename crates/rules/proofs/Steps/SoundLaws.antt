@@ -6,12 +6,12 @@ use mathlib.Core.List.{map, map-append}
 use native.Mathlib.Omega.{arith}
 use lib.ListN.{length, length-append, length-map}
 use Rattle.rules.specs.Lists.{isEmpty, concatMap}
-use Rattle.rules.specs.Build.{Build, Sensible, paper01, pageCount, groupCount}
+use Rattle.rules.specs.Build.{Build, Sensible, paper01, groupCount}
 use Rattle.rules.specs.Node.{Group, Node, groupOf, line}
-use Rattle.rules.specs.Valid.{GoodGroup, Valid, IsSwap, frameNumber, frameList, idle, frameNumbers, frameOrder}
+use Rattle.rules.specs.Valid.{GoodGroup, Valid, frameNumber, frameList, idle, frameNumbers, frameOrder}
 use Rattle.rules.specs.Sound.{Sound, WholeGroup, Mapped}
 use Rattle.rules.proofs.Steps.EveryLaws.{every-mono, every-remap}
-use Rattle.rules.proofs.Steps.ListLaws.{below, below-once, below-length, below-append, below-none}
+use Rattle.rules.proofs.Steps.ListLaws.{below-once, below-length, below-append, below-none}
 
 -- paper 01's build makes sense
 pub paper-sensible : Sensible paper01

@@ -14,6 +14,13 @@ pub record Wrote (m m′ : List ℕ) (a : ℕ) (ws : List ℕ) : Type 0 where
   pub below : (b : ℕ) → b < a → word m′ b ≡ word m b
   pub above : (b : ℕ) → a + length ws ≤ b → word m′ b ≡ word m b
 
+-- m′ is m with the n words at addresses a and b exchanged
+pub record Swapped (m m′ : List ℕ) (a b n : ℕ) : Type 0 where
+  pub same-length : length m′ ≡ length m
+  pub first : wordsAt m′ a n ≡ wordsAt m b n
+  pub second : wordsAt m′ b n ≡ wordsAt m a n
+  pub else : (c : ℕ) → (a ≤ c → a + n ≤ c) → (b ≤ c → b + n ≤ c) → word m′ c ≡ word m c
+
 -- the front of the free line, f, is taken: the line moves down, and its count is one less
 pub record TookFrame (m m′ : List ℕ) (f : ℕ) : Type 0 where
   pub front : f ≡ word m freeAt

@@ -4,6 +4,7 @@ pub mod descriptor;
 pub mod frames;
 pub mod group;
 pub mod map;
+pub mod paging;
 pub mod queue;
 pub mod words;
 

@@ -5,7 +5,7 @@
 -- Assumes nothing.
 use Prim.Native.Nat.{ℕ, _+_, _-_, _*_, _≤_, _<_}
 use mathlib.Core.Path.{_≡_, refl, sym, ap, _∙_}
-use mathlib.Core.Bool.{true}
+use mathlib.Core.Bool.{true, false}
 use mathlib.Core.List.{List, _++_, map}
 use native.Mathlib.Omega.{arith}
 use lib.ListN.{length, drop, length-append, length-map}
@@ -16,7 +16,7 @@ use Rattle.rules.specs.Valid.{Valid, frameNumber, idle}
 use Rattle.rules.specs.Paging.{framesOf, placesOf}
 use Rattle.rules.specs.Memory.{queuedAt, freeCountAt, queueAt, queueStride, freeAt, groupsAt, framesAt, frameStride, swapCountAt, swapAt, size}
 use Rattle.rules.specs.Memory.{word, wordsAt, messageWords, queueWords, lineWords, groupWords, placeWords, frameWords, words, allFrames, messageAt, messagesAt, placeAt, framePlaces, frameAt, frameAddress, bufferAt, listAt, groupAt, groupsFrom, pagingFrom, nodeAt}
-use Rattle.rules.specs.MemoryTest.{isMemory}
+use Rattle.rules.specs.MemoryTest.{isMemory, pageCounts}
 use Rattle.rules.proofs.Steps.EveryLaws.{every-append, every-concat, every-of}
 use Rattle.rules.proofs.Steps.ListLaws.{length-parts}
 use Rattle.rules.proofs.Steps.SoundLaws.{valid-mapped}
@@ -133,3 +133,13 @@ module _ (m : List ℕ) (h : isMemory m ≡ true) where
       let l = words-length (nodeAt m) (valid-mapped test-valid) in
       let s = map-stands (nodeAt m) (valid-mapped test-valid) m .1 (holds m (memory-fits m .0 h .1 .0) test-valid) in
       rw l at (stands-front m (words (nodeAt m)) (rw l test-size) s)
+
+  -- the counts of pages are those of that node
+  pub counts-node : pageCounts m ≡ record { out = nodeAt m .paging .out; brought = nodeAt m .paging .brought }
+  unfolding pageCounts nodeAt pagingFrom
+  counts-node = rw (h, pageCounts)
+
+-- and 0 where the memory is no node
+pub counts-none : (m : List ℕ) → isMemory m ≡ false → pageCounts m ≡ record { out = 0; brought = 0 }
+unfolding pageCounts
+counts-none m e = rw (e, pageCounts)

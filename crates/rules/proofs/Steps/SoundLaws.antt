@@ -56,8 +56,8 @@ valid-sound v =
       pledged = v .pledged;
     }
 
--- free frames and frames in use are those of the build
 module _ {b : Build} {n : Node} (s : Sound b n) where
+  -- the free frames and those in the order of entry are as many as the build has
   pub line-lengths : length (n .free) + length (n .paging .entered) ≡ b .frames
   unfolding frameOrder
   line-lengths =

@@ -1,4 +1,4 @@
--- `memory::words::move_down` meets its contract. The invariant: i words have moved, and those to come are as they were. Assumes nothing.
+-- `memory::words::copy` meets its contract. The invariant: i words are copied, and those to come are as they were. Assumes nothing.
 use Prim.Native.Nat.{_+_, _-_, _≤_}
 use native.Mathlib.Omega.{arith}
 use mathlib.Core.Path.{_≡_}
@@ -6,8 +6,9 @@ use Rattle.rules.specs.Memory.{word, wordsAt}
 use Rattle.rules.proofs.Map.MapWords.{length-wordsAt}
 use Rattle.memory.specs.Writes.{Wrote}
 use Rattle.memory.proofs.WriteLaws.{wrote-none, wrote-next, wordsAt-more}
-use Rattle.memory.proofs.words.move_down.Statement.{statement}
-use Rattle.memory.proofs.words.move_down.Tie as tie
+use Rattle.memory.proofs.words.SwapLaws.{uncopied}
+use Rattle.memory.proofs.words.copy.Statement.{statement}
+use Rattle.memory.proofs.words.copy.Tie as tie
 
 abbrev Inv-loop : tie.InvT-loop
 Inv-loop m₀ to from n i₀ m i = (i ≤ n) × Wrote m₀ m to (wordsAt m₀ from i)
@@ -52,7 +53,7 @@ loop-again c =
     let i = c .before .before .loop .i in
     let w = c .before .before .loop .inv .1 in
     let l = length-wordsAt m₀ (a .from) i in
-    let same : word m (a .from + i) ≡ word m₀ (a .from + i) = w .above (a .from + i) (omega arith) in (
+    let same : word m (a .from + i) ≡ word m₀ (a .from + i) = rw l at (uncopied w (a .from) (a .n) (omega arith) (c .before .before .before .pre .1)) in (
       omega arith,
       rw (wordsAt-more m₀ (a .from) i, ← same) (wrote-next w (a .to + i) (word m (a .from + i)) (omega arith) (omega arith)),
     )
@@ -63,5 +64,5 @@ same-length c = c .before .loop .inv .1 .same-length
 returns : tie.Need-returns Inv-loop μ-loop
 returns c = let e : c .before .before .args .n ≡ c .before .loop .i = omega arith in rw e (c .before .loop .inv .1)
 
-pub move-down-spec : {M : Type 1} → statement M
-move-down-spec = tie.close (tie.spec Inv-loop μ-loop loop-holds add-m mul-m slice-read-m add-m-2 mul-m-2 slice-write-m add-i loop-less loop-again same-length returns)
+pub copy-spec : {M : Type 1} → statement M
+copy-spec = tie.close (tie.spec Inv-loop μ-loop loop-holds add-m mul-m slice-read-m add-m-2 mul-m-2 slice-write-m add-i loop-less loop-again same-length returns)

@@ -1,0 +1,2 @@
+-- The laws of paging: numbers traded in the lists.
+pub mod TradeLaws

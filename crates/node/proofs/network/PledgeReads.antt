@@ -75,8 +75,8 @@ module _ {m : List ℕ} {n : Node} {r : List ℕ} (h : Holds m n r) (g : ℕ) wh
         let words = group-words (holds-pieces h) (h .mapped) g low high in
         ap (λ (a : ℕ). ceilDiv a (paper01 .perFrame)) (omega (arith, words .used, words .count))
 
-    -- it is at most the 32 frames and 17 messages
-    pub pledge-few : Sound paper01 n → pledge paper01 (queued x n) g ≤ 49
+    -- it is at most the 96 pages and 17 messages
+    pub pledge-few : Sound paper01 n → pledge paper01 (queued x n) g ≤ 113
     unfolding queued
     pledge-few s =
         omega (

@@ -15,7 +15,7 @@ use Rattle.rules.proofs.Steps.SoundLaws.{valid-sound}
 use Rattle.memory.specs.Holds.{Holds}
 use Rattle.memory.proofs.PieceLaws.{holds-pieces}
 use Rattle.memory.proofs.queue.QueueLaws.{queue-count}
-use Rattle.node.proofs.network.ArriveLaws.{above-frames, full-queue, high-group, many-words, no-group, no-words, within-frames}
+use Rattle.node.proofs.network.ArriveLaws.{above-pages, full-queue, high-group, many-words, no-group, no-words, within-pages}
 use Rattle.node.proofs.network.PledgeLaws.{early}
 use Rattle.node.proofs.network.PledgeReads.{places}
 use Rattle.node.proofs.network.refusal.Statement.{statement}
@@ -83,7 +83,7 @@ returns-6 c n r h v =
     let s = c .before .before .before .before .before .before .before .before .before .before .before .args in
     let x = good (c .before .before .before .before .before) in
     let free : length (n .queue) < length (n .free) = omega (arith, queue-count h, holds-pieces h .free-count, c .if6 .taken) in
-    sym (within-frames paper01 n (s .g) (s .words .now) x (room (c .before .before .before) n r h) (early (valid-sound v) (message (c .before .before .before .before .before .before .before .before .before .before .before)) x free))
+    sym (within-pages paper01 n (s .g) (s .words .now) x (room (c .before .before .before) n r h) (early (valid-sound v) (message (c .before .before .before .before .before .before .before .before .before .before .before)) x free))
 
 pledges-requires : tie.Need-pledges-requires
 pledges-requires c κs = search needs
@@ -92,13 +92,13 @@ returns-7 : tie.Need-returns-7
 returns-7 c n r h v =
     let s = c .before .before .before .before .before .before .before .before .before .before .before .before .before .args in
     let total = c .before .pledges .ensures n r h (message (c .before .before .before .before .before .before .before .before .before .before .before .before .before)) refl in
-    sym (above-frames paper01 n (s .g) (s .words .now) (good (c .before .before .before .before .before .before .before)) (room (c .before .before .before .before .before) n r h) (omega (arith, c .if7 .taken)))
+    sym (above-pages paper01 n (s .g) (s .words .now) (good (c .before .before .before .before .before .before .before)) (room (c .before .before .before .before .before) n r h) (omega (arith, c .if7 .taken)))
 
 returns-8 : tie.Need-returns-8
 returns-8 c n r h v =
     let s = c .before .before .before .before .before .before .before .before .before .before .before .before .before .args in
     let total = c .before .pledges .ensures n r h (message (c .before .before .before .before .before .before .before .before .before .before .before .before .before)) refl in
-    sym (within-frames paper01 n (s .g) (s .words .now) (good (c .before .before .before .before .before .before .before)) (room (c .before .before .before .before .before) n r h) (omega (arith, c .if7 .left)))
+    sym (within-pages paper01 n (s .g) (s .words .now) (good (c .before .before .before .before .before .before .before)) (room (c .before .before .before .before .before) n r h) (omega (arith, c .if7 .left)))
 
 pub refusal-spec : {M : Type 1} → statement M
 refusal-spec =

@@ -1,2 +1,4 @@
--- The laws of paging: numbers traded in the lists.
+-- The laws of paging: numbers traded in the lists, pages moved.
 pub mod TradeLaws
+pub mod MoveLaws
+pub mod PiecesLaws

@@ -23,34 +23,35 @@ use Rattle.memory.proofs.WriteLaws.{widened, widened-end, wrote-as, wro
 
 -- Each line stands.
 
-module _ {m : List ℕ} {n : Node} {r : List ℕ} (p : Pieces m n r) (v : Mapped n) where
-  pub free-line : LineStands m freeCountAt freeAt (paper01 .frames) (map frameNumber (n .free))
+module _ {m : List ℕ} {n : Node} {r : List ℕ} (p : Pieces m n r) where
+  pub free-line : length (n .free) ≤ paper01 .frames → LineStands m freeCountAt freeAt (paper01 .frames) (map frameNumber (n .free))
   unfolding lineWords
-  free-line =
+  free-line short =
       let l = length-map (n .free) frameNumber in
-      record { counted = p .free-count ∙ sym l; numbers = p .free; few = omega (arith, v .free-short) }
+      record { counted = p .free-count ∙ sym l; numbers = p .free; few = omega arith }
 
-  -- swap space stands word by word
-  pub paging-words : PagingStands m (n .paging)
-  paging-words = paging-stands m (n .paging) (v .swap-short) (v .entered-short) .0 (p .paging)
+  module _ (swaps : length (n .paging .swap) ≤ paper01 .swap) (entries : length (n .paging .entered) ≤ paper01 .frames) where
+    -- swap space stands word by word
+    pub paging-words : PagingStands m (n .paging)
+    paging-words = paging-stands m (n .paging) swaps entries .0 (p .paging)
 
-  pub swap-line : LineStands m swapCountAt swapAt (paper01 .swap) (map frameNumber (n .paging .swap))
-  swap-line =
-      let l = length-map (n .paging .swap) frameNumber in
-      let few : length (map frameNumber (n .paging .swap)) ≤ paper01 .swap = omega (arith, v .swap-short) in
-      record {
-        counted = paging-words .swap-count ∙ sym l;
-        numbers = pad-stands m swapAt (paper01 .swap) (map frameNumber (n .paging .swap)) few .1 (paging-words .swap, rw l (paging-words .swap-zero));
-        few = few;
-      }
+    pub swap-line : LineStands m swapCountAt swapAt (paper01 .swap) (map frameNumber (n .paging .swap))
+    swap-line =
+        let l = length-map (n .paging .swap) frameNumber in
+        let few : length (map frameNumber (n .paging .swap)) ≤ paper01 .swap = omega arith in
+        record {
+          counted = paging-words .swap-count ∙ sym l;
+          numbers = pad-stands m swapAt (paper01 .swap) (map frameNumber (n .paging .swap)) few .1 (paging-words .swap, rw l (paging-words .swap-zero));
+          few = few;
+        }
 
-  pub entered-line : LineStands m enteredCountAt enteredAt (paper01 .frames) (n .paging .entered)
-  entered-line =
-      record {
-        counted = paging-words .entered-count;
-        numbers = pad-stands m enteredAt (paper01 .frames) (n .paging .entered) (v .entered-short) .1 (paging-words .entered, paging-words .entered-zero);
-        few = v .entered-short;
-      }
+    pub entered-line : LineStands m enteredCountAt enteredAt (paper01 .frames) (n .paging .entered)
+    entered-line =
+        record {
+          counted = paging-words .entered-count;
+          numbers = pad-stands m enteredAt (paper01 .frames) (n .paging .entered) entries .1 (paging-words .entered, paging-words .entered-zero);
+          few = entries;
+        }
 
 -- The free line is written.
 pub free-put : {m m′ : List ℕ} {n : Node} {r : List ℕ} → Pieces m n r → (fs : List Frame) → Every (FrameStands m) fs

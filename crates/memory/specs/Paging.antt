@@ -1,12 +1,16 @@
--- What paging does to memory, word by word: numbers traded in the lists of pages, a page copied, two pages exchanged. Assumes nothing.
+-- What paging does to memory, word by word: numbers traded in the lists of pages, a page copied, two pages exchanged; and the nodes that
+-- pages are sent out of and brought into. Assumes nothing.
 use Prim.Native.Nat.{ℕ, _+_, _≤_, _<_}
 use mathlib.Core.Path.{_≡_}
-use mathlib.Core.List.{List, map}
+use mathlib.Core.List.{List, [], map}
 use lib.ListN.{length}
 use Rattle.rules.specs.Build.{paper01, pageCount, groupCount}
 use Rattle.rules.specs.Memory.{size, frameStride, heldOffset, listOffset, word, wordsAt, listAt, groupAddress, frameAddress}
-use Rattle.rules.specs.Paging.{traded}
+use Rattle.rules.specs.Node.{Node, inQueue}
+use Rattle.rules.specs.Paging.{traded, victim, sendOut, bringIn}
+use Rattle.rules.specs.Sound.{Sound, Listed}
 use Rattle.memory.specs.Writes.{Wrote, Swapped}
+use Rattle.memory.specs.Holds.{Holds}
 
 -- the memory is long enough, and no group's list is longer than the pages are many
 pub record Listing (m : List ℕ) : Type 0 where
@@ -39,3 +43,50 @@ pub record PagesSwapped (m m′ : List ℕ) (p q : ℕ) : Type 0 where
   pub between : List ℕ
   pub swapped : Swapped m between (frameAddress p) (frameAddress q) frameStride
   pub lists : Traded between m′ p q groupCount
+
+-- a sound node without a free frame
+pub record Crowded (n : Node) : Type 0 where
+  pub sound : Sound paper01 n
+  pub full : n .free ≡ []
+
+-- f is the victim of the node that m holds
+abbrev pub Chosen : List ℕ → ℕ → Type 0
+Chosen m f = (n : Node) (r : List ℕ) → Holds m n r → Crowded n → f ≡ victim n
+
+-- such a node with a free swap page
+pub record Sending (n : Node) : Type 0 where
+  pub crowded : Crowded n
+  pub some : 1 ≤ length (n .paging .swap)
+
+-- a sound node in which page p is a group's
+pub record Owned (p : ℕ) (n : Node) : Type 0 where
+  pub sound : Sound paper01 n
+  pub listed : Listed p n
+
+-- and in swap
+pub record Away (p : ℕ) (n : Node) : Type 0 where
+  pub owned : Owned p n
+  pub high : paper01 .frames ≤ p
+
+-- with a frame free
+pub record Fetching (p : ℕ) (n : Node) : Type 0 where
+  pub away : Away p n
+  pub some : 1 ≤ length (n .free)
+
+-- or none
+pub record Exchanging (p : ℕ) (n : Node) : Type 0 where
+  pub away : Away p n
+  pub full : n .free ≡ []
+
+-- a sound node with a message for group g in the queue
+pub record Wanting (g : ℕ) (n : Node) : Type 0 where
+  pub sound : Sound paper01 n
+  pub queued : 1 ≤ length (inQueue n g)
+
+-- the victim is sent out
+abbrev pub sending : Node → Node
+sending n = sendOut paper01 (victim n) (n .paging .swap) n
+
+-- page p is brought in
+abbrev pub bringing : ℕ → Node → Node
+bringing p n = bringIn paper01 p (n .free) n

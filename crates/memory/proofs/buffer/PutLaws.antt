@@ -23,7 +23,7 @@ use Rattle.rules.specs.Sound.{Mapped, WholeGroup}
 use Rattle.memory.specs.Holds.{Holds, Room, putting}
 use Rattle.memory.specs.Writes.{Wrote}
 use Rattle.memory.proofs.CountLaws.{its-bounded, its-free, its-once, its-other, its-swap}
-use Rattle.memory.proofs.group.GroupLaws.{group-whole, group-words, listed, mapped-group, record-stands}
+use Rattle.memory.proofs.group.GroupLaws.{group-whole, group-words, listed, mapped-group, record-stands, record-wrote, withRecord}
 use Rattle.memory.proofs.PieceLaws.{FrameStands, Pieces, holds-pieces, pieces-hold}
 use Rattle.memory.proofs.PieceWrites.{group-put, rest-kept, set-cases}
 use Rattle.memory.proofs.buffer.PlaceLaws.{frames-kept, frames-put}
@@ -98,7 +98,7 @@ pub putting-held : {m m₁ m₂ : List ℕ} {n : Node} {r : List ℕ} → Holds 
     → Wrote m m₁ (endPlace m (x .group)) (placeWords (placeOf x))
     → Wrote m₁ m₂ (groupAddress (x .group)) (counted m (x .group))
     → Holds m₂ (putting x n) r
-unfolding putting withFree withGroup withBuffer groupWords framesOf placed appended groupOf
+unfolding putting withFree withGroup withBuffer withRecord groupWords framesOf placed appended groupOf
 putting-held {m} {m₁} {m₂} {n} {r} h x low high room w₁ w₂ =
     let g = x .group in
     let v = h .mapped in
@@ -124,10 +124,7 @@ putting-held {m} {m₁} {m₂} {n} {r} h x low high room w₁ w₂ =
     let e : 8 * (end / 8) + end % 8 ≡ end = omega arith in
     let G″ = withBuffer (appended x B) G in
     let w₂′ : Wrote m₁ m₂ a (groupWords G″) =
-    widened {us = flagWord (G .atomic) ∷ flagWord (G .pending) ∷ B .used ∷ (B .count + 1) ∷ []}
-    (rw (words .atomic, words .pending, words .used, words .count) at w₂) a []
-    (flagWord (G .atomic) ∷ flagWord (G .pending) ∷ B .used ∷ B .count ∷ [])
-    (length (B .frames) ∷ length (G .descriptor) ∷ pad wordLimit (G .descriptor) ++ listWords (B .frames)) (sym (add-zero a)) refl stands in
+    record-wrote a G′ stands (G .atomic) (G .pending) (B .used) (B .count + 1) (rw (words .atomic, words .pending, words .used, words .count) at w₂) in
     let p₂ : Pieces m₂ (withGroup g G″ n′) r = group-put p₁ g low high (length-set (n .groups) (pred g) G′ ∙ count) G″ w₂′ (rw e at frames) in
     let over : withGroup g G″ n′ ≡ withGroup g G″ n = λ i. record {
       running = n .running;

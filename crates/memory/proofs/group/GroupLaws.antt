@@ -27,7 +27,7 @@ use Rattle.memory.proofs.CountLaws.{lists-short}
 use Rattle.memory.proofs.lines.LineLaws.{LineStands, LineWrote}
 use Rattle.memory.proofs.PieceLaws.{Pieces, holds-pieces, pieces-hold}
 use Rattle.memory.proofs.PieceWrites.{group-put}
-use Rattle.memory.proofs.WriteLaws.{widened, widened-end, wrote-as, wrote-over, wrote-stands}
+use Rattle.memory.proofs.WriteLaws.{stands-word, widened, widened-end, wrote-as, wrote-over, wrote-stands}
 
 -- Reading a group.
 
@@ -50,14 +50,6 @@ group-words {m} {n} p v g low high =
     group-stands m (groupAddress g) (groupOf n g) (group-whole v g low high .descriptor) (omega (arith, lists-short v g low high)) .0
     (record-stands p g low high)
 
--- a word of those that stand
-pub stands-word : (m : List ℕ) (a : ℕ) (ws : List ℕ) (j : ℕ) → j < length ws → Stands m a ws → word m (a + j) ≡ getD ws j 0
-stands-word m a [] j h s = absurd (omega arith)
-stands-word m a (w ∷ ws) zero h s = rw (add-zero a) (stands-cons m a w ws .0 s .0)
-stands-word m a (w ∷ ws) (suc j) h s =
-    let e : a + suc j ≡ a + 1 + j = omega arith in
-    rw e (stands-word m (a + 1) ws j (omega arith) (stands-cons m a w ws .0 s .1))
-
 -- a number of a group's list
 pub listed : (m : List ℕ) (a : ℕ) (fs : List ℕ) (j : ℕ) → j < length fs → Stands m (a + 14) fs → word m (a + (14 + j)) ≡ getD fs j 0
 listed m a fs j h s = let e : a + (14 + j) ≡ a + 14 + j = omega arith in rw e (stands-word m (a + 14) fs j h s)
@@ -79,18 +71,20 @@ length-before : (G : Group) → length (beforeList G) ≡ listOffset
 length-before G = omega (arith, length-pad wordLimit (G .descriptor))
 
 -- the list stands as a line
+pub record-line : (m : List ℕ) (a : ℕ) (G : Group) → length (G .descriptor) ≤ wordLimit → length (G .buffer .frames) ≤ pageCount paper01
+    → Stands m a (groupWords G) → LineStands m (a + heldOffset) (a + listOffset) (pageCount paper01) (G .buffer .frames)
+unfolding groupWords listWords
+record-line m a G few short s =
+    record {
+      counted = group-stands m a G few short .0 s .held;
+      numbers = rw (length-before G) at (stands-append m a (beforeList G) (pad (pageCount paper01) (G .buffer .frames)) .0 s .1);
+      few = short;
+    }
+
 pub list-line : {m : List ℕ} {n : Node} {r : List ℕ} → Pieces m n r → Mapped n → (g : ℕ) → 1 ≤ g → g ≤ groupCount
     → LineStands m (groupAddress g + heldOffset) (groupAddress g + listOffset) (pageCount paper01) (groupOf n g .buffer .frames)
-unfolding groupWords listWords
 list-line {m} {n} p v g low high =
-    let G = groupOf n g in
-    let a = groupAddress g in
-    record {
-      counted = group-words p v g low high .held;
-      numbers =
-          rw (length-before G) at (stands-append m a (beforeList G) (pad (pageCount paper01) (G .buffer .frames)) .0 (record-stands p g low high) .1);
-      few = omega (arith, lists-short v g low high);
-    }
+    record-line m (groupAddress g) (groupOf n g) (group-whole v g low high .descriptor) (omega (arith, lists-short v g low high)) (record-stands p g low high)
 
 -- a group with these pages
 unfoldable pub withPages : List ℕ → List Place → Group → Group
@@ -146,14 +140,13 @@ withRecord a p h k G =
     }
 
 -- they are written, and nothing else of the record
-pub record-wrote : {m m′ : List ℕ} {n : Node} {r : List ℕ} → Pieces m n r → (g : ℕ) → 1 ≤ g → g ≤ groupCount → (a p : Bool) (h k : ℕ)
-    → Wrote m m′ (groupAddress g) (flagWord a ∷ flagWord p ∷ h ∷ k ∷ []) → Wrote m m′ (groupAddress g) (groupWords (withRecord a p h k (groupOf n g)))
+pub record-wrote : {m m′ : List ℕ} (at : ℕ) (G : Group) → Stands m at (groupWords G) → (a p : Bool) (h k : ℕ)
+    → Wrote m m′ at (flagWord a ∷ flagWord p ∷ h ∷ k ∷ []) → Wrote m m′ at (groupWords (withRecord a p h k G))
 unfolding groupWords withRecord
-record-wrote {n = n} pieces g low high a p h k w =
-    let G = groupOf n g in
+record-wrote at G s a p h k w =
     let B = G .buffer in
-    widened w (groupAddress g) [] (flagWord (G .atomic) ∷ flagWord (G .pending) ∷ B .used ∷ B .count ∷ [])
-    (length (B .frames) ∷ length (G .descriptor) ∷ pad wordLimit (G .descriptor) ++ listWords (B .frames)) (sym (add-zero (groupAddress g))) refl (record-stands pieces g low high)
+    widened w at [] (flagWord (G .atomic) ∷ flagWord (G .pending) ∷ B .used ∷ B .count ∷ [])
+    (length (B .frames) ∷ length (G .descriptor) ∷ pad wordLimit (G .descriptor) ++ listWords (B .frames)) (sym (add-zero at)) refl s
 
 -- the node has them
 pub record-held : {m m′ : List ℕ} {n : Node} {r : List ℕ} → Holds m n r → (g : ℕ) → 1 ≤ g → g ≤ groupCount → (a p : Bool) (h k : ℕ)
@@ -166,7 +159,7 @@ record-held {n = n} held g low high a p h k w =
     pieces-hold
     (mapped-group v g low high (withRecord a p h k (groupOf n g)) (n .free)
     (record { descriptor = whole .descriptor; whole = whole .whole; places = whole .places }) (v .free-good) (v .free-short) (λ x. refl))
-    (group-put pieces g low high (v .group-count) (withRecord a p h k (groupOf n g)) (record-wrote pieces g low high a p h k w)
+    (group-put pieces g low high (v .group-count) (withRecord a p h k (groupOf n g)) (record-wrote (groupAddress g) (groupOf n g) (record-stands pieces g low high) a p h k w)
     (pieces .group-frames (pred g) (omega arith)))
 
 -- the flags alone, the counts as they are read

@@ -15,7 +15,8 @@ use Rattle.rules.specs.Sound.{Sound}
 use Rattle.rules.specs.Valid.{GoodMessage}
 use Rattle.rules.proofs.Steps.PagingLaws.{prepared-repaged}
 use Rattle.rules.proofs.Steps.StoreLaws.{head-good, own-queue, prepared-queue, store-sound}
-use Rattle.memory.specs.Holds.{Queued, Storing, dropping, blank}
+use Rattle.memory.specs.Holds.{Queued, dropping, blank}
+use Rattle.memory.specs.Paging.{Wanting}
 use Rattle.node.specs.Steps.{Headed, headOf, movingHead}
 
 -- Neither looks at the node's own queue, but at the messages it is handed.
@@ -64,12 +65,12 @@ module _ {n : Node} (h : Headed n) where
   head-good-group = head-good (headOf n) (drop 1 (n .queue)) n front-sound
 
   -- it is a message of its group in the queue, so it can be stored
-  pub head-storable : Storing (headOf n .group) n
+  pub head-wanting : Wanting (headOf n .group) n
   unfolding withQueue inQueue
-  head-storable =
+  head-wanting =
       let some : 1 ≤ length (inQueue (withQueue (headOf n ∷ drop 1 (n .queue)) n) (headOf n .group)) =
       rw (own-queue (headOf n) (drop 1 (n .queue)) n front-sound) (omega arith) in
-      (h .sound, subst (λ (q : List Message). 1 ≤ length (filter (isOf (headOf n .group)) q)) (sym head-first) some)
+      record { sound = h .sound; queued = subst (λ (q : List Message). 1 ≤ length (filter (isOf (headOf n .group)) q)) (sym head-first) some }
 
   -- storing leaves it in the queue
   pub stored-queued : Queued 1 (store paper01 (headOf n) n)

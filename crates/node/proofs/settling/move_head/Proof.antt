@@ -9,11 +9,12 @@ use Rattle.rules.specs.Build.{groupCount, paper01}
 use Rattle.rules.specs.Memory.{queueAt, size, word, wordsAt}
 use Rattle.rules.specs.Node.{Node}
 use Rattle.rules.specs.Paging.{store}
-use Rattle.memory.specs.Holds.{Holds, Kept, Some, Storing}
+use Rattle.memory.specs.Holds.{Holds, Kept, Some}
+use Rattle.memory.specs.Paging.{Wanting}
 use Rattle.memory.proofs.PieceLaws.{holds-pieces}
 use Rattle.memory.proofs.queue.QueueLaws.{message-read}
 use Rattle.node.specs.Steps.{Headed, headOf, movingHead}
-use Rattle.node.proofs.settling.MoveLaws.{head-good-group, head-storable, stored-queued}
+use Rattle.node.proofs.settling.MoveLaws.{head-good-group, head-wanting, stored-queued}
 use Rattle.node.proofs.settling.move_head.Statement.{statement}
 use Rattle.node.proofs.settling.move_head.Tie as tie
 
@@ -22,7 +23,7 @@ record Read (m : List ℕ) : Type 0 where
   long : size ≤ length m
   low : 1 ≤ word m queueAt
   high : word m queueAt ≤ groupCount
-  some : Some m (Storing (word m queueAt))
+  some : Some m (Wanting (word m queueAt))
 
 head-kept : {m : List ℕ} {n : Node} {r : List ℕ} → Holds m n r → Headed n
     → (word m queueAt ≡ headOf n .group) × Kept (word m queueAt) (word m (queueAt + 1)) (wordsAt m (queueAt + 2) 8) (headOf n)
@@ -38,7 +39,7 @@ reading c =
       long = holds-pieces (p .holds) .long;
       low = rw g (good .group-low);
       high = rw g (good .group-high);
-      some = record { node = p .node; rest = p .rest; holds = p .holds; fact = rw g (head-storable (p .fact)) };
+      some = record { node = p .node; rest = p .rest; holds = p .holds; fact = rw g (head-wanting (p .fact)) };
     }
 
 -- the head is stored, and still in the queue
@@ -46,7 +47,7 @@ stored : (c : tie.After-store) (n : Node) (r : List ℕ) → Holds (c .before .b
 unfolding word
 stored c n r h headed =
     let k = head-kept h headed in
-    c .store .ensures (headOf n) (rw (c .before .before .eight .ensures) (k .1)) n r h (rw (k .0) (head-storable headed))
+    c .store .ensures (headOf n) (rw (c .before .before .eight .ensures) (k .1)) n r h (rw (k .0) (head-wanting headed))
 
 slice-read-g : tie.Need-slice-read-g
 slice-read-g c = let t = reading (c .before .before) in omega arith

@@ -222,7 +222,7 @@ pad-fits n xs h =
 -- Numbers that stand once.
 
 -- how many of the numbers are below k
-below : ℕ → List ℕ → ℕ
+unfoldable pub below : ℕ → List ℕ → ℕ
 below k [] = 0
 below k (x ∷ xs) = cond (ltb x k) 1 0 + below k xs
 
@@ -248,7 +248,7 @@ below-suc k (x ∷ xs) =
     go false false p q = rw (p, q, le-ltb x (suc k) (omega (arith, ltb-false x k p, eqb-false x k q)))
 
 -- where each number below k stands once, k of them are below k
-below-once : (k : ℕ) (xs : List ℕ) → ((f : ℕ) → f < k → countOf f xs ≡ 1) → below k xs ≡ k
+pub below-once : (k : ℕ) (xs : List ℕ) → ((f : ℕ) → f < k → countOf f xs ≡ 1) → below k xs ≡ k
 below-once zero xs h = below-zero xs
 below-once (suc k) xs h =
     let less = below-once k xs (λ f l. h f (omega arith)) in
@@ -256,7 +256,7 @@ below-once (suc k) xs h =
     omega (arith, below-suc k xs)
 
 -- no more are below k than there are
-below-length : (k : ℕ) (xs : List ℕ) → below k xs ≤ length xs
+pub below-length : (k : ℕ) (xs : List ℕ) → below k xs ≤ length xs
 unfolding below
 below-length k [] = omega arith
 below-length k (x ∷ xs) = go (ltb x k) (below-length k xs)
@@ -264,6 +264,18 @@ below-length k (x ∷ xs) = go (ltb x k) (below-length k xs)
     go : (l : Bool) → below k xs ≤ length xs → cond l 1 0 + below k xs ≤ suc (length xs)
     go true r = omega arith
     go false r = omega arith
+
+-- of joined lists
+pub below-append : (k : ℕ) (xs ys : List ℕ) → below k (xs ++ ys) ≡ below k xs + below k ys
+unfolding below
+below-append k [] ys = omega arith
+below-append k (x ∷ xs) ys = omega (arith, below-append k xs ys)
+
+-- none of those from k on is below k
+pub below-none : (k : ℕ) (xs : List ℕ) → Every (λ x. k ≤ x) xs → below k xs ≡ 0
+unfolding below
+below-none k [] e = refl
+below-none k (x ∷ xs) e = rw (le-ltb x k (e .0)) (rw (below-none k xs (e .1)) refl)
 
 -- and where as many are, all are
 below-all : (k : ℕ) (xs : List ℕ) → below k xs ≡ length xs → Every (λ x. x < k) xs

@@ -1,4 +1,5 @@
 pub mod Writes
+pub mod Lines
 pub mod Holds
 pub mod Answers
 pub mod Descriptors

@@ -74,6 +74,11 @@ module _ {A : Type 0} (P : A → Type 0) where
   every-map f h [] = tt
   every-map f h (x ∷ xs) = (h x, every-map f h xs)
 
+-- of values, where it holds of what they are the values of
+pub every-mapped : {A B : Type 0} (P : A → Type 0) (Q : B → Type 0) (f : A → B) → ((x : A) → P x → Q (f x)) → (xs : List A) → Every P xs → Every Q (map f xs)
+every-mapped P Q f h [] e = tt
+every-mapped P Q f h (x ∷ xs) e = (h x (e .0), every-mapped P Q f h xs (e .1))
+
 -- a weaker fact
 pub every-mono : {A : Type 0} (P Q : A → Type 0) → ((x : A) → P x → Q x) → (xs : List A) → Every P xs → Every Q xs
 every-mono P Q f [] e = tt

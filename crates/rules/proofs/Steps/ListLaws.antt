@@ -104,6 +104,24 @@ pub count-weight : (k : ℕ) (xs : List ℕ) → countOf k xs ≡ weight (hit k)
 count-weight k [] = refl
 count-weight k (x ∷ xs) = ap (λ (r : ℕ). hit k x + r) (count-weight k xs)
 
+-- counts add
+pub count-append : (k : ℕ) (xs ys : List ℕ) → countOf k (xs ++ ys) ≡ countOf k xs + countOf k ys
+count-append k [] ys = omega arith
+count-append k (x ∷ xs) ys = omega (arith, count-append k xs ys)
+
+-- what stands at an index is counted
+pub count-at : (k : ℕ) (xs : List ℕ) (i : ℕ) → i < length xs → getD xs i 0 ≡ k → 1 ≤ countOf k xs
+count-at k [] i h e = absurd (omega arith)
+count-at k (x ∷ xs) zero h e = rw (eq-eqb x k e) (omega arith)
+count-at k (x ∷ xs) (suc i) h e = let r = count-at k xs i (omega arith) e in omega arith
+
+-- and in one of the lists, in all of them joined
+pub count-part : {A : Type 0} (k : ℕ) (f : A → List ℕ) (d : A) (xs : List A) (i : ℕ) → i < length xs
+    → countOf k (f (getD xs i d)) ≤ countOf k (concatMap f xs)
+count-part k f d [] i h = absurd (omega arith)
+count-part k f d (x ∷ xs) zero h = omega (arith, count-append k (f x) (concatMap f xs))
+count-part k f d (x ∷ xs) (suc i) h = omega (arith, count-append k (f x) (concatMap f xs), count-part k f d xs i (omega arith))
+
 -- and so is a length
 abbrev pub unit : {A : Type 0} → A → ℕ
 unit x = 1

@@ -1,0 +1,2 @@
+-- The laws of a line of numbers.
+pub mod LineLaws

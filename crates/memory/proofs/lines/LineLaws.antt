@@ -1,0 +1,144 @@
+-- A line of numbers in memory, 0 behind them to the end of its room: a number leaves it, and another joins it. From writes to the line that
+-- then stands. Assumes nothing.
+use Prim.Native.Nat.{ℕ, zero, suc, _+_, _-_, _≤_, _<_}
+use native.Mathlib.Nat.{add-zero}
+use native.Mathlib.Omega.{arith}
+use mathlib.Core.Bool.{Bool, true, false, not, cond}
+use mathlib.Core.List.{List, [], _∷_, _++_}
+use mathlib.Core.Path.{_∙_, _≡_, ap, refl, sym, subst}
+use lib.Dec.{eqb}
+use lib.ListN.{length, take, drop, getD, length-append, length-drop, take-append-drop}
+use lib.Seq.{drop-cons, length-take-le}
+use borrow.Author.Tests.{eqb-true, eqb-false}
+use Rattle.rules.specs.Frames.{without}
+use Rattle.rules.specs.Lists.{countOf, pad}
+use Rattle.rules.specs.Memory.{word, wordsAt}
+use Rattle.rules.proofs.Steps.ListLaws.{filter-fail, filter-pass, length-pad}
+use Rattle.rules.proofs.Map.MapWords.{Stands, length-wordsAt, pad-stands, stands-append, stands-cons, wordsAt-stands}
+use Rattle.memory.specs.Lines.{InLine, Joined, Left, indexOf}
+use Rattle.memory.specs.Writes.{Wrote}
+use Rattle.memory.proofs.WriteLaws.{covered, lengthened, shifted, widened-end, wrote-as}
+
+-- the line of these numbers stands
+pub record LineStands (m : List ℕ) (count line room : ℕ) (xs : List ℕ) : Type 0 where
+  pub counted : word m count ≡ length xs
+  pub numbers : Stands m line (pad room xs)
+  pub few : length xs ≤ room
+
+-- and is written, its count last
+pub record LineWrote (m m′ : List ℕ) (count line room : ℕ) (xs : List ℕ) : Type 0 where
+  pub between : List ℕ
+  pub numbers : Wrote m between line (pad room xs)
+  pub counted : Wrote between m′ count (length xs ∷ [])
+
+-- a padded list in two parts
+pad-part : (us vs : List ℕ) (k : ℕ) → pad (length us + k) (us ++ vs) ≡ us ++ pad k vs
+pad-part [] vs k = let e : 0 + k ≡ k = omega arith in rw e
+pad-part (u ∷ us) vs k = let e : suc (length us) + k ≡ suc (length us + k) = omega arith in rw e (ap (λ (t : List ℕ). u ∷ t) (pad-part us vs k))
+
+-- the numbers without the one at index i
+abbrev pub lacking : ℕ → List ℕ → List ℕ
+lacking i xs = take i xs ++ drop (suc i) xs
+
+module _ {m : List ℕ} {count line room : ℕ} {xs : List ℕ} (s : LineStands m count line room xs) where
+  -- a line is read
+  pub line-read : wordsAt m line (word m count) ≡ xs
+  line-read = wordsAt-stands m line (word m count) xs (sym (s .counted)) (pad-stands m line room xs (s .few) .0 (s .numbers) .0)
+
+  -- it lies within the memory where its room does
+  pub line-within : count < length m → line + room ≤ length m → InLine m count line
+  line-within below inside = record { counted = below; inside = omega (arith, s .counted, s .few) }
+
+  module _ {m′ : List ℕ} where
+    -- the number at index i has left
+    pub left-wrote : {i x : ℕ} → i < length xs → Left m m′ count line i x → (x ≡ getD xs i 0) × LineWrote m m′ count line room (lacking i xs)
+    left-wrote {i} {x} h gone =
+        let us = take i xs in
+        let y = getD xs i 0 in
+        let vs = drop (suc i) xs in
+        let k = room - i in
+        let few = s .few in
+        let lu : length us ≡ i = length-take-le i xs (omega arith) in
+        let lv : length vs ≡ length xs - suc i = length-drop (suc i) xs in
+        let parts : xs ≡ us ++ (y ∷ vs) = sym (take-append-drop i xs) ∙ ap (λ (t : List ℕ). us ++ t) (drop-cons xs i 0 h) in
+        let all : length us + k ≡ room = omega arith in
+        let padded : pad room xs ≡ us ++ pad k (y ∷ vs) = ap (pad room) parts ∙ ap (λ (t : ℕ). pad t (us ++ (y ∷ vs))) (sym all) ∙ pad-part us (y ∷ vs) k in
+        let both = rw lu at (stands-append m line us (pad k (y ∷ vs)) .0 (rw padded at (s .numbers))) in
+        let n : word m count - i - 1 ≡ length vs = omega (arith, s .counted) in
+        let w : Wrote m (gone .between) (line + i) (wordsAt m (line + i + 1) (length vs) ++ (0 ∷ [])) = rw n at (gone .moved) in
+        let moved : Stands (gone .between) (line + i) (pad k vs) = shifted (line + i) k (y ∷ []) vs (omega arith) (both .1) w in
+        let lw : length (wordsAt m (line + i + 1) (length vs) ++ (0 ∷ [])) ≡ length vs + 1 =
+        length-append (wordsAt m (line + i + 1) (length vs)) (0 ∷ []) ∙ ap (λ (t : ℕ). t + 1) (length-wordsAt m (line + i + 1) (length vs)) in
+        let c : Wrote m (gone .between) (line + i) (pad k vs) = covered w (line + i) (pad k vs) (omega arith) (omega (arith, length-pad k vs)) moved in
+        let first : word m (line + i) ≡ y = first-padded k (y ∷ vs) (omega arith) (omega arith) (both .1) in
+        let fewer : word m count - 1 ≡ length (us ++ vs) = omega (arith, s .counted, length-append us vs) in (
+          gone .number ∙ first,
+          record {
+            between = gone .between;
+            numbers =
+                wrote-as
+                (widened-end c line us (pad k (y ∷ vs)) (ap (λ (t : ℕ). line + t) (sym lu)) (length-pad k (y ∷ vs) ∙ sym (length-pad k vs)) (rw padded at (s .numbers)))
+                (sym (pad-part us vs k) ∙ ap (λ (t : ℕ). pad t (us ++ vs)) all);
+            counted = wrote-as (gone .counted) (ap (λ (t : ℕ). t ∷ []) fewer);
+          },
+        )
+      where
+        first-padded : (k : ℕ) (ys : List ℕ) → 1 ≤ length ys → 1 ≤ k → Stands m (line + i) (pad k ys) → word m (line + i) ≡ getD ys 0 0
+        first-padded zero ys some room p = absurd (omega arith)
+        first-padded (suc k) [] some room p = absurd (omega arith)
+        first-padded (suc k) (z ∷ ys) some room p = stands-cons m (line + i) z (pad k ys) .0 p .0
+
+    -- a number has joined the end
+    pub joined-wrote : {x : ℕ} → length xs < room → Joined m m′ count line x → LineWrote m m′ count line room (xs ++ (x ∷ []))
+    joined-wrote {x} h came =
+        let more : word m count + 1 ≡ length (xs ++ (x ∷ [])) = omega (arith, s .counted, length-append xs (x ∷ [])) in
+        record {
+          between = came .between;
+          numbers = lengthened line room x xs (line + word m count) (ap (λ (t : ℕ). line + t) (s .counted)) h (s .numbers) (came .written);
+          counted = wrote-as (came .counted) (ap (λ (t : ℕ). t ∷ []) more);
+        }
+
+-- Where a number stands.
+
+-- none is left out where the number does not stand
+without-none : (f : ℕ) (xs : List ℕ) → countOf f xs ≡ 0 → without f xs ≡ xs
+unfolding without
+without-none f [] none = refl
+without-none f (x ∷ xs) none = go (eqb x f) refl (without-none f xs)
+  where
+    go : (t : Bool) → eqb x f ≡ t → (countOf f xs ≡ 0 → without f xs ≡ xs) → without f (x ∷ xs) ≡ x ∷ xs
+    go true e r = absurd (let l = rw e at none in omega arith)
+    go false e r =
+        let l : countOf f xs ≡ 0 = let k = rw e at none in omega arith in
+        filter-pass (λ y. not (eqb y f)) x xs (ap not e) ∙ ap (λ (t : List ℕ). x ∷ t) (r l)
+
+module _ (f : ℕ) where
+  -- a number that stands in a list has an index there
+  pub index-below : (xs : List ℕ) → 1 ≤ countOf f xs → indexOf f xs < length xs
+  unfolding indexOf
+  index-below [] some = absurd (omega arith)
+  index-below (x ∷ xs) some = go (eqb x f) refl (index-below xs)
+    where
+      go : (t : Bool) → eqb x f ≡ t → (1 ≤ countOf f xs → indexOf f xs < length xs) → cond t 0 (suc (indexOf f xs)) < suc (length xs)
+      go true e r = omega arith
+      go false e r = let l = rw e at some in let k = r (omega arith) in omega arith
+
+  -- and one that stands once is left out with that index
+  pub without-index : (xs : List ℕ) → countOf f xs ≡ 1 → lacking (indexOf f xs) xs ≡ without f xs
+  unfolding indexOf without
+  without-index [] once = absurd (omega arith)
+  without-index (x ∷ xs) once = go (eqb x f) refl (without-index xs)
+    where
+      go : (t : Bool) → eqb x f ≡ t → (countOf f xs ≡ 1 → lacking (indexOf f xs) xs ≡ without f xs)
+          → lacking (cond t 0 (suc (indexOf f xs))) (x ∷ xs) ≡ without f (x ∷ xs)
+      go true e r =
+          let l : countOf f xs ≡ 0 = let k = rw e at once in omega arith in
+          sym (filter-fail (λ y. not (eqb y f)) x xs (ap not e) ∙ without-none f xs l)
+      go false e r =
+          let l : countOf f xs ≡ 1 = let k = rw e at once in omega arith in
+          ap (λ (t : List ℕ). x ∷ t) (r l) ∙ sym (filter-pass (λ y. not (eqb y f)) x xs (ap not e))
+
+-- one fewer is left
+pub length-lacking : (i : ℕ) (xs : List ℕ) → i < length xs → length (lacking i xs) + 1 ≡ length xs
+length-lacking i xs h =
+    omega (arith, length-append (take i xs) (drop (suc i) xs), length-take-le i xs (omega arith), length-drop (suc i) xs)

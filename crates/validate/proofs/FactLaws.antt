@@ -19,7 +19,7 @@ use Rattle.rules.proofs.Steps.EveryLaws.{every-append}
 use Rattle.rules.proofs.Steps.ListLaws.{once-bounded}
 use Rattle.validate.specs.Clauses.{messageGood, bufferGood, pagesOnce, listStart, listCount, listed, numbersGood, framesGood}
 use Rattle.validate.specs.Known.{Counted, Framed, Lined}
-use Rattle.validate.proofs.frames.ListedLaws.{group-list, numbers-listed, numbers-split, behind}
+use Rattle.validate.proofs.frames.ListedLaws.{group-count, group-start, numbers-listed, numbers-split, behind}
 use Rattle.validate.proofs.TestLaws.{numbers-tell, frames-tell}
 
 module _ (m : List ℕ) where
@@ -83,7 +83,8 @@ module _ (m : List ℕ) where
       let ns = numbers-tell m .0 h in
       let b = buffer-tells g (range-tells (bufferGood m) 1 groupCount .0 (ns .1 .1 .1 .0) g low (omega arith)) in
       let back : g + 2 - 2 ≡ g = omega arith in
-      let list = rw back at (group-list m (g + 2) (omega arith)) in
+      let count = rw back at (group-count m (g + 2) (omega arith)) in
+      let start = rw back at (group-start (g + 2) (omega arith)) in
       record {
         long = c .long;
         low = low;
@@ -91,7 +92,7 @@ module _ (m : List ℕ) where
         used = b .0;
         held = b .1;
         few = c .held g low high;
-        numbers = λ i k. rw (list .0) at (page-bound l o (g + 2) i (omega arith) (omega arith) (omega arith));
+        numbers = λ i k. rw start at (page-bound l o (g + 2) i (omega arith) (omega arith) (omega arith));
       }
 
   -- the group of message i

@@ -4,7 +4,7 @@ use mathlib.Core.Path.{_≡_, refl, sym, ap, _∙_}
 use mathlib.Core.Logic.{_⊎_, inl, inr}
 use mathlib.Core.Bool.{Bool, true, false, not, _&&_, true≢false, and-true, and-assoc}
 use native.Mathlib.Omega.{arith}
-use native.Mathlib.Nat.{add-zero, eq-or-lt-of-le}
+use native.Mathlib.Nat.{add-zero, suc-add, eq-or-lt-of-le}
 use borrow.Author.Tests.{not-true, not-false}
 use Rattle.rules.specs.Lists.{all, upFrom}
 use Rattle.rules.specs.Build.{groupCount}
@@ -28,7 +28,8 @@ pub all-more : (p : ℕ → Bool) (a k : ℕ) → all p (upFrom a (k + 1)) ≡ a
 all-more p a zero = rw (add-zero a) (and-true (p a))
 all-more p a (suc k) =
     let e : suc a + k ≡ a + suc k = omega arith in
-    ap (λ (r : Bool). p a && r) (rw (← e) (all-more p (suc a) k)) ∙ sym (and-assoc (p a) (all p (upFrom (suc a) k)) (p (a + suc k)))
+    rw (suc-add k 1, ← e)
+    (ap (λ (r : Bool). p a && r) (all-more p (suc a) k) ∙ sym (and-assoc (p a) (all p (upFrom (suc a) k)) (p (suc a + k))))
 
 -- where a call that answers for a test says no, the test fails
 pub refused : {a t : Bool} → a ≡ t → not t ≡ true → a ≡ false

@@ -212,11 +212,42 @@ module _ (m : List ℕ) where
         let places = le-leb (length (nodeAt m .queue)) 16 (omega (arith, c .queued, queue-length)) in
         let eight = eq-eqb (length (nodeAt m .groups)) 8 groups-length in
         let Gs = groups-tell c .1 (ns .1 .1 .1 .0, (ns .1 .1 .1 .1, fs .1 .1 .1 .1 .1)) in
-        let lines = (ls .0, (ls .1 .0, (ls .1 .1 .0, (ls .1 .1 .1 .0, (ls .1 .1 .1 .1, tt))))) in
-        let frames = (fs .1 .0, (fs .0, (swap-numbered ∙ fs .1 .1 .0, (fs .1 .1 .1 .1 .0, (fs .1 .1 .1 .0, lines))))) in
         passes-every (nodeTests paper01) (nodeAt m) .1 (
           running-tested ∙ ns .0,
-          (timer-tested ∙ ns .1 .0, (places, (queue-tested ∙ ns .1 .1 .0, (eight, (Gs, (free-tested, (swap-tested, frames))))))),
+          (
+            timer-tested ∙ ns .1 .0,
+            (
+              places,
+              (
+                queue-tested ∙ ns .1 .1 .0,
+                (
+                  eight,
+                  (
+                    Gs,
+                    (
+                      free-tested,
+                      (
+                        swap-tested,
+                        (
+                          fs .1 .0,
+                          (
+                            fs .0,
+                            (
+                              swap-numbered ∙ fs .1 .1 .0,
+                              (
+                                fs .1 .1 .1 .1 .0,
+                                (fs .1 .1 .1 .0, (ls .0, (ls .1 .0, (ls .1 .1 .0, (ls .1 .1 .1 .0, (ls .1 .1 .1 .1, tt)))))),
+                              ),
+                            ),
+                          ),
+                        ),
+                      ),
+                    ),
+                  ),
+                ),
+              ),
+            ),
+          ),
         ),
   )
 

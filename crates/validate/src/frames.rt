@@ -7,6 +7,7 @@ use memory::map::FREE_AT;
 use memory::map::FREE_COUNT;
 use memory::map::HELD;
 use memory::map::LIST;
+use memory::map::PAGES;
 use memory::map::SWAP_AT;
 use memory::map::SWAP_COUNT;
 use memory::map::USED;
@@ -27,9 +28,6 @@ ghost use Rattle.rules.specs.Valid.{isWaiting, frameNumbers, frameOrder, stands
 ghost use Rattle.validate.specs.Clauses.{listStart, listCount, listed, pagesOnce, enteredOnce, swapPage, waitingIn, waitingGood, numbersGood, framesGood};
 ghost use Rattle.validate.specs.Known.{Counted, Framed};
 ghost use Rattle.validate.specs.Masks.{pastMasks};
-
-// How many frames and swap pages there are, for an array of them.
-const PAGES: usize = 96;
 
 // How many masks there are: twice a message's words.
 const MASKS: usize = 16;

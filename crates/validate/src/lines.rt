@@ -27,9 +27,6 @@ ghost use Rattle.rules.specs.Valid.{pendingHasLine, runnerAtomic, headStays, ru
 ghost use Rattle.validate.specs.Clauses.{linesGood};
 ghost use Rattle.validate.specs.Known.{Framed, QueueCounts, Lined};
 
-// The frames and swap pages.
-const PAGES: u32 = Node::FRAMES + Node::SWAP;
-
 // By group, how many messages are in the hardware queue.
 fn queue_counts(m: &[u32]) -> [u32; 9]
     requires { ⌜ Lined (now m) ⌝ }
@@ -68,7 +65,7 @@ fn pledges_fit(m: &[u32], queued: [u32; 9]) -> bool
         sum += pledge(m, queued, g);
         g += 1;
     }
-    sum <= PAGES
+    sum <= Node::FRAMES + Node::SWAP
 }
 
 // Whether the line of group g is not empty.

@@ -11,8 +11,8 @@ use memory::map::HELD;
 use memory::map::LENGTH;
 use memory::map::LINE;
 use memory::map::LIST;
-use memory::map::LISTED;
 use memory::map::MESSAGE;
+use memory::map::PAGES;
 use memory::map::PENDING;
 use memory::map::PLACES;
 use memory::map::QUEUE_AT;
@@ -35,16 +35,13 @@ ghost use Rattle.rules.specs.Memory.{size, word, queuedAt};
 ghost use Rattle.rules.specs.MemoryTest.{groupCounts, lengthInBounds, countsInBounds, groupFlags, flagsAreFlags, queueUnused, freeUnused, swapUnused, enteredUnused, groupUnused, messageUnused, unusedAreZero};
 ghost use Rattle.validate.specs.Known.{Counted};
 
-// The frames and swap pages, which one list has room for.
-const PAGES: u32 = Node::FRAMES + Node::SWAP;
-
 // "counts .. are within the bounds above": those of the list and the descriptor of group g
 fn group_counts(m: &[u32], g: u32) -> bool
     requires { ⌜ size ≤ length (now m) ⌝ }
     requires { ⌜ (1 ≤ g) × (g ≤ groupCount) ⌝ }
     ensures { λ t. ⌜ groupCounts (now (m .entry)) g ≡ t ⌝ }
 {
-    if group_word(m, g, HELD) > PAGES {
+    if group_word(m, g, HELD) > Node::FRAMES + Node::SWAP {
         return false;
     }
     group_word(m, g, DESCRIBED) <= Node::WORDS
@@ -181,7 +178,7 @@ fn group_unused(m: &[u32], g: u32) -> bool
     let held = group_word(m, g, HELD) as usize;
     let described = group_word(m, g, DESCRIBED) as usize;
     let at = group_at(g);
-    if !zeros(m, at + LIST + held, LISTED - held) {
+    if !zeros(m, at + LIST + held, PAGES - held) {
         return false;
     }
     zeros(m, at + DESCRIPTOR + described, WORDS - described)

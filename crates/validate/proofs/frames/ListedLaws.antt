@@ -123,29 +123,54 @@ module _ (m : List ℕ) where
       let held = c .held (suc g) (omega arith) (omega arith) in
       (held, omega (arith, held))
 
--- Where each of the lists is.
+-- Where each of the lists begins.
+
+module _ (l : ℕ) where
+  -- the order of entry
+  pub entered-start : l ≡ 0 → listStart l ≡ enteredAt
+  unfolding listStart
+  entered-start e = rw e
+
+  -- the free line
+  pub free-start : l ≡ 1 → listStart l ≡ freeAt
+  unfolding listStart
+  free-start e = rw e
+
+  -- the swap line
+  pub swap-start : l ≡ 2 → listStart l ≡ swapAt
+  unfolding listStart
+  swap-start e = rw e
+
+-- a group's
+pub group-start : (l : ℕ) → 2 < l → listStart l ≡ groupAddress (l - 2) + listOffset
+unfolding listStart
+group-start zero h = absurd (omega arith)
+group-start (suc zero) h = absurd (omega arith)
+group-start (suc (suc zero)) h = absurd (omega arith)
+group-start (suc (suc (suc g))) h = let e : suc (suc (suc g)) - 2 ≡ suc g = omega arith in rw e
+
+-- How many numbers each has.
 
 module _ (m : List ℕ) (l : ℕ) where
   -- the order of entry
-  pub entered-list : l ≡ 0 → (listStart l ≡ enteredAt) × (listCount m l ≡ word m enteredCountAt)
-  unfolding listStart listCount
-  entered-list e = rw e (refl, refl)
+  pub entered-count : l ≡ 0 → listCount m l ≡ word m enteredCountAt
+  unfolding listCount
+  entered-count e = rw e
 
   -- the free line
-  pub free-list : l ≡ 1 → (listStart l ≡ freeAt) × (listCount m l ≡ word m freeCountAt)
-  unfolding listStart listCount
-  free-list e = rw e (refl, refl)
+  pub free-count : l ≡ 1 → listCount m l ≡ word m freeCountAt
+  unfolding listCount
+  free-count e = rw e
 
   -- the swap line
-  pub swap-list : l ≡ 2 → (listStart l ≡ swapAt) × (listCount m l ≡ word m swapCountAt)
-  unfolding listStart listCount
-  swap-list e = rw e (refl, refl)
+  pub swap-count : l ≡ 2 → listCount m l ≡ word m swapCountAt
+  unfolding listCount
+  swap-count e = rw e
 
 -- a group's
-pub group-list : (m : List ℕ) (l : ℕ) → 2 < l
-    → (listStart l ≡ groupAddress (l - 2) + listOffset) × (listCount m l ≡ word m (groupAddress (l - 2) + heldOffset))
-unfolding listStart listCount
-group-list m zero h = absurd (omega arith)
-group-list m (suc zero) h = absurd (omega arith)
-group-list m (suc (suc zero)) h = absurd (omega arith)
-group-list m (suc (suc (suc g))) h = let e : suc (suc (suc g)) - 2 ≡ suc g = omega arith in rw e (refl, refl)
+pub group-count : (m : List ℕ) (l : ℕ) → 2 < l → listCount m l ≡ word m (groupAddress (l - 2) + heldOffset)
+unfolding listCount
+group-count m zero h = absurd (omega arith)
+group-count m (suc zero) h = absurd (omega arith)
+group-count m (suc (suc zero)) h = absurd (omega arith)
+group-count m (suc (suc (suc g))) h = let e : suc (suc (suc g)) - 2 ≡ suc g = omega arith in rw e

@@ -6,6 +6,7 @@ use memory::map::ENTERED_COUNT;
 use memory::map::FREE_AT;
 use memory::map::FREE_COUNT;
 use memory::map::HELD;
+use memory::map::LINE;
 use memory::map::LIST;
 use memory::map::PAGES;
 use memory::map::SWAP_AT;
@@ -174,7 +175,7 @@ fn entered_once(m: &[u32]) -> bool
     requires { ⌜ length (frameOrder (nodeAt (now m))) ≡ 32 ⌝ }
     ensures { λ t. ⌜ enteredOnce (now (m .entry)) ≡ t ⌝ }
 {
-    frames_once(m, ENTERED_LIST, SWAP_LIST, Node::FRAMES as usize)
+    frames_once(m, ENTERED_LIST, SWAP_LIST, LINE)
 }
 
 // Masks: eight that leave nothing of a word, then eight that leave all of it. The eight from WORDS - len on hide the first len words of a message.

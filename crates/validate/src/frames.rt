@@ -1,4 +1,5 @@
 // The clauses on the frames and swap pages, and on the messages that wait in them.
+use crate::PAGE_COUNT;
 use memory::Node;
 use memory::map::COUNT;
 use memory::map::ENTERED_AT;
@@ -131,7 +132,7 @@ fn pages_all(m: &[u32]) -> bool
     requires { ⌜ Counted (now m) ⌝ }
     ensures { λ t. ⌜ eqb (length (frameNumbers (nodeAt (now (m .entry))))) 96 ≡ t ⌝ }
 {
-    count_all(m, FREE_LIST, LISTS) == Node::FRAMES + Node::SWAP
+    count_all(m, FREE_LIST, LISTS) == PAGE_COUNT
 }
 
 // "each frame stands once, in the free line or in one list", and so each swap page, in its line or in one list

@@ -1,4 +1,5 @@
 // The clauses on the groups' lines: pledges, flags, the running group and its first page, and the head of the queue.
+use crate::PAGE_COUNT;
 use memory::Node;
 use memory::map::ATOMIC;
 use memory::map::COUNT;
@@ -65,7 +66,7 @@ fn pledges_fit(m: &[u32], queued: [u32; 9]) -> bool
         sum += pledge(m, queued, g);
         g += 1;
     }
-    sum <= Node::FRAMES + Node::SWAP
+    sum <= PAGE_COUNT
 }
 
 // Whether the line of group g is not empty.

@@ -1,4 +1,5 @@
 // The clauses of "Memory is a node when" on words alone: counts, flags and unused words.
+use crate::PAGE_COUNT;
 use memory::Node;
 use memory::map::ATOMIC;
 use memory::map::DESCRIBED;
@@ -27,11 +28,13 @@ use memory::map::group_word;
 use memory::map::queue_word;
 use memory::words::zeros;
 ghost use mathlib.Core.Path.{_≡_};
+ghost use mathlib.Core.Bool.{_&&_};
 ghost use Prim.Native.Nat.{_≤_, _<_};
+ghost use lib.Dec.{leb};
 ghost use lib.ListN.{length};
 ghost use Rattle.rules.specs.Lists.{all, upFrom};
 ghost use Rattle.rules.specs.Build.{groupCount};
-ghost use Rattle.rules.specs.Memory.{size, word, queuedAt};
+ghost use Rattle.rules.specs.Memory.{size, word, queuedAt, swapCountAt, enteredCountAt};
 ghost use Rattle.rules.specs.MemoryTest.{groupCounts, lengthInBounds, countsInBounds, groupFlags, flagsAreFlags, queueUnused, freeUnused, swapUnused, enteredUnused, groupUnused, messageUnused, unusedAreZero};
 ghost use Rattle.validate.specs.Known.{Counted};
 
@@ -41,7 +44,7 @@ fn group_counts(m: &[u32], g: u32) -> bool
     requires { ⌜ (1 ≤ g) × (g ≤ groupCount) ⌝ }
     ensures { λ t. ⌜ groupCounts (now (m .entry)) g ≡ t ⌝ }
 {
-    if group_word(m, g, HELD) > Node::FRAMES + Node::SWAP {
+    if group_word(m, g, HELD) > PAGE_COUNT {
         return false;
     }
     group_word(m, g, DESCRIBED) <= Node::WORDS
@@ -79,6 +82,17 @@ fn lengths_in_bounds(m: &[u32]) -> bool
     true
 }
 
+// "counts .. are within the bounds above": those of the swap line and the order of entry
+fn paging_counted(m: &[u32]) -> bool
+    requires { ⌜ size ≤ length (now m) ⌝ }
+    ensures { λ t. ⌜ leb (word (now (m .entry)) swapCountAt) 64 && leb (word (now (m .entry)) enteredCountAt) 32 ≡ t ⌝ }
+{
+    if m[SWAP_COUNT] > Node::SWAP {
+        return false;
+    }
+    m[ENTERED_COUNT] <= Node::FRAMES
+}
+
 // "counts .. [and] waiting messages' lengths .. are within the bounds above", as far as words alone tell
 pub fn counts_in_bounds(m: &[u32]) -> bool
     requires { ⌜ size ≤ length (now m) ⌝ }
@@ -90,10 +104,7 @@ pub fn counts_in_bounds(m: &[u32]) -> bool
     if m[FREE_COUNT] > Node::FRAMES {
         return false;
     }
-    if m[SWAP_COUNT] > Node::SWAP {
-        return false;
-    }
-    if m[ENTERED_COUNT] > Node::FRAMES {
+    if !paging_counted(m) {
         return false;
     }
     if !groups_counted(m) {

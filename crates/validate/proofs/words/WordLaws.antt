@@ -1,7 +1,7 @@
 -- The clauses on words alone, one comparison at a time: the first that fails decides, and the last is the answer. Assumes nothing.
 use Prim.Native.Nat.{ℕ, _+_, _*_, _≤_, _<_}
-use mathlib.Core.Path.{_≡_, refl}
-use mathlib.Core.Bool.{Bool, true, false, _&&_}
+use mathlib.Core.Path.{_≡_, refl, sym, _∙_}
+use mathlib.Core.Bool.{Bool, true, false, _&&_, and-assoc}
 use mathlib.Core.List.{List}
 use borrow.Author.Tests.{le-leb, lt-leb}
 use lib.Dec.{leb}
@@ -60,25 +60,32 @@ module _ (m : List ℕ) where
   unfolding countsInBounds
   free-over q h = within _ 16 _ _ q (over _ 32 _ h)
 
+  -- a swap line of more than 64
+  pub swap-over : 64 < word m swapCountAt → leb (word m swapCountAt) 64 && leb (word m enteredCountAt) 32 ≡ false
+  swap-over h = over _ 64 _ h
+
+  -- else the order of entry
+  pub swap-within : word m swapCountAt ≤ 64 → leb (word m swapCountAt) 64 && leb (word m enteredCountAt) 32 ≡ leb (word m enteredCountAt) 32
+  swap-within h = within _ 64 _ _ h refl
+
   module _ (q : word m queuedAt ≤ 16) (f : word m freeCountAt ≤ 32) where
-    pub swap-over : 64 < word m swapCountAt → countsInBounds m ≡ false
+    pub paging-over : leb (word m swapCountAt) 64 && leb (word m enteredCountAt) 32 ≡ false → countsInBounds m ≡ false
     unfolding countsInBounds
-    swap-over h = within _ 16 _ _ q (within _ 32 _ _ f (over _ 64 _ h))
+    paging-over h = within _ 16 _ _ q (within _ 32 _ _ f (sym (and-assoc (leb (word m swapCountAt) 64) (leb (word m enteredCountAt) 32) _) ∙ and-fails _ _ h))
 
-    module _ (s : word m swapCountAt ≤ 64) where
-      pub entered-over : 32 < word m enteredCountAt → countsInBounds m ≡ false
+    module _ (p : leb (word m swapCountAt) 64 && leb (word m enteredCountAt) 32 ≡ true) where
+      -- the lines' within their bounds leave it to the others
+      lines-within : (t : Bool) → all (groupCounts m) (upFrom 1 groupCount) && all (lengthInBounds m) (upFrom 0 (word m queuedAt)) ≡ t
+          → countsInBounds m ≡ t
       unfolding countsInBounds
-      entered-over h = within _ 16 _ _ q (within _ 32 _ _ f (within _ 64 _ _ s (over _ 32 _ h)))
+      lines-within t h =
+          within _ 16 _ _ q
+          (within _ 32 _ _ f
+          (sym (and-assoc (leb (word m swapCountAt) 64) (leb (word m enteredCountAt) 32) _) ∙ and-passes _ _ t p h))
 
-      -- the four lines' within their bounds leave it to the others
-      lines-within : (t : Bool) → word m enteredCountAt ≤ 32
-          → all (groupCounts m) (upFrom 1 groupCount) && all (lengthInBounds m) (upFrom 0 (word m queuedAt)) ≡ t → countsInBounds m ≡ t
-      unfolding countsInBounds
-      lines-within t e h = within _ 16 _ _ q (within _ 32 _ _ f (within _ 64 _ _ s (within _ 32 _ _ e h)))
+      pub groups-over : all (groupCounts m) (upFrom 1 groupCount) ≡ false → countsInBounds m ≡ false
+      groups-over h = lines-within false (and-fails _ _ h)
 
-      pub groups-over : word m enteredCountAt ≤ 32 → all (groupCounts m) (upFrom 1 groupCount) ≡ false → countsInBounds m ≡ false
-      groups-over e h = lines-within false e (and-fails _ _ h)
-
-      pub counts-within : (t : Bool) → word m enteredCountAt ≤ 32 → all (groupCounts m) (upFrom 1 groupCount) ≡ true
+      pub counts-within : (t : Bool) → all (groupCounts m) (upFrom 1 groupCount) ≡ true
           → all (lengthInBounds m) (upFrom 0 (word m queuedAt)) ≡ t → countsInBounds m ≡ t
-      counts-within t e h l = lines-within t e (and-passes _ _ _ h l)
+      counts-within t h l = lines-within t (and-passes _ _ _ h l)

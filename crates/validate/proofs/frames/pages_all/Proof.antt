@@ -7,11 +7,8 @@ use Rattle.validate.proofs.frames.pages_all.Tie as tie
 count-all-requires : tie.Need-count-all-requires
 count-all-requires c κs = search needs
 
-add-result : tie.Need-add-result
-add-result c = search needs
-
 returns : tie.Need-returns
 returns c = rw (pages-length (c .before .before .args .m .now), ← c .count-all .ensures)
 
 pub pages-all-spec : {M : Type 1} → statement M
-pages-all-spec = tie.close (tie.spec count-all-requires add-result returns)
+pages-all-spec = tie.close (tie.spec count-all-requires returns)

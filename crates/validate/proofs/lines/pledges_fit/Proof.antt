@@ -2,7 +2,6 @@
 use Prim.Native.Nat.{_-_, _*_, _≤_}
 use mathlib.Core.Path.{_≡_}
 use native.Mathlib.Omega.{arith}
-use borrow.Author.Needs.{needs}
 use Rattle.validate.proofs.lines.CountLaws.{pledgedTo, pledged-none, pledged-more, pledged-all}
 use Rattle.validate.proofs.lines.pledges_fit.Statement.{statement}
 use Rattle.validate.proofs.lines.pledges_fit.Tie as tie
@@ -37,9 +36,6 @@ loop-again c =
     let more = pledged-more (s .args .m .now) (l .g) (c .pledge .result) (l .inv .0) (c .pledge .ensures .0) in
     (omega arith, (omega arith, (omega arith, omega arith)))
 
-add-result : tie.Need-add-result Inv-loop μ-loop
-add-result c = search needs
-
 returns : tie.Need-returns Inv-loop μ-loop
 returns c =
     let l = c .before .loop in
@@ -47,4 +43,4 @@ returns c =
     rw (all, ← l .inv .1 .1 .0)
 
 pub pledges-fit-spec : {M : Type 1} → statement M
-pledges-fit-spec = tie.close (tie.spec Inv-loop μ-loop loop-holds pledge-requires add-sum add-g loop-less loop-again add-result returns)
+pledges-fit-spec = tie.close (tie.spec Inv-loop μ-loop loop-holds pledge-requires add-sum add-g loop-less loop-again returns)

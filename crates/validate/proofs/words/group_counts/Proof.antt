@@ -8,9 +8,6 @@ use Rattle.validate.proofs.words.group_counts.Tie as tie
 group-word-requires : tie.Need-group-word-requires
 group-word-requires c κs = search needs
 
-add-if1 : tie.Need-add-if1
-add-if1 c = search needs
-
 returns : tie.Need-returns
 returns c = let s = c .before .before .before .args in held-over (s .m .now) (s .g) (omega arith)
 
@@ -21,4 +18,4 @@ returns-2 : tie.Need-returns-2
 returns-2 c = let s = c .before .before .before .before .args in held-within (s .m .now) (s .g) _ (omega arith) (c .group-word2 .ensures)
 
 pub group-counts-spec : {M : Type 1} → statement M
-group-counts-spec = tie.close (tie.spec group-word-requires add-if1 returns group-word-requires-2 returns-2)
+group-counts-spec = tie.close (tie.spec group-word-requires returns group-word-requires-2 returns-2)

@@ -14,10 +14,10 @@ use Rattle.rules.specs.Frames.{without}
 use Rattle.rules.specs.Lists.{countOf, pad}
 use Rattle.rules.specs.Memory.{word, wordsAt}
 use Rattle.rules.proofs.Steps.ListLaws.{filter-fail, filter-pass, length-pad}
-use Rattle.rules.proofs.Map.MapWords.{Stands, length-wordsAt, pad-stands, stands-append, stands-cons, wordsAt-stands}
+use Rattle.rules.proofs.Map.MapWords.{Stands, length-wordsAt, pad-stands, stands-append, wordsAt-stands}
 use Rattle.memory.specs.Lines.{InLine, Joined, Left, indexOf}
 use Rattle.memory.specs.Writes.{Wrote}
-use Rattle.memory.proofs.WriteLaws.{covered, lengthened, shifted, widened-end, wrote-as}
+use Rattle.memory.proofs.WriteLaws.{covered, lengthened, shifted, stands-word, widened-end, wrote-as}
 
 -- the line of these numbers stands
 pub record LineStands (m : List ℕ) (count line room : ℕ) (xs : List ℕ) : Type 0 where
@@ -41,9 +41,19 @@ abbrev pub lacking : ℕ → List ℕ → List ℕ
 lacking i xs = take i xs ++ drop (suc i) xs
 
 module _ {m : List ℕ} {count line room : ℕ} {xs : List ℕ} (s : LineStands m count line room xs) where
+  numbers-stand : Stands m line xs
+  numbers-stand = pad-stands m line room xs (s .few) .0 (s .numbers) .0
+
   -- a line is read
   pub line-read : wordsAt m line (word m count) ≡ xs
-  line-read = wordsAt-stands m line (word m count) xs (sym (s .counted)) (pad-stands m line room xs (s .few) .0 (s .numbers) .0)
+  line-read = wordsAt-stands m line (word m count) xs (sym (s .counted)) numbers-stand
+
+  -- a number of it, and the first
+  pub line-at : (j : ℕ) → j < length xs → word m (line + j) ≡ getD xs j 0
+  line-at j h = stands-word m line xs j h numbers-stand
+
+  pub line-first : 1 ≤ length xs → word m line ≡ getD xs 0 0
+  line-first some = let e = add-zero line in rw e at (line-at 0 some)
 
   -- it lies within the memory where its room does
   pub line-within : count < length m → line + room ≤ length m → InLine m count line
@@ -70,9 +80,8 @@ module _ {m : List ℕ} {count line room : ℕ} {xs : List ℕ} (s : LineStands 
         let lw : length (wordsAt m (line + i + 1) (length vs) ++ (0 ∷ [])) ≡ length vs + 1 =
         length-append (wordsAt m (line + i + 1) (length vs)) (0 ∷ []) ∙ ap (λ (t : ℕ). t + 1) (length-wordsAt m (line + i + 1) (length vs)) in
         let c : Wrote m (gone .between) (line + i) (pad k vs) = covered w (line + i) (pad k vs) (omega arith) (omega (arith, length-pad k vs)) moved in
-        let first : word m (line + i) ≡ y = first-padded k (y ∷ vs) (omega arith) (omega arith) (both .1) in
         let fewer : word m count - 1 ≡ length (us ++ vs) = omega (arith, s .counted, length-append us vs) in (
-          gone .number ∙ first,
+          gone .number ∙ line-at i h,
           record {
             between = gone .between;
             numbers =
@@ -82,11 +91,6 @@ module _ {m : List ℕ} {count line room : ℕ} {xs : List ℕ} (s : LineStands 
             counted = wrote-as (gone .counted) (ap (λ (t : ℕ). t ∷ []) fewer);
           },
         )
-      where
-        first-padded : (k : ℕ) (ys : List ℕ) → 1 ≤ length ys → 1 ≤ k → Stands m (line + i) (pad k ys) → word m (line + i) ≡ getD ys 0 0
-        first-padded zero ys some room p = absurd (omega arith)
-        first-padded (suc k) [] some room p = absurd (omega arith)
-        first-padded (suc k) (z ∷ ys) some room p = stands-cons m (line + i) z (pad k ys) .0 p .0
 
     -- a number has joined the end
     pub joined-wrote : {x : ℕ} → length xs < room → Joined m m′ count line x → LineWrote m m′ count line room (xs ++ (x ∷ []))
@@ -97,6 +101,15 @@ module _ {m : List ℕ} {count line room : ℕ} {xs : List ℕ} (s : LineStands 
           numbers = lengthened line room x xs (line + word m count) (ap (λ (t : ℕ). line + t) (s .counted)) h (s .numbers) (came .written);
           counted = wrote-as (came .counted) (ap (λ (t : ℕ). t ∷ []) more);
         }
+
+-- What is written of a line leaves the words before its count and its numbers, and the length.
+
+module _ {m m′ : List ℕ} {count line x : ℕ} where
+  pub left-below : {i : ℕ} → Left m m′ count line i x → (b : ℕ) → b < count → b < line → word m′ b ≡ word m b
+  left-below gone b h l = gone .counted .below b h ∙ gone .moved .below b (omega arith)
+
+  pub left-length : {i : ℕ} → Left m m′ count line i x → length m′ ≡ length m
+  left-length gone = gone .counted .same-length ∙ gone .moved .same-length
 
 -- Where a number stands.
 

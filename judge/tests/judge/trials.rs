@@ -105,7 +105,7 @@ fn made_by(change: &Change) -> BTreeMap<&'static str, usize> {
 }
 
 /// What each change makes of nodes, beside other things.
-const PURPOSES: [(&str, &str); 22] = [
+const PURPOSES: [(&str, &str); 23] = [
     (
         "the running group",
         "a node; running is 0 to 8; the queue's head is the running group's; a running group's \
@@ -126,8 +126,9 @@ const PURPOSES: [(&str, &str); 22] = [
     ),
     (
         "messages in a buffer",
-        "a node; each list has its rounded-up length; h is 0 where n is 0",
+        "a node; each list has its rounded-up length",
     ),
+    ("used-up places and no message", "h is 0 where n is 0"),
     (
         "flags",
         "a node; flags are 0 or 1; pending only with atomic and a line not empty; a running group \

@@ -1,6 +1,6 @@
 -- The least number of the swap line, found one number at a time: it is a swap page's where all are. Assumes nothing.
 use Prim.Native.Nat.{ℕ, _+_, _≤_, _<_}
-use mathlib.Core.Path.{_≡_, sym, _∙_}
+use mathlib.Core.Path.{_≡_, _∙_}
 use mathlib.Core.Bool.{_&&_, and-false, and-comm}
 use mathlib.Core.List.{List}
 use native.Mathlib.Omega.{arith}

@@ -1,7 +1,6 @@
 -- `validate::frames::list_at` meets its contract: the map's sums. Assumes nothing.
 use mathlib.Core.Path.{sym}
 use native.Mathlib.Omega.{arith}
-use borrow.Author.Needs.{needs}
 use Rattle.rules.specs.Memory.{groupAddress}
 use Rattle.validate.proofs.frames.ListedLaws.{entered-start, free-start, swap-start, group-start}
 use Rattle.validate.proofs.frames.list_at.Statement.{statement}

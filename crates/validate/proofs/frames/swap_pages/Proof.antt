@@ -1,9 +1,8 @@
 -- `validate::frames::swap_pages` meets its contract: the least of the numbers before i is a swap page's where all of them are. Assumes nothing.
 use Prim.Native.Nat.{_-_, _≤_}
-use mathlib.Core.Path.{_≡_, refl, _∙_}
+use mathlib.Core.Path.{_≡_, refl}
 use mathlib.Core.Logic.{⊎-elim}
 use native.Mathlib.Omega.{arith}
-use borrow.Author.Needs.{needs}
 use lib.Dec.{leb}
 use Rattle.rules.specs.Lists.{all, upFrom}
 use Rattle.rules.specs.Memory.{word, swapCountAt}

@@ -1,5 +1,4 @@
 -- `validate::words::paging_counted` meets its contract: two bounds. Assumes nothing.
-use native.Mathlib.Omega.{arith}
 use borrow.Author.Needs.{needs}
 use Rattle.rules.specs.Memory.{word}
 use Rattle.validate.proofs.words.WordLaws.{swap-over, swap-within}

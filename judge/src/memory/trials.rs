@@ -16,38 +16,42 @@ use crate::node::{
 use crate::random::Random;
 use crate::script;
 
-/// A script that leads to a node has at most 2 to one of these powers lines: enough to fill all
-/// pages.
+/// A script that leads to a node has at most 2 to one of these powers lines.
 const SCRIPT_LINES: [u64; 2] = [5, 11];
+/// One of a flavour that fills the frames has so many: enough for all pages.
+const FILLING: [&str; 3] = ["arrivals", "swap", "swaptime"];
+const FILLING_LINES: [u64; 2] = [300, 1500];
 /// At most so many words are changed at random.
 const MOST_WORDS: u64 = 8;
 /// A longer memory has at most so many words past the node.
 const MOST_PAST: u64 = 100;
 
-/// A node that a script of some flavour leads to, after few lines as often as after many.
+/// A node that a script of some flavour leads to, after few lines as often as after many; often of one
+/// that leaves pages in swap.
 pub fn reachable(random: &mut Random) -> Vec<u32> {
-    let flavour = &FLAVOURS[below(random, FLAVOURS.len())];
-    let power = random.between(SCRIPT_LINES[0], SCRIPT_LINES[1]);
-    let lines = random.between(0, 1 << power);
+    let (flavour, lines) = if random.one_in(3) {
+        let lines = random.between(FILLING_LINES[0], FILLING_LINES[1]);
+        (named(random.pick(&FILLING)), lines)
+    } else {
+        let power = random.between(SCRIPT_LINES[0], SCRIPT_LINES[1]);
+        let flavour = &FLAVOURS[below(random, FLAVOURS.len())];
+        (flavour, random.between(0, 1 << power))
+    };
     words_of(&script::node_after(&flavour.script(random.draw(), lines)))
+}
+
+fn named(name: &str) -> &'static Flavour {
+    Flavour::named(name).expect("a flavour of this name")
 }
 
 /// Any operation, an unknown one too.
 pub fn operation(random: &mut Random) -> Operation {
     let name = if random.one_in(20) { "bad" } else { "uniform" };
-    let flavour = Flavour::named(name).expect("a flavour of this name");
-    let line = flavour.script(random.draw(), 1);
+    let line = named(name).script(random.draw(), 1);
     script::read(line.strip_suffix(b"\n").unwrap_or(&line))
 }
 
-/// Any memory: a node or a changed one, most often of the node's size.
-pub fn any_memory(random: &mut Random) -> Vec<u32> {
-    let mut memory = reachable(random);
-    vary(&mut memory, random);
-    memory
-}
-
-/// Makes any memory of a node's.
+/// Makes any memory of a node's: the node or a changed one, most often of the node's size.
 pub fn vary(memory: &mut Vec<u32>, random: &mut Random) {
     match random.between(1, 8) {
         1 | 2 => (),
@@ -106,7 +110,7 @@ pub struct Change {
     make: fn(&mut [u32], &mut Random),
 }
 
-pub static CHANGES: [Change; 22] = [
+pub static CHANGES: [Change; 23] = [
     Change {
         name: "the running group",
         make: |memory, random| change(memory, random, RUNNING, GROUPS),
@@ -126,6 +130,10 @@ pub static CHANGES: [Change; 22] = [
     Change {
         name: "messages in a buffer",
         make: change_messages,
+    },
+    Change {
+        name: "used-up places and no message",
+        make: use_up_all,
     },
     Change {
         name: "flags",
@@ -240,8 +248,7 @@ fn change_used_up(memory: &mut [u32], random: &mut Random) {
     change(memory, random, record + USED_UP, PAGE_PLACES - 1);
 }
 
-/// To an edge, to about what the list has room for, so that h + n is small only in 32 bits, or to 0,
-/// which leaves h alone.
+/// To an edge, or to about what the list has room for, so that h + n is small only in 32 bits.
 fn change_messages(memory: &mut [u32], random: &mut Random) {
     let group = a_buffered(memory, random);
     let (at, used_up) = (
@@ -249,13 +256,22 @@ fn change_messages(memory: &mut [u32], random: &mut Random) {
         memory[group_at(group) + USED_UP],
     );
     let places = words(memory).group(group).list_count() * PAGE_PLACES;
-    let sum = match random.between(1, 6) {
+    let sum = match random.between(1, 5) {
         1 => below(random, places + 2),
         2 => below(random, used_up.max(1) as usize),
-        3 => used_up as usize,
         _ => return change(memory, random, at, places),
     };
     memory[at] = (sum as u32).wrapping_sub(used_up);
+}
+
+/// A buffer of one page that holds no message has its rounded-up length all the same.
+fn use_up_all(memory: &mut [u32], random: &mut Random) {
+    let of_one_page = (1..=GROUPS).filter(|&group| words(memory).group(group).list_count() == 1);
+    let of_one_page = of_one_page.collect();
+    let any = 1 + below(random, GROUPS);
+    let record = group_at(one_of(random, of_one_page, any));
+    memory[record + USED_UP] = random.between(1, PAGE_PLACES as u64 - 1) as u32;
+    memory[record + MESSAGES] = 0;
 }
 
 fn change_flag(memory: &mut [u32], random: &mut Random) {
@@ -338,9 +354,11 @@ fn change_unused(memory: &mut [u32], random: &mut Random) {
 fn change_unread(memory: &mut [u32], random: &mut Random) {
     let waiting: Vec<usize> = words(memory).waiting().collect();
     let places = (PAGES_AT..SWAP_COUNT).step_by(PLACE_WORDS);
-    let unread = places.filter(|at| !waiting.contains(at)).collect();
-    let at = one_of(random, unread, PAGES_AT) + below(random, PLACE_WORDS);
-    change(memory, random, at, MESSAGE_WORDS);
+    let unread: Vec<usize> = places.filter(|at| !waiting.contains(at)).collect();
+    if !unread.is_empty() {
+        let at = random.pick(&unread) + below(random, PLACE_WORDS);
+        change(memory, random, at, MESSAGE_WORDS);
+    }
 }
 
 /// A message at the end of the hardware queue, often the running group's. In a full queue it takes

@@ -48,6 +48,11 @@ pub record Repaged (n′ n : Node) : Type 0 where
 pub pages-refl : {G : Group} → SamePages G G
 pages-refl = record { flags = record { atomic = refl; pending = refl; descriptor = refl }; used = refl; count = refl; places = refl }
 
+-- so their waiting messages are the same
+pub pages-waiting : {G H : Group} → SamePages G H → waiting (G .buffer) ≡ waiting (H .buffer)
+unfolding waiting
+pages-waiting e = rw (e .used, e .count, e .places)
+
 pub repaged-refl : {n : Node} → Repaged n n
 repaged-refl = record { running = refl; timer = refl; queue = refl; groups = λ g. pages-refl }
 

@@ -57,9 +57,14 @@ pass-flags b =
     (λ n g. flags-refl) (λ m q n e g. flags-refl) (λ m q n s later g. flags-trans (later g) (store-flags b m n g))
 
 -- storing, and so a pass, leaves the running group
-store-running : (b : Build) (m : Message) (n : Node) → store b m n .running ≡ n .running
+pub store-running : (b : Build) (m : Message) (n : Node) → store b m n .running ≡ n .running
 unfolding store put withStock withGroup withFree withPaging
 store-running b m n = prepared-repaged b (m .group) n .running
+
+-- and the queue
+pub queue-stored : (b : Build) (m : Message) (n : Node) → store b m n .queue ≡ n .queue
+unfolding store put withStock withGroup withFree withPaging
+queue-stored b m n = prepared-repaged b (m .group) n .queue
 
 pub pass-running : (b : Build) (q : List Message) (n : Node) → pass b q n .node .running ≡ n .running
 unfolding oneMore withQueue
@@ -155,7 +160,7 @@ settle-timer b n none =
     ap (λ (q : List Message). cond (isEmpty q) (withTimer 0 p) p .timer) (sym (settled-queue b n) ∙ none)
 
 -- where a message stays, the timer stays too
-timer-stored : (b : Build) (m : Message) (n : Node) → store b m n .timer ≡ n .timer
+pub timer-stored : (b : Build) (m : Message) (n : Node) → store b m n .timer ≡ n .timer
 unfolding store put withStock withGroup withFree withPaging
 timer-stored b m n = prepared-repaged b (m .group) n .timer
 

@@ -10,7 +10,7 @@ use lib.ListN.{length}
 use lib.Seq.{append-snoc}
 use Rattle.rules.specs.Lists.{filter}
 use Rattle.rules.specs.Build.{Build, groupCount, wordLimit}
-use Rattle.rules.specs.Node.{Message, Place, Buffer, Node, groupOf, withTimer, withQueue, withFree, withPaging, withEntered, withGroup, placeOf, messageOf, isOf, waiting, inBuffer, inQueue, line}
+use Rattle.rules.specs.Node.{Message, Place, Buffer, Group, Node, groupOf, withTimer, withQueue, withFree, withPaging, withEntered, withGroup, placeOf, messageOf, isOf, waiting, inBuffer, inQueue, line}
 use Rattle.rules.specs.Frames.{ceilDiv, withRoom, withStock, put, pledge}
 use Rattle.rules.specs.Paging.{prepared, store}
 use Rattle.rules.specs.Valid.{GoodMessage}
@@ -19,7 +19,7 @@ use Rattle.rules.proofs.Steps.SoundLaws.{SameFlags, flags-trans}
 use Rattle.rules.proofs.Steps.ListLaws.{filter-pass, filter-fail, take-pad}
 use Rattle.rules.proofs.Steps.FrameLaws.{Stored, stocked, stored}
 use Rattle.rules.proofs.Steps.NodeLaws.{filled, is-of, not-of, stock-same, stock-other, within, group-good, pledges-le, restocked, restocked-flags}
-use Rattle.rules.proofs.Steps.PagingLaws.{Repaged, repaged-line, queued-repaged, prepared-repaged, prepared-sound, prepared-left, prepared-fronted}
+use Rattle.rules.proofs.Steps.PagingLaws.{pages-waiting, repaged-line, queued-repaged, prepared-repaged, prepared-sound, prepared-left, prepared-fronted}
 
 -- a message kept in a place and read back is the message
 kept-message : (m : Message) → GoodMessage m → messageOf (m .group) (placeOf m) ≡ m
@@ -173,6 +173,44 @@ store-line {b} m q n s g low high =
 pub store-sound : {b : Build} (m : Message) (q : List Message) (n : Node) → Sound b (withQueue (m ∷ q) n) → Sound b (withQueue q (store b m n))
 unfolding store
 store-sound {b} m q n s = put-sound m q (prepared b (m .group) n) (ready-sound m q n s) (ready-left m q n s)
+
+-- what storing does to a buffer: its own group has one message more, and the others have what they had
+pub record StoredOwn (G H : Group) (m : Message) : Type 0 where
+  pub used : G .buffer .used ≡ H .buffer .used
+  pub count : G .buffer .count ≡ H .buffer .count + 1
+  pub waits : waiting (G .buffer) ≡ waiting (H .buffer) ++ (placeOf m ∷ [])
+
+pub store-own : {b : Build} (m : Message) (q : List Message) (n : Node) → Sound b (withQueue (m ∷ q) n)
+    → StoredOwn (groupOf (store b m n) (m .group)) (groupOf n (m .group)) m
+unfolding store
+store-own {b} m q n s =
+    let y = prepared b (m .group) n in
+    let same = prepared-repaged b (m .group) n .groups (m .group) in
+    let buffer = own-buffer m q y (ready-sound m q n s) (ready-left m q n s) in
+    let stock = own-stock m q y (ready-sound m q n s) (ready-left m q n s) in
+    record {
+      used = ap (λ (v : Buffer). v .used) buffer ∙ stock .used ∙ same .used;
+      count = ap (λ (v : Buffer). v .count) buffer ∙ stock .count ∙ ap (λ (k : ℕ). k + 1) (same .count);
+      waits = ap waiting buffer ∙ stock .waits ∙ ap (λ (ps : List Place). ps ++ (placeOf m ∷ [])) (pages-waiting same);
+    }
+
+pub record StoredOther (G H : Group) : Type 0 where
+  pub used : G .buffer .used ≡ H .buffer .used
+  pub count : G .buffer .count ≡ H .buffer .count
+  pub waits : waiting (G .buffer) ≡ waiting (H .buffer)
+
+pub store-other : {b : Build} (m : Message) (q : List Message) (n : Node) → Sound b (withQueue (m ∷ q) n) → (h : ℕ) → 1 ≤ h → h ≢ m .group
+    → StoredOther (groupOf (store b m n) h) (groupOf n h)
+unfolding store
+store-other {b} m q n s h low other =
+    let y = prepared b (m .group) n in
+    let same = prepared-repaged b (m .group) n .groups h in
+    let buffer = other-buffer m q y (ready-sound m q n s) (ready-left m q n s) h low other in
+    record {
+      used = ap (λ (v : Buffer). v .used) buffer ∙ same .used;
+      count = ap (λ (v : Buffer). v .count) buffer ∙ same .count;
+      waits = ap waiting buffer ∙ pages-waiting same;
+    }
 
 -- flags and descriptors stay
 pub store-flags : (b : Build) (m : Message) (n : Node) (g : ℕ) → SameFlags (groupOf (store b m n) g) (groupOf n g)

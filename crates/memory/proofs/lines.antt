@@ -1,2 +1,3 @@
--- The laws of a line of numbers.
+-- The laws of a line of numbers, and of a number's place in it.
 pub mod LineLaws
+pub mod IndexLaws

@@ -28,7 +28,8 @@ use Rattle.memory.specs.Writes.{Wrote}
 use Rattle.memory.proofs.CountLaws.{its-free, lists-short}
 use Rattle.memory.proofs.LinePieces.{free-line, free-put}
 use Rattle.memory.proofs.group.GroupLaws.{group-whole, group-words, list-line, list-wrote, mapped-group, record-held, record-stands, record-within, record-wrote, withPages, withRecord}
-use Rattle.memory.proofs.lines.LineLaws.{LineWrote, index-below, joined-wrote, left-below, left-wrote, line-first, line-within}
+use Rattle.memory.proofs.lines.LineLaws.{LineWrote, joined-wrote, left-below, left-length, left-wrote, line-first, line-within}
+use Rattle.memory.proofs.lines.IndexLaws.{index-below}
 use Rattle.memory.proofs.PieceLaws.{FrameStands, Pieces, holds-pieces, pieces-hold}
 use Rattle.memory.proofs.PieceWrites.{frames-above, group-put}
 use Rattle.memory.proofs.WriteLaws.{wrote-over, wrote-stands}
@@ -168,6 +169,16 @@ pub free-kept : {m m₁ m₂ : List ℕ} {f : ℕ} {ws : List ℕ} (g : ℕ) →
 free-kept g gone w =
     let low = above-header g in
     w .below freeCountAt (omega arith) ∙ left-below gone freeCountAt (omega arith) (omega arith)
+
+-- so the free line has room for the frame
+pub free-room : {m m₁ m₂ : List ℕ} {f : ℕ} {ws : List ℕ} (g : ℕ) → Reads m g → Left m m₁ (groupAddress g + heldOffset) (groupAddress g + listOffset) 0 f
+    → Wrote m₁ m₂ (groupAddress g) ws → InLine m₂ freeCountAt freeAt × ((word m₂ freeCountAt < pageCount paper01) × (freeAt + word m₂ freeCountAt < length m₂))
+free-room g reads gone w =
+    let same = free-kept g gone w in
+    let long = reads .long in
+    let few = reads .free in
+    let l = w .same-length ∙ left-length gone in
+    (record { counted = omega arith; inside = omega arith }, (omega arith, omega arith))
 
 -- and a number that leaves the list leaves the flags and counts
 pub counts-kept : {m m₁ : List ℕ} {f : ℕ} (g : ℕ) → Left m m₁ (groupAddress g + heldOffset) (groupAddress g + listOffset) 0 f → (k : ℕ) → k < heldOffset

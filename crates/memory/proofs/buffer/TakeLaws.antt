@@ -9,19 +9,20 @@ use lib.Seq.{drop-append-le, take-all, take-append-le}
 use Rattle.rules.specs.Build.{groupCount, pageCount, paper01}
 use Rattle.rules.specs.Frames.{extended, takeFrame, withStock}
 use Rattle.rules.specs.Lists.{Every}
-use Rattle.rules.specs.Memory.{enteredAt, enteredCountAt, freeAt, freeCountAt, groupAddress, groupWords, heldOffset, listOffset, word}
+use Rattle.rules.specs.Memory.{enteredAt, enteredCountAt, freeAt, freeCountAt, groupAddress, groupWords, heldOffset, listOffset, word, wordsAt}
 use Rattle.rules.specs.Node.{Frame, Node, Place, groupOf, withBuffer, withEntered, withFree, withGroup, withPaging}
 use Rattle.rules.specs.Paging.{framesFrom, framesOf}
 use Rattle.rules.specs.Valid.{GoodFrame, GoodPlace, frameNumber}
 use Rattle.rules.proofs.Steps.EveryLaws.{every-append}
 use Rattle.rules.proofs.Steps.ListLaws.{length-pad, weight, weight-append}
 use Rattle.memory.specs.Holds.{FrameLeft, Holds, InOrder, OrderRoom, departing, entering, granting, taking, withBoth}
-use Rattle.memory.specs.Lines.{Joined, Left, indexOf}
+use Rattle.memory.specs.Lines.{InLine, Joined, Left, indexOf}
 use Rattle.memory.specs.Writes.{Wrote}
 use Rattle.memory.proofs.CountLaws.{lists-short}
 use Rattle.memory.proofs.LinePieces.{entered-held, entered-line, free-line, free-put}
-use Rattle.memory.proofs.group.GroupLaws.{group-whole, list-wrote, mapped-group, record-line, record-stands, withPages}
-use Rattle.memory.proofs.lines.LineLaws.{LineStands, LineWrote, index-below, joined-wrote, left-wrote, length-lacking, line-first, without-index}
+use Rattle.memory.proofs.group.GroupLaws.{group-whole, group-words, list-wrote, mapped-group, record-line, record-stands, withPages}
+use Rattle.memory.proofs.lines.LineLaws.{LineStands, LineWrote, joined-wrote, left-above, left-length, left-wrote, length-lacking, line-first, line-read, may-join, may-leave}
+use Rattle.memory.proofs.lines.IndexLaws.{index-below, without-index}
 use Rattle.memory.proofs.PieceLaws.{FrameStands, Pieces, holds-pieces, pieces-hold}
 use Rattle.memory.proofs.PieceWrites.{frames-above, group-put}
 
@@ -29,6 +30,13 @@ use Rattle.memory.proofs.PieceWrites.{frames-above, group-put}
 
 pub order-line : {m : List ℕ} {n : Node} {r : List ℕ} → Holds m n r → LineStands m enteredCountAt enteredAt (paper01 .frames) (n .paging .entered)
 order-line h = entered-line (holds-pieces h) (h .mapped .swap-short) (h .mapped .entered-short)
+
+-- it has room for one more
+pub order-room : {m : List ℕ} {n : Node} {r : List ℕ} → Holds m n r → OrderRoom n
+    → InLine m enteredCountAt enteredAt × ((word m enteredCountAt < pageCount paper01) × (enteredAt + word m enteredCountAt < length m))
+order-room h room =
+    let long = holds-pieces h .long in
+    may-join (order-line h) (omega arith) (omega arith) (omega arith) room
 
 -- a frame has joined it
 pub entering-held : {m m′ : List ℕ} {n : Node} {r : List ℕ} → Holds m n r → OrderRoom n → (f : ℕ)
@@ -38,6 +46,16 @@ entering-held {n = n} h room f came =
     let es = n .paging .entered in
     entered-held h (es ++ (f ∷ [])) (omega (arith, length-append es (f ∷ [])))
     (joined-wrote (order-line h) room came)
+
+-- where a frame stands in it
+pub order-index : {m : List ℕ} {n : Node} {r : List ℕ} → Holds m n r → (f : ℕ) → indexOf f (wordsAt m enteredAt (word m enteredCountAt)) ≡ indexOf f (n .paging .entered)
+order-index h f = ap (indexOf f) (line-read (order-line h))
+
+pub order-within : {m : List ℕ} {n : Node} {r : List ℕ} → Holds m n r → (f : ℕ) → InOrder f n
+    → InLine m enteredCountAt enteredAt × (indexOf f (n .paging .entered) < word m enteredCountAt)
+order-within {n = n} h f once =
+    let long = holds-pieces h .long in
+    may-leave (order-line h) (omega arith) (omega arith) (indexOf f (n .paging .entered)) (index-below f (n .paging .entered) (omega arith))
 
 -- a frame has left it, where it stands
 pub departing-held : {m m′ : List ℕ} {n : Node} {r : List ℕ} → Holds m n r → (f : ℕ) → InOrder f n → {x : ℕ}
@@ -109,6 +127,29 @@ granted {m} {m₁} {m₂} {n} {r} h g low high x fs e w came =
     unweighed w = omega (arith, weight-append w (groupOf n g .buffer .frames) (x .number ∷ []))
 
 module _ {m : List ℕ} {n : Node} {r : List ℕ} (h : Holds m n r) (g : ℕ) (left : FrameLeft n) where
+  some-free : 1 ≤ length (map frameNumber (n .free))
+  some-free = omega (arith, left .some, length-map (n .free) frameNumber)
+
+  -- a frame may leave the free line
+  pub free-within : InLine m freeCountAt freeAt × (0 < word m freeCountAt)
+  free-within =
+      let long = holds-pieces h .long in
+      may-leave (free-line (holds-pieces h) (h .mapped .free-short)) (omega arith) (omega arith) 0 some-free
+
+  -- and join the list
+  pub list-room : {m₁ : List ℕ} {f : ℕ} → 1 ≤ g → g ≤ groupCount → Left m m₁ freeCountAt freeAt 0 f
+      → InLine m₁ (groupAddress g + heldOffset) (groupAddress g + listOffset)
+      × ((word m₁ (groupAddress g + heldOffset) < pageCount paper01) × (groupAddress g + listOffset + word m₁ (groupAddress g + heldOffset) < length m₁))
+  unfolding groupAddress
+  list-room low high gone =
+      let long = holds-pieces h .long in
+      let few = h .mapped .free-short in
+      let same = left-above (free-within .1) gone (groupAddress g + heldOffset) (omega arith) (omega (arith, holds-pieces h .free-count)) in
+      let held = group-words (holds-pieces h) (h .mapped) g low high .held in
+      let short = lists-short (h .mapped) g low high in
+      let l = left-length gone in
+      (record { counted = omega arith; inside = omega (arith, left .some) }, (omega (arith, left .some), omega (arith, left .some)))
+
   pub granting-held : {m₁ m₂ : List ℕ} → 1 ≤ g → g ≤ groupCount → (f : ℕ) → Left m m₁ freeCountAt freeAt 0 f
       → Joined m₁ m₂ (groupAddress g + heldOffset) (groupAddress g + listOffset) f → Holds m₂ (granting g n) r
   unfolding granting takeFrame frameNumber
@@ -118,7 +159,7 @@ module _ {m : List ℕ} {n : Node} {r : List ℕ} (h : Holds m n r) (g : ℕ) (l
           → Holds m₂ (withBoth g (takeFrame fs (n .paging .entered) (groupOf n g .buffer) .free) (takeFrame fs (n .paging .entered) (groupOf n g .buffer) .buffer) n) r
       go [] e = absurd (omega (arith, left .some, ap length e))
       go (x ∷ fs) e =
-          let t = left-wrote (free-line (holds-pieces h) (h .mapped .free-short)) (omega (arith, left .some, length-map (n .free) frameNumber)) gone in
+          let t = left-wrote (free-line (holds-pieces h) (h .mapped .free-short)) some-free gone in
           let number : f ≡ x .number = t .0 ∙ ap (λ (ys : List Frame). getD (map frameNumber ys) 0 0) e in
           granted h g low high x fs e (rw e at (t .1)) (rw number at came)
 
@@ -132,7 +173,7 @@ module _ {m : List ℕ} {n : Node} {r : List ℕ} (h : Holds m n r) (g : ℕ) (l
           ≡ withStock g (takeFrame fs (n .paging .entered) (groupOf n g .buffer)) n
       go [] e = absurd (omega (arith, left .some, ap length e))
       go (x ∷ fs) e =
-          let front = line-first (free-line (holds-pieces h) (h .mapped .free-short)) (omega (arith, left .some, length-map (n .free) frameNumber)) in
+          let front = line-first (free-line (holds-pieces h) (h .mapped .free-short)) some-free in
           let number : word m freeAt ≡ x .number = front ∙ ap (λ (ys : List Frame). getD (map frameNumber ys) 0 0) e in
           rw number
 

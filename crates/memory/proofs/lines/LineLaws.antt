@@ -3,19 +3,16 @@
 use Prim.Native.Nat.{ℕ, zero, suc, _+_, _-_, _≤_, _<_}
 use native.Mathlib.Nat.{add-zero}
 use native.Mathlib.Omega.{arith}
-use mathlib.Core.Bool.{Bool, true, false, not, cond}
 use mathlib.Core.List.{List, [], _∷_, _++_}
 use mathlib.Core.Path.{_∙_, _≡_, ap, refl, sym, subst}
-use lib.Dec.{eqb}
 use lib.ListN.{length, take, drop, getD, length-append, length-drop, take-append-drop}
 use lib.Seq.{drop-cons, length-take-le}
-use borrow.Author.Tests.{eqb-true, eqb-false}
-use Rattle.rules.specs.Frames.{without}
-use Rattle.rules.specs.Lists.{countOf, pad}
+use Rattle.rules.specs.Build.{pageCount, paper01}
+use Rattle.rules.specs.Lists.{pad}
 use Rattle.rules.specs.Memory.{word, wordsAt}
-use Rattle.rules.proofs.Steps.ListLaws.{filter-fail, filter-pass, length-pad}
+use Rattle.rules.proofs.Steps.ListLaws.{length-pad}
 use Rattle.rules.proofs.Map.MapWords.{Stands, length-wordsAt, pad-stands, stands-append, wordsAt-stands}
-use Rattle.memory.specs.Lines.{InLine, Joined, Left, indexOf}
+use Rattle.memory.specs.Lines.{InLine, Joined, Left}
 use Rattle.memory.specs.Writes.{Wrote}
 use Rattle.memory.proofs.WriteLaws.{covered, lengthened, shifted, stands-word, widened-end, wrote-as}
 
@@ -55,9 +52,16 @@ module _ {m : List ℕ} {count line room : ℕ} {xs : List ℕ} (s : LineStands 
   pub line-first : 1 ≤ length xs → word m line ≡ getD xs 0 0
   line-first some = let e = add-zero line in rw e at (line-at 0 some)
 
-  -- it lies within the memory where its room does
-  pub line-within : count < length m → line + room ≤ length m → InLine m count line
-  line-within below inside = record { counted = below; inside = omega (arith, s .counted, s .few) }
+  -- it lies within the memory where its room does; a number of it may leave, and one join it where there is room
+  module _ (below : count < length m) (inside : line + room ≤ length m) where
+    pub line-within : InLine m count line
+    line-within = record { counted = below; inside = omega (arith, s .counted, s .few) }
+
+    pub may-leave : (i : ℕ) → i < length xs → InLine m count line × (i < word m count)
+    may-leave i h = (line-within, omega (arith, s .counted))
+
+    pub may-join : room ≤ pageCount paper01 → length xs < room → InLine m count line × ((word m count < pageCount paper01) × (line + word m count < length m))
+    may-join few h = (line-within, (omega (arith, s .counted), omega (arith, s .counted)))
 
   module _ {m′ : List ℕ} where
     -- the number at index i has left
@@ -102,54 +106,20 @@ module _ {m : List ℕ} {count line room : ℕ} {xs : List ℕ} (s : LineStands 
           counted = wrote-as (came .counted) (ap (λ (t : ℕ). t ∷ []) more);
         }
 
--- What is written of a line leaves the words before its count and its numbers, and the length.
+-- What is written of a line leaves the words before its count and its numbers and those behind them, and the length.
 
 module _ {m m′ : List ℕ} {count line x : ℕ} where
   pub left-below : {i : ℕ} → Left m m′ count line i x → (b : ℕ) → b < count → b < line → word m′ b ≡ word m b
   left-below gone b h l = gone .counted .below b h ∙ gone .moved .below b (omega arith)
 
+  pub left-above : {i : ℕ} → i < word m count → Left m m′ count line i x → (b : ℕ) → count < b → line + word m count ≤ b → word m′ b ≡ word m b
+  left-above {i} inside gone b h l =
+      let ws = wordsAt m (line + i + 1) (word m count - i - 1) in
+      gone .counted .above b (omega arith)
+      ∙ gone .moved .above b (omega (arith, length-append ws (0 ∷ []), length-wordsAt m (line + i + 1) (word m count - i - 1)))
+
   pub left-length : {i : ℕ} → Left m m′ count line i x → length m′ ≡ length m
   left-length gone = gone .counted .same-length ∙ gone .moved .same-length
-
--- Where a number stands.
-
--- none is left out where the number does not stand
-without-none : (f : ℕ) (xs : List ℕ) → countOf f xs ≡ 0 → without f xs ≡ xs
-unfolding without
-without-none f [] none = refl
-without-none f (x ∷ xs) none = go (eqb x f) refl (without-none f xs)
-  where
-    go : (t : Bool) → eqb x f ≡ t → (countOf f xs ≡ 0 → without f xs ≡ xs) → without f (x ∷ xs) ≡ x ∷ xs
-    go true e r = absurd (let l = rw e at none in omega arith)
-    go false e r =
-        let l : countOf f xs ≡ 0 = let k = rw e at none in omega arith in
-        filter-pass (λ y. not (eqb y f)) x xs (ap not e) ∙ ap (λ (t : List ℕ). x ∷ t) (r l)
-
-module _ (f : ℕ) where
-  -- a number that stands in a list has an index there
-  pub index-below : (xs : List ℕ) → 1 ≤ countOf f xs → indexOf f xs < length xs
-  unfolding indexOf
-  index-below [] some = absurd (omega arith)
-  index-below (x ∷ xs) some = go (eqb x f) refl (index-below xs)
-    where
-      go : (t : Bool) → eqb x f ≡ t → (1 ≤ countOf f xs → indexOf f xs < length xs) → cond t 0 (suc (indexOf f xs)) < suc (length xs)
-      go true e r = omega arith
-      go false e r = let l = rw e at some in let k = r (omega arith) in omega arith
-
-  -- and one that stands once is left out with that index
-  pub without-index : (xs : List ℕ) → countOf f xs ≡ 1 → lacking (indexOf f xs) xs ≡ without f xs
-  unfolding indexOf without
-  without-index [] once = absurd (omega arith)
-  without-index (x ∷ xs) once = go (eqb x f) refl (without-index xs)
-    where
-      go : (t : Bool) → eqb x f ≡ t → (countOf f xs ≡ 1 → lacking (indexOf f xs) xs ≡ without f xs)
-          → lacking (cond t 0 (suc (indexOf f xs))) (x ∷ xs) ≡ without f (x ∷ xs)
-      go true e r =
-          let l : countOf f xs ≡ 0 = let k = rw e at once in omega arith in
-          sym (filter-fail (λ y. not (eqb y f)) x xs (ap not e) ∙ without-none f xs l)
-      go false e r =
-          let l : countOf f xs ≡ 1 = let k = rw e at once in omega arith in
-          ap (λ (t : List ℕ). x ∷ t) (r l) ∙ sym (filter-pass (λ y. not (eqb y f)) x xs (ap not e))
 
 -- one fewer is left
 pub length-lacking : (i : ℕ) (xs : List ℕ) → i < length xs → length (lacking i xs) + 1 ≡ length xs

@@ -19,7 +19,8 @@ use Rattle.rules.proofs.Steps.ListLaws.{length-parts}
 use Rattle.rules.specs.Sound.{Mapped}
 use Rattle.rules.proofs.Map.MapWords.{Stands, stands-append, stands-nil, parts-stand, front-stands, stands-front}
 use Rattle.rules.proofs.Map.MapParts.{length-group, length-place}
-use Rattle.rules.proofs.Map.MapFrames.{all-good, all-numbers, numbers-bounded, each-found, found, length-frame}
+use Rattle.rules.proofs.Steps.PageLaws.{found}
+use Rattle.rules.proofs.Map.MapFrames.{all-good, all-numbers, numbers-bounded, each-found, length-frame}
 use Rattle.rules.proofs.Map.MapRead.{MapStands, map-stands, words-length}
 use Rattle.memory.specs.Holds.{Holds}
 

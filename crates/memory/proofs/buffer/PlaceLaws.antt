@@ -17,7 +17,7 @@ use Rattle.rules.specs.Paging.{framesFrom}
 use Rattle.rules.specs.Valid.{GoodFrame, GoodPlace, frameNumber}
 use Rattle.rules.proofs.Steps.EveryLaws.{every-at, every-drop, every-mono, every-of, every-set, every-take, every-unmap}
 use Rattle.rules.proofs.Steps.ListLaws.{count-at, length-parts}
-use Rattle.rules.proofs.Map.MapFrames.{good-from, numbers-from}
+use Rattle.rules.proofs.Steps.PageLaws.{good-from, numbers-from}
 use Rattle.rules.proofs.Map.MapParts.{length-place}
 use Rattle.rules.proofs.Map.MapWords.{Stands, stands-append}
 use Rattle.memory.specs.Writes.{Wrote}
@@ -100,8 +100,8 @@ module _ {m m′ : List ℕ} (f q : ℕ) (below : q < paper01 .perFrame) (x : Pl
       } in
       let none : countOf f fs ≡ 0 = let c = rw (eq-eqb k f at) at once in omega arith in
       let rest : Every (FrameStands m′) (framesFrom paper01 fs (drop 8 ps)) =
-      frames-kept (framesFrom paper01 fs (drop 8 ps)) (good-from fs (drop 8 ps) (rw length-drop (omega arith)) (every-drop GoodPlace 8 ps good))
-      (rw (numbers-from fs (drop 8 ps)) none) (s .1) in
+      frames-kept (framesFrom paper01 fs (drop 8 ps)) (good-from paper01 fs (drop 8 ps) (rw length-drop (omega arith)) (every-drop GoodPlace 8 ps good))
+      (rw (numbers-from paper01 fs (drop 8 ps)) none) (s .1) in
       let e : 8 * 0 + q ≡ q = omega arith in
       rw (e, take-set-lt 8 ps q x below, drop-set-lt 8 ps q x below) (first, rest)
   frames-put (k ∷ fs) ps (suc j) h at once whole good s =

@@ -15,7 +15,7 @@ use Rattle.rules.specs.Paging.{framesOf}
 use Rattle.rules.specs.Valid.{GoodPlace, frameNumber}
 use Rattle.rules.proofs.Steps.EveryLaws.{every-getD, every-set}
 use Rattle.rules.proofs.Steps.FrameLaws.{placeOf-good}
-use Rattle.rules.proofs.Map.MapFrames.{good-from, numbers-from}
+use Rattle.rules.proofs.Steps.PageLaws.{good-from, numbers-from}
 use Rattle.rules.proofs.Map.MapParts.{length-group, length-place}
 use Rattle.rules.proofs.Map.MapRead.{length-line, length-queue}
 use Rattle.rules.proofs.Map.MapWords.{Stands}
@@ -73,8 +73,8 @@ place-put {m} {m′} {n} p v g low high j q inside below x gx w =
           (λ other.
           let H = getD (n .groups) i emptyGroup in
           let good = every-getD WholeGroup (n .groups) i emptyGroup (v .groups-whole) (omega arith) in
-          frames-kept f q below x gx w (framesOf paper01 H) (good-from (H .buffer .frames) (H .buffer .places) (good .whole) (good .places))
-          (rw (numbers-from (H .buffer .frames) (H .buffer .places)) (its-other v g low high j inside i h other)) (p .group-frames i h));
+          frames-kept f q below x gx w (framesOf paper01 H) (good-from paper01 (H .buffer .frames) (H .buffer .places) (good .whole) (good .places))
+          (rw (numbers-from paper01 (H .buffer .frames) (H .buffer .places)) (its-other v g low high j inside i h other)) (p .group-frames i h));
     }
 
 -- the address of the place behind the last message of group g's buffer, as it is read from memory

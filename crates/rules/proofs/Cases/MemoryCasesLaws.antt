@@ -2,12 +2,13 @@
 use mathlib.Core.Path.{_≡_, refl}
 use mathlib.Core.Bool.{true}
 use mathlib.Core.List.{[], _∷_, _++_}
+use Rattle.rules.specs.Lists.{upFrom}
 use Rattle.rules.specs.Operation.{schedule, user, dispose}
 use Rattle.rules.specs.MemoryTest.{isMemory}
-use Rattle.rules.specs.Cases.MemoryCases.{fresh, busy, sevenUsed}
-use Rattle.rules.specs.Cases.MemoryCases.{MapCases, StepOnMemoryCases, NodeCases, NoNodeCases, HeadCases}
+use Rattle.rules.specs.Cases.MemoryCases.{fresh, busy, sevenUsed, swapped}
+use Rattle.rules.specs.Cases.MemoryCases.{MapCases, StepOnMemoryCases, NodeCases, NoNodeCases, HeadCases, CountCases}
 use Rattle.rules.proofs.Cases.Computes.{computes}
-use Rattle.rules.proofs.Cases.TestComputes.{words-fail, node-fails, unused-fail, is-node, same-words, step-report, step-writes, step-refused, head-of, head-reads, head-none}
+use Rattle.rules.proofs.Cases.TestComputes.{words-fail, node-fails, unused-fail, is-node, same-words, step-report, step-writes, step-refused, head-of, head-reads, head-none, counts-of, counts-none}
 
 pub map-cases : MapCases
 unfolding computes
@@ -16,8 +17,8 @@ map-cases =
       fresh-words = same-words _ _ refl;
       fresh-size = refl;
       busy-words = same-words _ _ refl;
-      last-place = refl;
-      last-list = refl;
+      last-frame = refl;
+      last-page = refl;
       last-queued = refl;
       last-described = refl;
     }
@@ -25,17 +26,24 @@ map-cases =
 -- memories that the cases below speak of more than once
 fresh-node : isMemory fresh ≡ true
 unfolding computes
-fresh-node = is-node fresh refl refl refl refl refl
+fresh-node = is-node _ (upFrom 0 96) (upFrom 0 32) refl refl refl refl refl refl refl refl refl
 
 -- the busy node, with a word past its size
 busy-node : isMemory (busy ++ (7 ∷ [])) ≡ true
 unfolding computes
-busy-node = is-node _ refl refl refl refl refl
+busy-node =
+    is-node _ (upFrom 2 30 ++ (upFrom 32 64 ++ (0 ∷ 1 ∷ []))) (upFrom 2 30 ++ (0 ∷ 1 ∷ [])) refl refl refl refl refl refl refl refl refl
 
 -- the one with seven places used up
 seven-used : isMemory sevenUsed ≡ true
 unfolding computes
-seven-used = is-node _ refl refl refl refl refl
+seven-used =
+    is-node _ (upFrom 2 30 ++ (upFrom 32 64 ++ (1 ∷ 0 ∷ []))) (upFrom 2 30 ++ (0 ∷ 1 ∷ [])) refl refl refl refl refl refl refl refl refl
+
+-- the one with a page in swap
+swapped-node : isMemory swapped ≡ true
+unfolding computes
+swapped-node = is-node _ (upFrom 0 4 ++ (upFrom 5 32 ++ (upFrom 38 58 ++ (4 ∷ 37 ∷ [])))) (upFrom 0 4 ++ (upFrom 5 27 ++ (4 ∷ []))) refl refl refl refl refl refl refl refl refl
 
 pub node-cases : NodeCases
 unfolding computes
@@ -43,10 +51,13 @@ node-cases =
     record {
       fresh-node = fresh-node;
       busy-node = busy-node;
-      full-queue-node = is-node _ refl refl refl refl refl;
+      full-queue-node = is-node _ (1 ∷ 8 ∷ upFrom 2 6 ++ (0 ∷ upFrom 9 87)) (1 ∷ 8 ∷ upFrom 2 6 ++ (0 ∷ upFrom 9 23)) refl refl refl refl refl refl refl refl refl;
       seven-used = seven-used;
-      edges = is-node _ refl refl refl refl refl;
-      anything = is-node _ refl refl refl refl refl;
+      edges = is-node _ (upFrom 2 30 ++ (upFrom 32 64 ++ (0 ∷ 1 ∷ []))) (upFrom 2 30 ++ (0 ∷ 1 ∷ [])) refl refl refl refl refl refl refl refl refl;
+      anything = is-node _ (upFrom 2 30 ++ (upFrom 32 64 ++ (0 ∷ 1 ∷ []))) (upFrom 2 30 ++ (0 ∷ 1 ∷ [])) refl refl refl refl refl refl refl refl refl;
+      swapped-node = swapped-node;
+      swapped-runs = is-node _ (upFrom 0 4 ++ (upFrom 5 32 ++ (upFrom 38 58 ++ (4 ∷ 37 ∷ [])))) (upFrom 0 4 ++ (upFrom 5 27 ++ (4 ∷ []))) refl refl refl refl refl refl refl refl refl;
+      first-swapped = is-node _ (upFrom 0 4 ++ (upFrom 5 32 ++ (upFrom 38 58 ++ (37 ∷ 4 ∷ [])))) (upFrom 0 4 ++ (upFrom 5 27 ++ (4 ∷ []))) refl refl refl refl refl refl refl refl refl;
     }
 
 pub no-node-cases : NoNodeCases
@@ -59,21 +70,36 @@ no-node-cases =
       queue-seventeen = words-fail _ 1 refl;
       descriptor-nine = words-fail _ 1 refl;
       free-33 = words-fail _ 1 refl;
-      list-33 = words-fail _ 1 refl;
+      list-97 = words-fail _ 1 refl;
+      swap-65 = words-fail _ 1 refl;
+      entered-33 = words-fail _ 1 refl;
       group-zero = node-fails _ 3 refl;
       group-nine = node-fails _ 3 refl;
       length-zero = node-fails _ 3 refl;
       length-nine = words-fail _ 1 refl;
       length-zero-buffered = node-fails _ 5 refl;
       length-nine-buffered = node-fails _ 5 refl;
+      length-zero-swapped = node-fails _ 5 refl;
+      length-nine-swapped = node-fails _ 5 refl;
       eight-used = node-fails _ 5 refl;
       timer-256 = node-fails _ 1 refl;
-      frame-twice = node-fails _ 7 refl;
-      frame-missing = node-fails _ 7 refl;
-      frame-listed-and-free = node-fails _ 7 refl;
-      frame-listed-twice = node-fails _ 7 refl;
-      frame-32 = node-fails _ 7 refl;
-      frame-33rd = node-fails _ 8 refl;
+      frame-twice = node-fails _ 8 refl;
+      frame-missing = node-fails _ 8 refl;
+      frame-listed-and-free = node-fails _ 8 refl;
+      frame-listed-twice = node-fails _ 8 refl;
+      swap-twice = node-fails _ 8 refl;
+      swap-missing = node-fails _ 8 refl;
+      swap-listed-and-free = node-fails _ 8 refl;
+      swap-listed-twice = node-fails _ 8 refl;
+      page-96 = node-fails _ 8 refl;
+      page-97th = node-fails _ 9 refl;
+      frame-in-swap-line = node-fails _ 10 refl;
+      swap-in-free-line = node-fails _ 12 refl;
+      entered-missing = node-fails _ 11 refl;
+      entered-another = node-fails _ 11 refl;
+      entered-twice = node-fails _ 11 refl;
+      entered-free = node-fails _ 11 refl;
+      entered-swap = node-fails _ 12 refl;
       list-too-long = node-fails _ 5 refl;
       list-too-short = node-fails _ 5 refl;
       list-of-none = node-fails _ 5 refl;
@@ -86,6 +112,10 @@ no-node-cases =
       queue-unused-last = unused-fail _ refl;
       free-unused = unused-fail _ refl;
       free-unused-last = unused-fail _ refl;
+      swap-unused = unused-fail _ refl;
+      swap-unused-last = unused-fail _ refl;
+      entered-unused = unused-fail _ refl;
+      entered-unused-last = unused-fail _ refl;
       list-unused = unused-fail _ refl;
       list-unused-first = unused-fail _ refl;
       list-unused-last = unused-fail _ refl;
@@ -96,20 +126,22 @@ no-node-cases =
       words-past-last = unused-fail _ refl;
       words-past-buffered = node-fails _ 5 refl;
       words-past-buffered-last = node-fails _ 5 refl;
-      pledges-33 = node-fails _ 9 refl;
+      words-past-swapped = node-fails _ 5 refl;
+      pledges-97 = node-fails _ 13 refl;
       used-of-none = node-fails _ 5 refl;
       pending-not-atomic = node-fails _ 5 refl;
       pending-not-atomic-queued = node-fails _ 5 refl;
-      pending-no-line-runner = node-fails _ 10 refl;
-      pending-no-line = node-fails _ 10 refl;
-      pending-no-line-first = node-fails _ 10 refl;
-      pending-no-line-last = node-fails _ 10 refl;
-      runner-not-atomic = node-fails _ 11 refl;
-      runner-not-atomic-buffered = node-fails _ 11 refl;
-      head-of-nobody = node-fails _ 12 refl;
-      head-of-another = node-fails _ 12 refl;
-      head-group-buffered = node-fails _ 12 refl;
-      timer-idle = node-fails _ 12 refl;
+      pending-no-line-runner = node-fails _ 14 refl;
+      pending-no-line = node-fails _ 14 refl;
+      pending-no-line-first = node-fails _ 14 refl;
+      pending-no-line-last = node-fails _ 14 refl;
+      runner-not-atomic = node-fails _ 15 refl;
+      runner-not-atomic-buffered = node-fails _ 15 refl;
+      head-of-nobody = node-fails _ 16 refl;
+      head-of-another = node-fails _ 16 refl;
+      head-group-buffered = node-fails _ 16 refl;
+      timer-idle = node-fails _ 16 refl;
+      runner-swapped = node-fails _ 17 refl;
     }
 
 pub step-on-memory-cases : StepOnMemoryCases
@@ -122,18 +154,18 @@ step-on-memory-cases =
       power-on-short = refl;
       power-on-none = refl;
       step-report = step-report fresh _ fresh-node;
-      step-words = step-writes _ (schedule 1) 0 564 _ fresh-node refl;
+      step-words = step-writes _ (schedule 1) 0 1076 _ fresh-node refl;
       step-short = step-refused _ _ (words-fail _ 0 refl);
       step-no-node = step-refused _ _ (node-fails _ 0 refl);
       before-unknown = step-refused _ _ (node-fails _ 0 refl);
-      before-nobody = step-refused _ _ (node-fails _ 12 refl);
+      before-nobody = step-refused _ _ (node-fails _ 16 refl);
       before-schedule = step-refused _ _ (node-fails _ 0 refl);
       before-ticks = step-refused _ _ (words-fail _ 0 refl);
       unknown-two = step-report fresh _ fresh-node;
       dispose-report = step-report _ _ busy-node;
-      dispose-words = step-writes _ (user dispose) 0 564 _ busy-node refl;
-      dispose-frames = step-writes _ (user dispose) 555 162 _ busy-node refl;
-      dispose-rest = step-writes _ (user dispose) 2868 2 _ busy-node refl;
+      dispose-words = step-writes _ (user dispose) 0 1076 _ busy-node refl;
+      dispose-frames = step-writes _ (user dispose) 1067 162 _ busy-node refl;
+      dispose-rest = step-writes _ (user dispose) 7988 102 _ busy-node refl;
     }
 
 pub head-cases : HeadCases
@@ -143,7 +175,16 @@ head-cases =
       head-direct = head-of _ busy-node;
       head-buffered = head-of _ seven-used;
       head-words = head-reads _ _ seven-used refl;
-      head-nobody = head-of _ (is-node _ refl refl refl refl refl);
-      head-no-line = head-of _ (is-node _ refl refl refl refl refl);
+      head-nobody = head-of _ (is-node _ (upFrom 1 31 ++ (upFrom 32 64 ++ (0 ∷ []))) (upFrom 1 31 ++ (0 ∷ [])) refl refl refl refl refl refl refl refl refl);
+      head-no-line = head-of _ (is-node _ (upFrom 0 96) (upFrom 0 32) refl refl refl refl refl refl refl refl refl);
       head-no-node = head-none _ (node-fails _ 1 refl);
+    }
+
+pub count-cases : CountCases
+unfolding computes
+count-cases =
+    record {
+      counts-fresh = counts-of _ fresh-node;
+      counts-told = counts-of _ swapped-node;
+      counts-no-node = counts-none _ (node-fails _ 16 refl);
     }

@@ -3,19 +3,20 @@
 use Prim.Native.Nat.{ℕ, zero, suc, _+_, _-_, _*_}
 use mathlib.Core.Path.{_≡_, refl, ap, _∙_}
 use mathlib.Core.Bool.{Bool, true, false, _&&_, false≢true}
-use mathlib.Core.List.{List, [], _∷_}
+use mathlib.Core.List.{List, [], _∷_, _++_, map}
 use borrow.Author.Tests.{eqb-true}
 use lib.Dec.{eqb, leb}
 use lib.ListN.{length, take, drop, getD}
 use native.Mathlib.Numerals.{add-one}
 use Rattle.rules.specs.Lists.{Every, passes, pad, all, upFrom}
-use Rattle.rules.specs.Build.{paper01, groupCount, wordLimit}
+use Rattle.rules.specs.Build.{paper01, pageCount, groupCount, wordLimit}
 use Rattle.rules.specs.Operation.{Operation, notNode, refused}
 use Rattle.rules.specs.Step.{step}
-use Rattle.rules.specs.Valid.{nodeTests, isNode}
-use Rattle.rules.specs.Memory.{queuedAt, freeCountAt, queueAt, queueStride, freeAt, heldOffset, describedOffset, descriptorOffset, listOffset, size}
-use Rattle.rules.specs.Memory.{nodeAt, word, wordsAt, groupAddress}
-use Rattle.rules.specs.MemoryTest.{zeroAt, countsInBounds, flagsAreFlags, queueUnused, freeUnused, groupUnused, messageUnused, unusedAreZero, memoryTests, isMemory, replaced, stepMemory, emptyPart, runnerPart, headPart, headWords}
+use Rattle.rules.specs.Node.{Node}
+use Rattle.rules.specs.Valid.{frameNumbers, frameOrder, standsOnce, nodeTests, isNode}
+use Rattle.rules.specs.Memory.{runningAt, timerAt, queuedAt, freeCountAt, queueAt, queueStride, freeAt, groupsAt, heldOffset, describedOffset, descriptorOffset, listOffset, swapCountAt, enteredCountAt, outAt, broughtAt, swapAt, enteredAt, size}
+use Rattle.rules.specs.Memory.{word, wordsAt, groupAddress, messagesAt, frameAt, groupsFrom, pagingFrom, nodeAt}
+use Rattle.rules.specs.MemoryTest.{zeroAt, countsInBounds, flagsAreFlags, queueUnused, freeUnused, swapUnused, enteredUnused, groupUnused, messageUnused, unusedAreZero, memoryTests, isMemory, replaced, stepMemory, emptyPart, runnerPart, headPart, headWords, pageCounts}
 
 -- a test that always passes
 abbrev pub always : {A : Type 0} → A → Bool
@@ -35,11 +36,6 @@ fails (t ∷ ts) x (suc i) e = go (t x) refl (fails ts x i e)
 pub words-fail : (m : List ℕ) (i : ℕ) → getD memoryTests i always m ≡ false → isMemory m ≡ false
 unfolding isMemory
 words-fail m i e = fails memoryTests m i e
-
--- or the i-th clause on the node that they hold
-pub node-fails : (m : List ℕ) (i : ℕ) → getD (nodeTests paper01) i always (nodeAt m) ≡ false → isMemory m ≡ false
-unfolding isMemory memoryTests isNode
-node-fails m i e = fails memoryTests m 4 (fails (nodeTests paper01) (nodeAt m) i e)
 
 -- word by word
 abbrev pub same : List ℕ → List ℕ → Bool
@@ -72,6 +68,34 @@ unfolding wordsAt word
 words-at m a zero = refl
 words-at m a (suc k) = rw (add-one, pad-drop) (ap (λ (ws : List ℕ). getD m a 0 ∷ ws) (words-at m (suc a) k))
 
+-- the node that the words hold, each line of numbers read at one go
+abbrev pub nodeBy : List ℕ → Node
+nodeBy m =
+    record {
+      running = word m runningAt;
+      timer = word m timerAt;
+      queue = messagesAt m queueAt (word m queuedAt);
+      free = map (frameAt m) (pad (word m freeCountAt) (drop freeAt m));
+      paging =
+          record {
+            swap = map (frameAt m) (pad (word m swapCountAt) (drop swapAt m));
+            entered = pad (word m enteredCountAt) (drop enteredAt m);
+            out = word m outAt;
+            brought = word m broughtAt;
+          };
+      groups = groupsFrom m groupsAt groupCount;
+    }
+
+-- it is that node
+pub node-by : (m : List ℕ) → nodeAt m ≡ nodeBy m
+unfolding nodeAt pagingFrom
+node-by m = simp words-at
+
+-- memory is no node where the i-th clause on that node fails
+pub node-fails : (m : List ℕ) (i : ℕ) → getD (nodeTests paper01) i always (nodeBy m) ≡ false → isMemory m ≡ false
+unfolding isMemory memoryTests isNode
+node-fails m i e = fails memoryTests m 4 (rw (node-by m) (fails (nodeTests paper01) (nodeBy m) i e))
+
 -- the unused words, each stretch of them read at one go
 abbrev pub zeros : List ℕ → ℕ → ℕ → Bool
 zeros m a k = all (eqb 0) (pad k (drop a m))
@@ -82,7 +106,7 @@ groupZeros m g =
     let a = groupAddress g in
     let held = word m (a + heldOffset) in
     let described = word m (a + describedOffset) in
-    zeros m (a + listOffset + held) (paper01 .frames - held) && zeros m (a + descriptorOffset + described) (wordLimit - described)
+    zeros m (a + listOffset + held) (pageCount paper01 - held) && zeros m (a + descriptorOffset + described) (wordLimit - described)
 
 -- those of one message in the queue
 abbrev pub messageZeros : List ℕ → ℕ → Bool
@@ -95,7 +119,9 @@ abbrev pub unusedZeros : List ℕ → Bool
 unusedZeros m =
     zeros m (queueAt + queueStride * word m queuedAt) (queueStride * (paper01 .places - word m queuedAt))
     && (zeros m (freeAt + word m freeCountAt) (paper01 .frames - word m freeCountAt)
-    && (all (groupZeros m) (upFrom 1 groupCount) && all (messageZeros m) (upFrom 0 (word m queuedAt))))
+    && (zeros m (swapAt + word m swapCountAt) (paper01 .swap - word m swapCountAt)
+    && (zeros m (enteredAt + word m enteredCountAt) (paper01 .frames - word m enteredCountAt)
+    && (all (groupZeros m) (upFrom 1 groupCount) && all (messageZeros m) (upFrom 0 (word m queuedAt))))))
 
 -- two tests that agree on each number agree on a list of them
 pub all-same : (f g : ℕ → Bool) → ((i : ℕ) → f i ≡ g i) → (xs : List ℕ) → all f xs ≡ all g xs
@@ -109,7 +135,7 @@ message-zeros m i = simp words-at
 
 -- and of all
 pub unused-zeros : (m : List ℕ) → unusedAreZero m ≡ unusedZeros m
-unfolding zeroAt queueUnused freeUnused groupUnused unusedAreZero
+unfolding zeroAt queueUnused freeUnused swapUnused enteredUnused groupUnused unusedAreZero
 unused-zeros m = simp (words-at, all-same (messageUnused m) (messageZeros m) (message-zeros m))
 
 -- memory is no node where an unused word is not 0
@@ -122,42 +148,79 @@ pub pass : {A : Type 0} (ts : List (A → Bool)) (x : A) → Every (λ t. t x �
 pass [] x u = refl
 pass (t ∷ ts) x u = rw (u .0) (pass ts x (u .1))
 
--- a memory that passes each test is a node
-pub is-node : (m : List ℕ)
+-- the list without its i-th element
+abbrev pub lacking : {A : Type 0} → ℕ → List A → List A
+lacking i xs = take i xs ++ drop (suc i) xs
+
+-- all tests pass where the i-th does and the others do
+pub pass-at : {A : Type 0} (ts : List (A → Bool)) (x : A) (i : ℕ)
+    → getD ts i always x ≡ true
+    → passes (lacking i ts) x ≡ true
+    → passes ts x ≡ true
+pass-at [] x i e r = refl
+pass-at (t ∷ ts) x zero e r = rw e r
+pass-at (t ∷ ts) x (suc i) e r = go (t x) refl (pass-at ts x i e)
+  where
+    go : (b : Bool) → t x ≡ b → (passes (lacking i ts) x ≡ true → passes ts x ≡ true) → passes (t ∷ ts) x ≡ true
+    go true q f = rw q (f (rw (q, passes) at r))
+    go false q f = absurd (false≢true (rw (q, passes) at r))
+
+-- the tests of a node but for those that "each frame stands once", and once in the free line or the order of entry
+abbrev pub otherTests : List (Node → Bool)
+otherTests = lacking 10 (lacking 8 (nodeTests paper01))
+
+-- each of the numbers below k stands once in the list
+abbrev pub allOnce : ℕ → List ℕ → Bool
+allOnce k fs = all (standsOnce fs) (upFrom 0 k)
+
+-- a memory that passes each test is a node; ps are the numbers of its pages and es those of its frames, read once and not for each page again
+pub is-node : (m ps es : List ℕ)
     → leb size (length m) ≡ true
     → countsInBounds m ≡ true
     → flagsAreFlags m ≡ true
     → unusedZeros m ≡ true
-    → isNode paper01 (nodeAt m) ≡ true
+    → same (frameNumbers (nodeBy m)) ps ≡ true
+    → allOnce (pageCount paper01) ps ≡ true
+    → same (frameOrder (nodeBy m)) es ≡ true
+    → allOnce (paper01 .frames) es ≡ true
+    → passes otherTests (nodeBy m) ≡ true
     → isMemory m ≡ true
-unfolding isMemory memoryTests
-is-node m long counts flags unused holds = pass memoryTests m (long, (counts, (flags, (unused-zeros m ∙ unused, (holds, tt)))))
+unfolding isMemory memoryTests isNode nodeTests
+is-node m ps es long counts flags unused pages once frames ordered others =
+    pass memoryTests m (long, (counts, (flags, (unused-zeros m ∙ unused, (rw (node-by m) holds, tt)))))
+  where
+    stand : allOnce (pageCount paper01) (frameNumbers (nodeBy m)) ≡ true
+    stand = rw (same-words (frameNumbers (nodeBy m)) ps pages) once
+    order : allOnce (paper01 .frames) (frameOrder (nodeBy m)) ≡ true
+    order = rw (same-words (frameOrder (nodeBy m)) es frames) ordered
+    holds : isNode paper01 (nodeBy m) ≡ true
+    holds = pass-at (nodeTests paper01) (nodeBy m) 8 stand (pass-at (lacking 8 (nodeTests paper01)) (nodeBy m) 10 order others)
 
 -- a step on memory that is a node, and on one that is none
-pub step-report : (m : List ℕ) (op : Operation) → isMemory m ≡ true → stepMemory m op .report ≡ step paper01 (nodeAt m) op .report
+pub step-report : (m : List ℕ) (op : Operation) → isMemory m ≡ true → stepMemory m op .report ≡ step paper01 (nodeBy m) op .report
 unfolding stepMemory
-step-report m op e = rw (e, stepMemory)
+step-report m op e = rw (e, stepMemory, node-by m)
 
 -- the k words that it leaves from address a on
 pub step-writes : (m : List ℕ) (op : Operation) (a k : ℕ) (ws : List ℕ)
     → isMemory m ≡ true
-    → same (take k (drop a (replaced (step paper01 (nodeAt m) op .node) m))) ws ≡ true
+    → same (take k (drop a (replaced (step paper01 (nodeBy m) op .node) m))) ws ≡ true
     → take k (drop a (stepMemory m op .memory)) ≡ ws
 unfolding stepMemory
-step-writes m op a k ws e r = rw (e, stepMemory) (same-words _ _ r)
+step-writes m op a k ws e r = rw (e, stepMemory, node-by m) (same-words _ _ r)
 
 pub step-refused : (m : List ℕ) (op : Operation) → isMemory m ≡ false → stepMemory m op ≡ record { report = refused notNode; memory = m }
 unfolding stepMemory
 step-refused m op e = rw (e, stepMemory)
 
 -- the head message's part, of both
-pub head-of : (m : List ℕ) → isMemory m ≡ true → headPart m ≡ runnerPart m (nodeAt m)
+pub head-of : (m : List ℕ) → isMemory m ≡ true → headPart m ≡ runnerPart m (nodeBy m)
 unfolding headPart
-head-of m e = rw (e, headPart)
+head-of m e = rw (e, headPart, node-by m)
 
 pub head-reads : (m ws : List ℕ)
     → isMemory m ≡ true
-    → same (take (runnerPart m (nodeAt m) .len) (drop (runnerPart m (nodeAt m) .start) m)) ws ≡ true
+    → same (take (runnerPart m (nodeBy m) .len) (drop (runnerPart m (nodeBy m) .start) m)) ws ≡ true
     → headWords m ≡ ws
 unfolding headWords
 head-reads m ws e r = rw (head-of m e) (same-words _ _ r)
@@ -165,3 +228,12 @@ head-reads m ws e r = rw (head-of m e) (same-words _ _ r)
 pub head-none : (m : List ℕ) → isMemory m ≡ false → headPart m ≡ emptyPart
 unfolding headPart
 head-none m e = rw (e, headPart)
+
+-- the counts of pages, of both
+pub counts-of : (m : List ℕ) → isMemory m ≡ true → pageCounts m ≡ record { out = word m outAt; brought = word m broughtAt }
+unfolding pageCounts
+counts-of m e = rw (e, pageCounts)
+
+pub counts-none : (m : List ℕ) → isMemory m ≡ false → pageCounts m ≡ record { out = 0; brought = 0 }
+unfolding pageCounts
+counts-none m e = rw (e, pageCounts)

@@ -18,59 +18,17 @@ use Rattle.rules.specs.Paging.{framesFrom, framesOf, placesOf}
 use Rattle.rules.specs.Memory.{allFrames, framePlaces, frameAt, frameWords, placeWords, frameAddress, frameStride, placeStride}
 use Rattle.rules.proofs.Steps.EveryLaws.{every-of, every-at, every-mono, every-append, every-concat, every-unmap}
 use Rattle.rules.proofs.Steps.ListLaws.{length-parts, once-bounded}
+use Rattle.rules.proofs.Steps.PageLaws.{numbers-groups, places-here, places-there, found, good-from}
 use Rattle.rules.specs.Sound.{WholeGroup, Mapped}
 use Rattle.rules.proofs.Map.MapWords.{length-records}
 use Rattle.rules.proofs.Map.MapParts.{places, length-place}
 
--- The numbers of frames.
-
--- of the frames of a buffer: its list
-pub numbers-from : (fs : List ℕ) (ps : List Place) → map frameNumber (framesFrom paper01 fs ps) ≡ fs
-unfolding framesFrom frameNumber
-numbers-from [] ps = refl
-numbers-from (f ∷ fs) ps = ap (λ (r : List ℕ). f ∷ r) (numbers-from fs (drop (paper01 .perFrame) ps))
-
--- of the frames of all groups: their lists
-numbers-groups : (Gs : List Group) → map frameNumber (concatMap (framesOf paper01) Gs) ≡ concatMap frameList Gs
-unfolding framesOf frameList
-numbers-groups [] = refl
-numbers-groups (G ∷ Gs) =
-    let r = numbers-groups Gs in
-    let e = numbers-from (G .buffer .frames) (G .buffer .places) in
-    map-append frameNumber (framesOf paper01 G) (concatMap (framesOf paper01) Gs) ∙ cc (e, r)
-
--- of all frames
+-- the numbers of all frames
 pub all-numbers : (n : Node) → map frameNumber (allFrames n) ≡ frameNumbers n
 unfolding allFrames frameNumbers
-all-numbers n = map-append frameNumber (idle n) (concatMap (framesOf paper01) (n .groups)) ∙ cc (numbers-groups (n .groups))
+all-numbers n = map-append frameNumber (idle n) (concatMap (framesOf paper01) (n .groups)) ∙ cc (numbers-groups paper01 (n .groups))
 
 -- A frame is found by its number.
-
--- the first frame is taken where its number fits
-places-here : (f : ℕ) (x : Frame) (xs : List Frame) → x .number ≡ f → placesOf f (x ∷ xs) ≡ x .places
-unfolding placesOf
-places-here f x xs e = rw (eq-eqb (x .number) f e, placesOf)
-
--- and is passed where it does not
-places-there : (f : ℕ) (x : Frame) (xs : List Frame) → eqb (x .number) f ≡ false → placesOf f (x ∷ xs) ≡ placesOf f xs
-unfolding placesOf
-places-there f x xs e = rw (e, placesOf)
-
--- a number that stands among frames' is that of a frame, whose places are found
-pub found : (P : Frame → Type 0) (f : ℕ) (xs : List Frame) → 1 ≤ countOf f (map frameNumber xs) → Every P xs
-    → (x : Frame) × ((x .number ≡ f) × ((placesOf f xs ≡ x .places) × P x))
-unfolding frameNumber
-found P f [] h e = absurd (omega arith)
-found P f (x ∷ xs) h e = go (eqb (x .number) f) refl (found P f xs)
-  where
-    go : (b : Bool) → eqb (x .number) f ≡ b
-        → (1 ≤ countOf f (map frameNumber xs) → Every P xs → (y : Frame) × ((y .number ≡ f) × ((placesOf f xs ≡ y .places) × P y)))
-        → (y : Frame) × ((y .number ≡ f) × ((placesOf f (x ∷ xs) ≡ y .places) × P y))
-    go true q r = let same = eqb-true (x .number) f q in (x, (same, (places-here f x xs same, e .0)))
-    go false q r =
-        let k = rw q at h in
-        let t = r (omega arith) (e .1) in
-        (t .0, (t .1 .0, (places-there f x xs q ∙ t .1 .1 .0, t .1 .1 .1)))
 
 -- a frame's number stands among the frames'
 counted : {x : Frame} {xs : List Frame} → List·Memᴰ x xs → 1 ≤ countOf (x .number) (map frameNumber xs)
@@ -91,15 +49,6 @@ found-once {x} (List·Memᴰ·tail {x = y} {xs = ys} k) h = go (eqb (y .number) 
     go false q r = let l = rw q at h in places-there (x .number) y ys q ∙ r (omega arith)
 
 -- The frames of a buffer.
-
--- a buffer's frames are whole, and its places good, where there are places for each frame
-pub good-from : (fs : List ℕ) (ps : List Place) → length ps ≡ length fs * paper01 .perFrame → Every GoodPlace ps → Every (GoodFrame paper01) (framesFrom paper01 fs ps)
-unfolding framesFrom
-good-from [] ps h e = tt
-good-from (f ∷ fs) ps h e =
-    let both = every-append GoodPlace (take 8 ps) (drop 8 ps) .0 (rw (take-append-drop 8 ps) e) in
-    let fits : 8 ≤ length ps = omega arith in
-    (record { whole = length-take-le 8 ps fits; places = both .0 }, good-from fs (drop 8 ps) (rw length-drop (omega arith)) (both .1))
 
 -- a buffer's places are those of its frames, one frame's after the other's
 pub places-from : (g : ℕ → List Place) (fs : List ℕ) (ps : List Place) → length ps ≡ length fs * paper01 .perFrame
@@ -154,7 +103,7 @@ module _ (n : Node) (v : Mapped n) where
       (idle-good, every-concat (GoodFrame paper01) (framesOf paper01) (n .groups) .1 (every-mono WholeGroup _ group-good (n .groups) (v .groups-whole)))
     where
       group-good : (G : Group) → WholeGroup G → Every (GoodFrame paper01) (framesOf paper01 G)
-      group-good G g = good-from (G .buffer .frames) (G .buffer .places) (g .whole) (g .places)
+      group-good G g = good-from paper01 (G .buffer .frames) (G .buffer .places) (g .whole) (g .places)
 
   -- their numbers are below 96
   pub numbers-bounded : Every (λ x. x .number < pageCount paper01) (allFrames n)

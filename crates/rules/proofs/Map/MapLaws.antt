@@ -22,7 +22,8 @@ use Rattle.rules.proofs.Steps.ListLaws.{length-parts}
 use Rattle.rules.proofs.Steps.SoundLaws.{valid-mapped}
 use Rattle.rules.proofs.Map.MapWords.{Stands, pad-stands, parts-stand, length-wordsAt, stands-wordsAt, front-stands, stands-front, records-stand, length-records, every-record}
 use Rattle.rules.proofs.Map.MapParts.{messages, places, groups, length-message, length-place, length-group, message-at-stands, good-place-at, place-at-stands, group-at-stands, MessageFits, GroupFits}
-use Rattle.rules.proofs.Map.MapFrames.{all-numbers, found, length-frame, from-places, numbers-at, places-at}
+use Rattle.rules.proofs.Steps.PageLaws.{found}
+use Rattle.rules.proofs.Map.MapFrames.{all-numbers, length-frame, from-places, numbers-at, places-at}
 use Rattle.rules.proofs.Map.MapPaging.{paging-from-stands}
 use Rattle.rules.proofs.Map.MapTest.{Fits, memory-fits}
 use Rattle.rules.proofs.Map.MapRead.{MapStands, map-stands, words-length, read}

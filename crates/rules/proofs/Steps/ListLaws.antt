@@ -163,6 +163,12 @@ pub length-upFrom : (a n : ℕ) → length (upFrom a n) ≡ n
 length-upFrom a zero = refl
 length-upFrom a (suc n) = ap suc (length-upFrom (suc a) n)
 
+-- two ranges side by side are one
+pub upFrom-append : (a n k : ℕ) → upFrom a (n + k) ≡ upFrom a n ++ upFrom (a + n) k
+upFrom-append a zero k = simp (zero-add, add-zero)
+upFrom-append a (suc n) k =
+    rw suc-add (ap (λ (r : List ℕ). a ∷ r) (upFrom-append (suc a) n k ∙ ap (λ (c : ℕ). upFrom (suc a) n ++ upFrom c k) (omega arith)))
+
 -- sums over one range, compared term by term
 pub sum-le : (f g : ℕ → ℕ) (a n : ℕ) → ((i : ℕ) → a ≤ i → i < a + n → f i ≤ g i) → sum (map f (upFrom a n)) ≤ sum (map g (upFrom a n))
 sum-le f g a zero h = omega arith

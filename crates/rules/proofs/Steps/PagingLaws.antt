@@ -48,8 +48,18 @@ pub record Repaged (n′ n : Node) : Type 0 where
 pub pages-refl : {G : Group} → SamePages G G
 pages-refl = record { flags = record { atomic = refl; pending = refl; descriptor = refl }; used = refl; count = refl; places = refl }
 
+-- so their waiting messages are the same
+pub pages-waiting : {G H : Group} → SamePages G H → waiting (G .buffer) ≡ waiting (H .buffer)
+unfolding waiting
+pages-waiting e = rw (e .used, e .count, e .places)
+
 pub repaged-refl : {n : Node} → Repaged n n
 repaged-refl = record { running = refl; timer = refl; queue = refl; groups = λ g. pages-refl }
+
+-- whatever queue both have
+pub queued-repaged : {n′ n : Node} (q : List Message) → Repaged n′ n → Repaged (withQueue q n′) (withQueue q n)
+unfolding withQueue groupOf
+queued-repaged q r = record { running = r .running; timer = r .timer; queue = refl; groups = r .groups }
 
 -- trading two numbers changes the lists of pages and nothing else
 pub traded-group : (p q : ℕ) (n : Node) (g : ℕ) → groupOf (trading p q n) g ≡ tradedIn p q (groupOf n g)
@@ -547,6 +557,16 @@ module _ {b : Build} {n : Node} (s : Sound b n) where
   first-listed g low high p ps e =
       let first : getD (groupOf n g .buffer .frames) 0 0 ≡ p = ap (λ (l : List ℕ). getD l 0 0) e in
       subst (λ (k : ℕ). Listed k n) first (listed-at g low high 0 (omega (arith, ap length e)))
+
+  -- where it is in a frame, it stands once in the order of entry
+  pub first-entered : (g : ℕ) → 1 ≤ g → g ≤ groupCount → 1 ≤ length (groupOf n g .buffer .frames) → FirstInFrame b (groupOf n g .buffer .frames)
+      → countOf (getD (groupOf n g .buffer .frames) 0 0) (n .paging .entered) ≡ 1
+  first-entered g low high some here = go (groupOf n g .buffer .frames) refl some here
+    where
+      go : (ps : List ℕ) → groupOf n g .buffer .frames ≡ ps → 1 ≤ length ps → FirstInFrame b ps → countOf (getD ps 0 0) (n .paging .entered) ≡ 1
+      go [] e some here = absurd (omega arith)
+      go (p ∷ ps) e some here =
+          omega (arith, s .entered-once p here, ordered s p, listed-once s p (first-listed g low high p ps e) .0)
 
   -- of a list with a page in swap brought in, the page is in a frame
   bring-first : (g : ℕ) (p : ℕ) (ps : List ℕ) → b .frames ≤ p → groupOf n g .buffer .frames ≡ p ∷ ps

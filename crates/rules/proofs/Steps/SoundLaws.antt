@@ -16,7 +16,7 @@ use Rattle.rules.proofs.Steps.ListLaws.{below-once, below-length, below
 -- paper 01's build makes sense
 pub paper-sensible : Sensible paper01
 paper-sensible =
-    record { frames = omega arith; swap = omega arith; perFrame = omega arith; places = omega arith; timeout = omega arith }
+    record { frames = omega arith; perFrame = omega arith; places = omega arith; timeout = omega arith }
 
 -- "pending only with [...] a line not empty"
 abbrev pub PendingLines : Node → Type 0

@@ -1,7 +1,7 @@
 -- "Who can cause a refusal": for each answer 2 to 15 the last that is accepted and the first that is refused, and which comes first.
 -- Answer 1 is in MemoryCases. Assumes nothing.
 use mathlib.Core.List.{[], _∷_, _++_}
-use Rattle.rules.specs.Cases.Case.{_gives_, times, Lists}
+use Rattle.rules.specs.Cases.Case.{_gives_, times, Lists, crowded, ListsFrom}
 
 -- the cases of each answer, in the paper's order
 pub record AnswerCasesHold : Type 0 where
@@ -51,71 +51,66 @@ pub record AnswerCasesHold : Type 0 where
       ∷ "A,1,7\n" gives "21,0,0,0,0,0\n"
       ∷ []))
   -- "The network, on A, in this order": 3 before 4, 5 and 6, 4 before 5 and 6, 5 before 6
-  pub arrival-order : Lists
+  pub arrival-order : ListsFrom (crowded 94)
       ("A,0\n" gives "1,3,0,0,0,0\n"
       ∷ "A,9,1,2,3,4,5,6,7,8,9\n" gives "2,3,0,0,0,0\n"
-      ∷ times 240 3 "A,2,7\n" ",0,0,0,0,1\n"
-      ++ ("S,1\n" gives "243,0,0,0,0,0\n"
-      ∷ "B\n" gives "244,0,0,0,0,0\n"
-      ∷ times 16 245 "A,1,7\n" ",0,0,0,0,0\n"
-      ++ ("A,9,7\n" gives "261,3,0,0,0,0\n"
-      ∷ "A,3\n" gives "262,4,0,0,0,0\n"
-      ∷ "A,3,7\n" gives "263,5,0,0,0,0\n"
-      ∷ "S,0\n" gives "264,0,0,0,0,16\n"
-      ∷ "A,9,7\n" gives "265,3,0,0,0,0\n"
-      ∷ "A,3\n" gives "266,4,0,0,0,0\n"
-      ∷ "A,3,7\n" gives "267,6,0,0,0,0\n"
+      ∷ "S,1\n" gives "3,0,0,0,0,0\n"
+      ∷ "B\n" gives "4,0,0,0,0,0\n"
+      ∷ times 16 5 "A,1,7\n" ",0,0,0,0,0\n"
+      ++ ("A,9,7\n" gives "21,3,0,0,0,0\n"
+      ∷ "A,3\n" gives "22,4,0,0,0,0\n"
+      ∷ "A,3,7\n" gives "23,5,0,0,0,0\n"
+      ∷ "S,0\n" gives "24,0,0,0,0,16\n"
+      ∷ "A,9,7\n" gives "25,3,0,0,0,0\n"
+      ∷ "A,3\n" gives "26,4,0,0,0,0\n"
+      ∷ "A,3,7\n" gives "27,6,0,0,0,0\n"
+      ∷ []))
+  -- "6: with this message the pledges would sum to above 32.", now 96: each pledge is rounded up by itself, that of group 1 as that of group 8
+  pub frames-rounded : ListsFrom (crowded 89)
+      ("A,1,7\n" gives "1,0,0,0,0,1\n"
+      ∷ "A,3,7\n" gives "2,0,0,0,0,1\n"
+      ∷ "A,4,7\n" gives "3,0,0,0,0,1\n"
+      ∷ "A,5,7\n" gives "4,0,0,0,0,1\n"
+      ∷ "A,6,7\n" gives "5,0,0,0,0,1\n"
+      ∷ "A,7,7\n" gives "6,0,0,0,0,1\n"
+      ∷ "A,8,7\n" gives "7,0,0,0,0,1\n"
+      ∷ times 7 8 "A,1,7\n" ",0,0,0,0,1\n"
+      ++ (times 7 15 "A,8,7\n" ",0,0,0,0,1\n"
+      ++ ("A,1,7\n" gives "22,6,0,0,0,0\n"
+      ∷ "A,8,7\n" gives "23,6,0,0,0,0\n"
+      ∷ "A,2,7\n" gives "24,6,0,0,0,0\n"
+      ∷ "A,7,7\n" gives "25,0,0,0,0,1\n"
       ∷ [])))
-  -- "6: with this message the pledges would sum to above 32.": each pledge is rounded up by itself, that of group 1 as that of group 8
-  pub frames-rounded : Lists
-      (times 200 1 "A,2,7\n" ",0,0,0,0,1\n"
-      ++ ("A,1,7\n" gives "201,0,0,0,0,1\n"
-      ∷ "A,3,7\n" gives "202,0,0,0,0,1\n"
-      ∷ "A,4,7\n" gives "203,0,0,0,0,1\n"
-      ∷ "A,5,7\n" gives "204,0,0,0,0,1\n"
-      ∷ "A,6,7\n" gives "205,0,0,0,0,1\n"
-      ∷ "A,7,7\n" gives "206,0,0,0,0,1\n"
-      ∷ "A,8,7\n" gives "207,0,0,0,0,1\n"
-      ∷ times 7 208 "A,1,7\n" ",0,0,0,0,1\n"
-      ++ (times 7 215 "A,8,7\n" ",0,0,0,0,1\n"
-      ++ ("A,1,7\n" gives "222,6,0,0,0,0\n"
-      ∷ "A,8,7\n" gives "223,6,0,0,0,0\n"
-      ∷ "A,2,7\n" gives "224,6,0,0,0,0\n"
-      ∷ "A,7,7\n" gives "225,0,0,0,0,1\n"
+  -- "(h + n + k) / 8 rounded up": with 3 places used up of a group's one page, as many messages are accepted as its other places hold
+  pub frames-used-up : ListsFrom (crowded 95)
+      (times 5 1 "A,1,7\n" ",0,0,0,0,1\n"
+      ++ ("S,1\n" gives "6,0,0,0,1,0\n"
+      ∷ times 3 7 "D\n" ",0,0,1,0,0\n"
+      ++ (times 3 10 "A,1,7\n" ",0,0,0,0,1\n"
+      ++ ("A,1,7\n" gives "13,6,0,0,0,0\n"
+      ∷ "A,2,7\n" gives "14,6,0,0,0,0\n"
+      ∷ "D\n" gives "15,0,0,1,0,0\n"
+      ∷ "A,1,7\n" gives "16,6,0,0,0,0\n"
       ∷ []))))
-  -- "(h + n + k) / 8 rounded up": with 3 places used up of a group's one frame, as many messages are accepted as its other places hold
-  pub frames-used-up : Lists
-      (times 248 1 "A,2,7\n" ",0,0,0,0,1\n"
-      ++ (times 5 249 "A,1,7\n" ",0,0,0,0,1\n"
-      ++ ("S,1\n" gives "254,0,0,0,1,0\n"
-      ∷ times 3 255 "D\n" ",0,0,1,0,0\n"
-      ++ (times 3 258 "A,1,7\n" ",0,0,0,0,1\n"
-      ++ ("A,1,7\n" gives "261,6,0,0,0,0\n"
-      ∷ "A,2,7\n" gives "262,6,0,0,0,0\n"
-      ∷ "D\n" gives "263,0,0,1,0,0\n"
-      ∷ "A,1,7\n" gives "264,6,0,0,0,0\n"
-      ∷ [])))))
-  -- with 7 places used up and one message: the next needs a second frame, which is there once and then not
-  pub frames-last-place : Lists
-      (times 240 1 "A,2,7\n" ",0,0,0,0,1\n"
-      ++ (times 8 241 "A,1,7\n" ",0,0,0,0,1\n"
-      ++ ("S,1\n" gives "249,0,0,0,1,0\n"
-      ∷ times 7 250 "D\n" ",0,0,1,0,0\n"
-      ++ (times 8 257 "A,1,7\n" ",0,0,0,0,1\n"
-      ++ ("A,1,7\n" gives "265,6,0,0,0,0\n"
-      ∷ "A,3,7\n" gives "266,6,0,0,0,0\n"
-      ∷ [])))))
-  -- k is counted with h and n: seven buffered and one queued fill one frame, with a second queued they are pledged two
-  pub frames-queued : Lists
-      (times 240 1 "A,3,7\n" ",0,0,0,0,1\n"
-      ++ (times 7 241 "A,2,7\n" ",0,0,0,0,1\n"
-      ++ ("S,1\n" gives "248,0,0,0,0,0\n"
-      ∷ "A,1,7\n" gives "249,0,0,0,1,0\n"
-      ∷ "A,2,7\n" gives "250,0,0,0,0,0\n"
-      ∷ "A,2,7\n" gives "251,6,0,0,0,0\n"
-      ∷ "A,1,7\n" gives "252,0,0,0,0,0\n"
-      ∷ "A,3,7\n" gives "253,6,0,0,0,0\n"
-      ∷ [])))
+  -- with 7 places used up and one message: the next needs a second page, which is there once and then not
+  pub frames-last-place : ListsFrom (crowded 94)
+      (times 8 1 "A,1,7\n" ",0,0,0,0,1\n"
+      ++ ("S,1\n" gives "9,0,0,0,1,0\n"
+      ∷ times 7 10 "D\n" ",0,0,1,0,0\n"
+      ++ (times 8 17 "A,1,7\n" ",0,0,0,0,1\n"
+      ++ ("A,1,7\n" gives "25,6,0,0,0,0\n"
+      ∷ "A,3,7\n" gives "26,6,0,0,0,0\n"
+      ∷ []))))
+  -- k is counted with h and n: seven buffered and one queued fill one page, with a second queued they are pledged two
+  pub frames-queued : ListsFrom (crowded 94)
+      (times 7 1 "A,3,7\n" ",0,0,0,0,1\n"
+      ++ ("S,1\n" gives "8,0,0,0,0,0\n"
+      ∷ "A,1,7\n" gives "9,0,0,0,1,0\n"
+      ∷ "A,3,7\n" gives "10,0,0,0,0,0\n"
+      ∷ "A,3,7\n" gives "11,6,0,0,0,0\n"
+      ∷ "A,1,7\n" gives "12,0,0,0,0,0\n"
+      ∷ "A,2,7\n" gives "13,6,0,0,0,0\n"
+      ∷ []))
   -- "7: nobody runs; before all others here.": before 8, 12 and 13, and again after S,0, with mail for group 1
   pub nobody-runs : Lists
       ("M\n" gives "1,7,0,0,0,0\n"

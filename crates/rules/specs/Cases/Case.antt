@@ -1,15 +1,19 @@
--- How a case is written: a script with its listing, line beside line, or a script with the words that stand in memory after it. Assumes nothing.
-use Prim.Native.Nat.{ℕ, zero, suc}
+-- How a case is written: a script with its listing, line beside line, or a script with the words that stand in memory after it; from power-on,
+-- or from a node that is full of pages, which saves hundreds of arrivals. Assumes nothing.
+use Prim.Native.Nat.{ℕ, zero, suc, _+_, _-_, _*_}
 use Prim.Native.String.{String}
 use mathlib.Core.Path.{_≡_}
+use mathlib.Core.Bool.{Bool, true, false}
 use mathlib.Core.List.{List, [], _∷_, _++_, map}
-use lib.ListN.{length, take, drop}
-use Rattle.rules.specs.Lists.{concatMap}
+use lib.Dec.{eqb}
+use lib.ListN.{length, take, drop, replicate}
+use Rattle.rules.specs.Lists.{concatMap, upFrom, pad}
 use Rattle.rules.specs.Build.{paper01}
+use Rattle.rules.specs.Node.{Place, Node, emptyFrame, emptyGroup, withBuffer}
 use Rattle.rules.specs.Memory.{words}
 use Rattle.rules.specs.Text.{bytes, decimal}
-use Rattle.rules.specs.Script.{scriptLines, listing}
-use Rattle.rules.specs.Run.{scriptLine, run}
+use Rattle.rules.specs.Script.{scriptLines, listFrom, listing}
+use Rattle.rules.specs.Run.{scriptLine, play, run}
 
 -- a line of a script, and the line that its listing has for it: their bytes, the newlines too
 pub record Line : Type 0 where
@@ -43,3 +47,59 @@ memoryAfter s = words (run paper01 (map scriptLine (scriptLines s)) .node)
 -- these words stand there from address a on
 abbrev pub Stands : List ℕ → ℕ → List ℕ → Type 0
 Stands s a ws = take (length ws) (drop a (memoryAfter s)) ≡ ws
+
+-- a stretch of memory: the address where it begins, and its words
+pub record Stretch : Type 0 where
+  pub start : ℕ
+  pub held : List ℕ
+
+infix 70 _holds_
+abbrev pub _holds_ : ℕ → List ℕ → Stretch
+a holds ws = record { start = a; held = ws }
+
+-- the memory begins with these words, and what is behind them passes the test
+abbrev pub begins : List ℕ → (List ℕ → Bool) → List ℕ → Bool
+begins [] t m = t m
+begins (w ∷ ws) t [] = false
+begins (w ∷ ws) t (x ∷ m) = elim (eqb w x) [ true ↦ begins ws t m | false ↦ false ]
+
+-- each stretch stands in the memory, whose words are those from address a on; the stretches come in the order of their addresses, so that
+-- the memory is walked once
+abbrev pub allStand : ℕ → List Stretch → List ℕ → Bool
+allStand a [] m = true
+allStand a (p ∷ ps) m = begins (p .held) (allStand (p .start + length (p .held)) ps) (drop (p .start - a) m)
+
+-- after a script
+abbrev pub Leaves : List ℕ → List Stretch → Type 0
+Leaves s ps = allStand 0 ps (memoryAfter s) ≡ true
+
+-- a place with a message of one word
+abbrev pub oneWord : ℕ → Place
+oneWord w = record { len = 1; words = pad 8 (w ∷ []) }
+
+-- nobody runs, and group 2 has k pages, 32 to 96, full of messages of the word 7: the last 32 pages are in the frames 0 to 31, the others were
+-- sent out to the first swap pages. After 256, 512 and 768 times A,2,7 the node is this
+abbrev pub crowded : ℕ → Node
+crowded k =
+    record {
+      running = 0;
+      timer = 0;
+      queue = [];
+      free = [];
+      paging =
+          record { swap = map (emptyFrame paper01) (upFrom k (96 - k)); entered = upFrom 0 32; out = k - 32; brought = 0 };
+      groups =
+          emptyGroup
+          ∷ withBuffer
+          (record { used = 0; count = 8 * k; frames = upFrom 32 (k - 32) ++ upFrom 0 32; places = replicate (8 * k) (oneWord 7) })
+          emptyGroup
+          ∷ replicate 6 emptyGroup;
+    }
+
+-- the lines played from this node on have these reports
+abbrev pub ListsFrom : Node → List Line → Type 0
+ListsFrom n ls = listFrom paper01 1 n (scriptLines (concatMap (λ l. l .asked) ls)) ≡ concatMap (λ l. l .listed) ls
+
+-- and leave these stretches
+abbrev pub LeavesFrom : Node → List ℕ → List Stretch → Type 0
+LeavesFrom n s ps = allStand 0 ps (words (play paper01 n (map scriptLine (scriptLines s)) .node)) ≡ true

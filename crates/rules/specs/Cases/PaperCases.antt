@@ -1,7 +1,7 @@
 -- "Edges of queue, frame and timer": the paper's K cases, the other cases of that section and one for each misreading, as scripts with
 -- their listings. Assumes nothing.
 use mathlib.Core.List.{[], _∷_, _++_}
-use Rattle.rules.specs.Cases.Case.{_gives_, times, Lists}
+use Rattle.rules.specs.Cases.Case.{_gives_, times, Lists, crowded, ListsFrom}
 
 -- "The K cases are proved from the definitions as one collected table"
 pub record CasesHold : Type 0 where
@@ -74,15 +74,16 @@ pub record CasesHold : Type 0 where
       ∷ "S,1\n" gives "2,0,0,0,0,0\n"
       ∷ "D\n" gives "3,8,0,0,0,0\n"
       ∷ [])
-  -- "Nobody runs: 256 times A,1,7 accepted, moved 1 each; the next: 6. S,1 D A,1,7: 6 again. After eight D in all: accepted, moved 1."
+  -- "Nobody runs: 256 times A,1,7 accepted, moved 1 each; the next: 6. S,1 D A,1,7: 6 again. After eight D in all: accepted, moved 1.", and
+  -- "01's 256 arrivals become 768"
   pub full-frames : Lists
-      (times 256 1 "A,1,7\n" ",0,0,0,0,1\n"
-      ++ ("A,1,7\n" gives "257,6,0,0,0,0\n"
-      ∷ "S,1\n" gives "258,0,0,0,1,0\n"
-      ∷ "D\n" gives "259,0,0,1,0,0\n"
-      ∷ "A,1,7\n" gives "260,6,0,0,0,0\n"
-      ∷ times 7 261 "D\n" ",0,0,1,0,0\n"
-      ++ ("A,1,7\n" gives "268,0,0,0,0,1\n"
+      (times 768 1 "A,1,7\n" ",0,0,0,0,1\n"
+      ++ ("A,1,7\n" gives "769,6,0,0,0,0\n"
+      ∷ "S,1\n" gives "770,0,0,0,1,0\n"
+      ∷ "D\n" gives "771,0,0,1,0,0\n"
+      ∷ "A,1,7\n" gives "772,6,0,0,0,0\n"
+      ∷ times 7 773 "D\n" ",0,0,1,0,0\n"
+      ++ ("A,1,7\n" gives "780,0,0,0,0,1\n"
       ∷ [])))
   -- "S,8 accepted, S,9: 14. T,65536: 15."
   pub limits : Lists
@@ -121,12 +122,11 @@ pub record CasesHold : Type 0 where
       ∷ "N\n" gives "7,0,0,0,1,0\n"
       ∷ "T,1\n" gives "8,0,0,3,0,1\n"
       ∷ [])
-  -- "Counting frames only for what is buffered already: a later drain finds none.": one queued message takes the last frame's pledge
-  pub queued-pledged : Lists
-      (times 248 1 "A,2,7\n" ",0,0,0,0,1\n"
-      ++ ("S,1\n" gives "249,0,0,0,0,0\n"
-      ∷ "B\n" gives "250,0,0,0,0,0\n"
-      ∷ "A,1,7\n" gives "251,0,0,0,0,0\n"
-      ∷ "A,3,7\n" gives "252,6,0,0,0,0\n"
-      ∷ "S,0\n" gives "253,0,0,0,0,1\n"
-      ∷ []))
+  -- "Counting frames only for what is buffered already: a later drain finds none.": one queued message takes the last page's pledge
+  pub queued-pledged : ListsFrom (crowded 95)
+      ("S,1\n" gives "1,0,0,0,0,0\n"
+      ∷ "B\n" gives "2,0,0,0,0,0\n"
+      ∷ "A,1,7\n" gives "3,0,0,0,0,0\n"
+      ∷ "A,3,7\n" gives "4,6,0,0,0,0\n"
+      ∷ "S,0\n" gives "5,0,0,0,0,1\n"
+      ∷ [])

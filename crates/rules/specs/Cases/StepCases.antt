@@ -116,10 +116,10 @@ pub record ScheduleCases : Type 0 where
   pub running-word : Stands (bytes "S,1\nS,8\n") 0
       (8 ∷ 0 ∷ 0 ∷ 32 ∷ [])
   -- the upcall "becomes atomic and pending": the flags of group 8 as it runs
-  pub flags-words : Stands (bytes "A,8,5\nS,8\n") 518
+  pub flags-words : Stands (bytes "A,8,5\nS,8\n") 966
       (1 ∷ 1 ∷ 0 ∷ 1 ∷ 1 ∷ 0 ∷ [])
   -- and after it lost the processor; group 1, running with no line, has none
-  pub flags-kept : Stands (bytes "A,8,5\nS,8\nS,1\n") 518
+  pub flags-kept : Stands (bytes "A,8,5\nS,8\nS,1\n") 966
       (1 ∷ 1 ∷ 0 ∷ 1 ∷ 1 ∷ 0 ∷ [])
   -- nobody running, nobody is called: group 1 with a message has its flags off
   pub no-upcall-for-nobody : Stands (bytes "A,1,5\nS,0\n") 196
@@ -284,17 +284,17 @@ pub record UserCases : Type 0 where
       ∷ "L,0\n" gives "8,0,1,0,0,0,0,3,1\n"
       ∷ [])
   -- the descriptor in memory: its length, its words, 0 past them
-  pub descriptor-words : Stands (bytes "S,3\nP,7\nP,8\nP,9\n") 288
-      (replicate 5 0 ++ (3 ∷ 7 ∷ 8 ∷ 9 ∷ replicate 37 0))
+  pub descriptor-words : Stands (bytes "S,3\nP,7\nP,8\nP,9\n") 416
+      (replicate 5 0 ++ (3 ∷ 7 ∷ 8 ∷ 9 ∷ replicate 101 0))
   -- after L it is empty, its words 0
-  pub descriptor-emptied : Stands (bytes "S,3\nP,7\nP,8\nP,9\nL,5\n") 288
-      (replicate 46 0)
+  pub descriptor-emptied : Stands (bytes "S,3\nP,7\nP,8\nP,9\nL,5\n") 416
+      (replicate 110 0)
   -- B: atomic on, pending off
-  pub begin-words : Stands (bytes "S,3\nB\n") 288
-      (1 ∷ replicate 45 0)
+  pub begin-words : Stands (bytes "S,3\nB\n") 416
+      (1 ∷ replicate 109 0)
   -- N: both off
-  pub end-words : Stands (bytes "S,3\nB\nN\n") 288
-      (replicate 46 0)
+  pub end-words : Stands (bytes "S,3\nB\nN\n") 416
+      (replicate 110 0)
   -- after the upcall and D: atomic on, pending off
-  pub dispose-words : Stands (bytes "S,3\nA,3,7\nD\n") 288
-      (1 ∷ replicate 45 0)
+  pub dispose-words : Stands (bytes "S,3\nA,3,7\nD\n") 416
+      (1 ∷ replicate 109 0)

@@ -10,11 +10,11 @@ use Rattle.rules.specs.Build.{paper01, pageCount, groupCount}
 use Rattle.rules.specs.Lists.{Every, concatMap, countOf}
 use Rattle.rules.specs.Node.{Frame, Group, Node, emptyGroup, groupOf, withBuffer, withGroups}
 use Rattle.rules.specs.Paging.{framesOf, leaving, traded, tradedIn, trading}
-use Rattle.rules.specs.Sound.{Listed, Mapped, Sound}
+use Rattle.rules.specs.Sound.{Listed, Mapped}
 use Rattle.rules.specs.Valid.{GoodFrame, frameList, frameNumber}
 use Rattle.rules.proofs.Steps.EveryLaws.{every-concat, every-mono, every-unmap}
 use Rattle.rules.proofs.Steps.ListLaws.{count-part}
-use Rattle.rules.proofs.Steps.PageLaws.{found, numbers-groups, pages-good}
+use Rattle.rules.proofs.Steps.PageLaws.{found, numbers-groups}
 use Rattle.memory.specs.Paging.{PageMoved, PagesSwapped}
 use Rattle.memory.proofs.CountLaws.{count-none, lists-short}
 use Rattle.memory.proofs.PieceLaws.{FrameStands, Pieces, every-index}
@@ -55,14 +55,6 @@ leaving-stands {m} {n} k count p listed =
     let each = every-index (λ G. Every (FrameStands m) (framesOf paper01 G)) emptyGroup (n .groups) (λ i l. k .group-frames i (omega arith)) in
     let t = found (FrameStands m) p pages (rw (numbers-groups paper01 (n .groups)) listed) (every-concat (FrameStands m) (framesOf paper01) (n .groups) .1 each) in
     subst (FrameStands m) (λ i. record { number = t .1 .0 i; places = sym (t .1 .1 .0) i }) (t .1 .1 .1)
-
--- and is whole
-pub leaving-whole : {n : Node} → Sound paper01 n → (p : ℕ) → Listed p n → GoodFrame paper01 (leaving paper01 p n)
-unfolding leaving
-leaving-whole {n} s p listed =
-    let pages = concatMap (framesOf paper01) (n .groups) in
-    let t = found (GoodFrame paper01) p pages (rw (numbers-groups paper01 (n .groups)) listed) (pages-good paper01 (n .groups) (s .groups-good)) in
-    record { whole = rw (t .1 .1 .0) (t .1 .1 .1 .whole); places = rw (t .1 .1 .0) (t .1 .1 .1 .places) }
 
 -- trading goes both ways
 pub trading-sym : (p q : ℕ) (n : Node) → trading p q n ≡ trading q p n

@@ -6,3 +6,4 @@ pub mod VictimLaws
 pub mod IdleLaws
 pub mod SendLaws
 pub mod BringLaws
+pub mod PrepareLaws

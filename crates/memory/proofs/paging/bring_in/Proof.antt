@@ -1,47 +1,42 @@
+-- `memory::paging::bring_in` meets its contract: whether a frame is free is read. Assumes nothing.
+use native.Mathlib.Omega.{arith}
 use borrow.Author.Needs.{needs}
+use Rattle.rules.specs.Memory.{word}
+use Rattle.memory.proofs.PieceLaws.{holds-pieces}
+use Rattle.memory.proofs.paging.PrepareLaws.{none-free, some-free}
 use Rattle.memory.proofs.paging.bring_in.Statement.{statement}
 use Rattle.memory.proofs.paging.bring_in.Tie as tie
-use Rattle.memory.proofs.paging.bring_in.Reads as reads
-use Rattle.memory.proofs.paging.bring_in.Lts as lts
-use Rattle.memory.proofs.paging.exchange.Reads as exchange-reads
-use Rattle.memory.proofs.paging.fetch.Reads as fetch-reads
 
--- src/paging.rt:174:8
 slice-read-if1 : tie.Need-slice-read-if1
-slice-read-if1 c = ?
+slice-read-if1 c = omega (arith, holds-pieces (c .before .before .pre .holds) .long)
 
--- src/paging.rt:175:9
 exchange-requires : tie.Need-exchange-requires
-exchange-requires c κs = ?
+unfolding word
+exchange-requires c κs =
+    let p = c .before .before .before .before .pre in
+    record { node = p .node; rest = p .rest; holds = p .holds; fact = record { away = p .fact; full = none-free (p .holds) (c .before .if1 .taken) } }
 
--- src/paging.rt:176:9
 same-length : tie.Need-same-length
 same-length c = search needs
 
--- src/paging.rt:176:9
 returns : tie.Need-returns
-returns c = ?
+unfolding word
+returns c n r h away =
+    c .before .before .exchange .ensures n r h (record { away = away; full = none-free h (c .before .before .before .before .if1 .taken) })
 
--- src/paging.rt:178:5
 fetch-requires : tie.Need-fetch-requires
-fetch-requires c κs = ?
+unfolding word
+fetch-requires c κs =
+    let p = c .before .before .before .before .pre in
+    record { node = p .node; rest = p .rest; holds = p .holds; fact = record { away = p .fact; some = some-free (p .holds) (c .before .if1 .left) } }
 
--- src/paging.rt:170:1
 same-length-2 : tie.Need-same-length-2
 same-length-2 c = search needs
 
--- src/paging.rt:170:1
 returns-2 : tie.Need-returns-2
-returns-2 c = ?
+unfolding word
+returns-2 c n r h away =
+    c .before .before .fetch .ensures n r h (record { away = away; some = some-free h (c .before .before .before .before .if1 .left) })
 
 pub bring-in-spec : {M : Type 1} → statement M
-bring-in-spec =
-    tie.close
-    (tie.spec
-    slice-read-if1
-    exchange-requires
-    same-length
-    returns
-    fetch-requires
-    same-length-2
-    returns-2)
+bring-in-spec = tie.close (tie.spec slice-read-if1 exchange-requires same-length returns fetch-requires same-length-2 returns-2)

@@ -7,10 +7,10 @@ use lib.ListN.{getD, length, length-append, set}
 use lib.Seq.{getD-set-same, set-set}
 use borrow.Author.Tests.{le-ltb, lt-ltb}
 use Rattle.rules.specs.Build.{groupCount, pageCount, paper01}
-use Rattle.rules.specs.Frames.{Stock, appended, extended, put, takeFrame, withRoom, withStock}
+use Rattle.rules.specs.Frames.{appended, extended, put, takeFrame, withRoom, withStock}
 use Rattle.rules.specs.Lists.{Every}
 use Rattle.rules.specs.Memory.{groupAddress, size, word}
-use Rattle.rules.specs.Node.{Frame, Group, Message, Node, emptyGroup, groupOf, withBuffer, withEntered, withFree, withGroup, withPaging}
+use Rattle.rules.specs.Node.{Frame, Message, Node, emptyGroup, groupOf, withBuffer, withEntered, withFree, withGroup, withPaging}
 use Rattle.rules.specs.Valid.{GoodFrame}
 use Rattle.rules.proofs.Steps.NodeLaws.{stock-same}
 use Rattle.rules.specs.Sound.{Mapped}

@@ -10,9 +10,9 @@ use lib.Seq.{length-take-le}
 use borrow.Author.Tests.{eq-eqb, ne-eqb}
 use Rattle.rules.specs.Build.{groupCount, pageCount, paper01}
 use Rattle.rules.specs.Frames.{firstFrame, freeFirst, removeFirst, useUp, withStock}
-use Rattle.rules.specs.Lists.{Every, countOf}
+use Rattle.rules.specs.Lists.{Every}
 use Rattle.rules.specs.Memory.{atomicOffset, countOffset, flagWord, freeAt, freeCountAt, groupAddress, groupWords, heldOffset, listOffset, pendingOffset, size, usedOffset, word}
-use Rattle.rules.specs.Node.{Buffer, Frame, Group, Node, groupOf, withBuffer, withEntered, withFree, withGroup, withPaging}
+use Rattle.rules.specs.Node.{Frame, Node, groupOf, withBuffer, withEntered, withFree, withGroup, withPaging}
 use Rattle.rules.specs.Paging.{framesFrom, framesOf}
 use Rattle.rules.specs.Sound.{Sound}
 use Rattle.rules.specs.Valid.{FirstInFrame, GoodFrame, GoodPlace, frameNumber, frameOrder}
@@ -25,7 +25,7 @@ use Rattle.rules.proofs.Map.MapParts.{length-group}
 use Rattle.memory.specs.Holds.{Holds, InOrder, Waits, departing, freeing, releasing, removing, usingUp, withBoth}
 use Rattle.memory.specs.Lines.{InLine, Joined, Left}
 use Rattle.memory.specs.Writes.{Wrote}
-use Rattle.memory.proofs.CountLaws.{its-free, lists-short}
+use Rattle.memory.proofs.CountLaws.{its-free}
 use Rattle.memory.proofs.LinePieces.{free-line, free-put}
 use Rattle.memory.proofs.group.GroupLaws.{group-whole, group-words, list-line, list-wrote, mapped-group, record-held, record-stands, record-within, record-wrote, withPages, withRecord}
 use Rattle.memory.proofs.lines.LineLaws.{LineWrote, joined-wrote, left-below, left-length, left-wrote, line-first, line-within}

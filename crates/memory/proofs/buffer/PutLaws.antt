@@ -1,15 +1,14 @@
 -- A message is put behind the last of a buffer: from writes to the node that the memory then holds. Assumes nothing.
 use Prim.Native.Nat.{_%_, _*_, _+_, _/_, _<_, _≤_, pred, ℕ}
-use native.Mathlib.Nat.{add-zero}
 use native.Mathlib.Omega.{arith}
-use mathlib.Core.List.{List, [], _++_, _∷_, map}
-use mathlib.Core.Path.{_∙_, _≡_, refl, subst, sym}
+use mathlib.Core.List.{List, [], _∷_, map}
+use mathlib.Core.Path.{_∙_, _≡_, refl, subst}
 use lib.ListN.{getD, length, length-set, set}
 use lib.Seq.{getD-set-same, set-set}
-use Rattle.rules.specs.Build.{groupCount, paper01, wordLimit}
+use Rattle.rules.specs.Build.{groupCount, paper01}
 use Rattle.rules.specs.Frames.{appended}
-use Rattle.rules.specs.Lists.{Every, pad}
-use Rattle.rules.specs.Memory.{atomicOffset, countOffset, flagWord, frameAddress, groupAddress, groupStride, groupWords, groupsAt, listWords, pagingAt, pendingOffset, placeStride, placeWords, usedOffset, word}
+use Rattle.rules.specs.Lists.{Every}
+use Rattle.rules.specs.Memory.{atomicOffset, countOffset, frameAddress, groupAddress, groupStride, groupWords, groupsAt, pagingAt, pendingOffset, placeStride, placeWords, usedOffset, word}
 use Rattle.rules.specs.Node.{Group, Message, Node, Place, emptyGroup, groupOf, placeOf, withBuffer, withFree, withGroup}
 use Rattle.rules.specs.Paging.{framesOf}
 use Rattle.rules.specs.Valid.{GoodPlace, frameNumber}
@@ -27,7 +26,7 @@ use Rattle.memory.proofs.group.GroupLaws.{group-whole, group-words, lis
 use Rattle.memory.proofs.PieceLaws.{FrameStands, Pieces, holds-pieces, pieces-hold}
 use Rattle.memory.proofs.PieceWrites.{group-put, rest-kept, set-cases}
 use Rattle.memory.proofs.buffer.PlaceLaws.{frames-kept, frames-put}
-use Rattle.memory.proofs.WriteLaws.{kept-above, kept-below, widened}
+use Rattle.memory.proofs.WriteLaws.{kept-above, kept-below}
 
 -- the group with a place of its buffer set
 unfoldable pub placed : ℕ → Place → Group → Group

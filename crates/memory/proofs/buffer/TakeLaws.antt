@@ -1,23 +1,23 @@
 -- A group takes the front of the free line, which enters: from writes to the node that the memory then holds. Assumes nothing.
 use Prim.Native.Nat.{_*_, _+_, _≤_, _<_, pred, suc, ℕ}
-use native.Mathlib.Nat.{add-zero}
 use native.Mathlib.Omega.{arith}
 use mathlib.Core.List.{List, [], _++_, _∷_, map}
-use mathlib.Core.Path.{_≡_, ap, refl, subst, sym, _∙_}
+use mathlib.Core.Path.{_≡_, ap, refl, subst, _∙_}
 use lib.ListN.{drop, getD, length, length-append, length-drop, length-map, take}
 use lib.Seq.{drop-append-le, take-all, take-append-le}
 use Rattle.rules.specs.Build.{groupCount, pageCount, paper01}
 use Rattle.rules.specs.Frames.{extended, takeFrame, withStock}
 use Rattle.rules.specs.Lists.{Every}
-use Rattle.rules.specs.Memory.{enteredAt, enteredCountAt, freeAt, freeCountAt, groupAddress, groupWords, heldOffset, listOffset, word, wordsAt}
+use Rattle.rules.specs.Memory.{enteredAt, enteredCountAt, freeAt, freeCountAt, groupAddress, heldOffset, listOffset, word, wordsAt}
 use Rattle.rules.specs.Node.{Frame, Node, Place, groupOf, withBuffer, withEntered, withFree, withGroup, withPaging}
 use Rattle.rules.specs.Paging.{framesFrom, framesOf}
+use Rattle.rules.specs.Sound.{Sound}
 use Rattle.rules.specs.Valid.{GoodFrame, GoodPlace, frameNumber}
 use Rattle.rules.proofs.Steps.EveryLaws.{every-append}
 use Rattle.rules.proofs.Steps.ListLaws.{length-pad, weight, weight-append}
+use Rattle.rules.proofs.Steps.SoundLaws.{line-lengths}
 use Rattle.memory.specs.Holds.{FrameLeft, Holds, InOrder, OrderRoom, departing, entering, granting, taking, withBoth}
 use Rattle.memory.specs.Lines.{InLine, Joined, Left, indexOf}
-use Rattle.memory.specs.Writes.{Wrote}
 use Rattle.memory.proofs.CountLaws.{lists-short}
 use Rattle.memory.proofs.LinePieces.{entered-held, entered-line, free-line, free-put}
 use Rattle.memory.proofs.group.GroupLaws.{group-whole, group-words, list-wrote, mapped-group, record-line, record-stands, withPages}
@@ -181,3 +181,7 @@ module _ {m : List ℕ} {n : Node} {r : List ℕ} (h : Holds m n r) (g : ℕ) (l
   pub granting-room : OrderRoom (granting g n)
   unfolding granting withBoth withFree withGroup
   granting-room = omega (arith, left .some, left .order)
+
+-- A sound node with a free frame has what is asked.
+pub left-sound : {n : Node} → Sound paper01 n → 1 ≤ length (n .free) → FrameLeft n
+left-sound s some = record { some = some; order = omega (arith, line-lengths s) }

@@ -1,6 +1,6 @@
 -- A group of the node in memory: its record word by word, its flags, counts and list written, and frames exchanged between its list and the
 -- free line. Assumes nothing.
-use Prim.Native.Nat.{_*_, _+_, _-_, _<_, _≤_, pred, suc, zero, ℕ}
+use Prim.Native.Nat.{_*_, _+_, _-_, _<_, _≤_, pred, ℕ}
 use native.Mathlib.Nat.{add-zero}
 use native.Mathlib.Omega.{arith}
 use mathlib.Core.Bool.{Bool}
@@ -10,7 +10,7 @@ use lib.Dec.{ltb}
 use lib.ListN.{getD, length, length-set}
 use Rattle.rules.specs.Build.{groupCount, pageCount, paper01, wordLimit}
 use Rattle.rules.specs.Lists.{Every, pad}
-use Rattle.rules.specs.Memory.{flagWord, framesAt, freeCountAt, groupAddress, groupStride, groupWords, groupsAt, heldOffset, listOffset, listWords, size, word, countOffset, usedOffset}
+use Rattle.rules.specs.Memory.{flagWord, framesAt, groupAddress, groupStride, groupWords, groupsAt, heldOffset, listOffset, listWords, word, countOffset, usedOffset}
 use Rattle.rules.specs.Node.{Frame, Group, Node, Place, emptyGroup, groupOf, withBuffer, withFree, withPaging, withEntered, withGroup, buffered, withFlags}
 use Rattle.rules.specs.Paging.{framesOf}
 use Rattle.rules.specs.Valid.{GoodFrame, frameNumbers, idle}
@@ -18,16 +18,16 @@ use Rattle.rules.proofs.Steps.EveryLaws.{every-getD, every-set}
 use Rattle.rules.proofs.Steps.FrameLaws.{SameFrames}
 use Rattle.rules.proofs.Steps.ListLaws.{length-pad, weight}
 use Rattle.rules.proofs.Map.MapParts.{GroupStands, group-stands}
-use Rattle.rules.proofs.Map.MapWords.{Stands, stands-append, stands-cons}
+use Rattle.rules.proofs.Map.MapWords.{Stands, stands-append}
 use Rattle.rules.proofs.Steps.NodeLaws.{reweighed, weights-count, weights-length}
 use Rattle.rules.specs.Sound.{Mapped, WholeGroup}
-use Rattle.memory.specs.Holds.{FrameLeft, Holds, flagging}
+use Rattle.memory.specs.Holds.{Holds, flagging}
 use Rattle.memory.specs.Writes.{Wrote}
 use Rattle.memory.proofs.CountLaws.{lists-short}
 use Rattle.memory.proofs.lines.LineLaws.{LineStands, LineWrote}
 use Rattle.memory.proofs.PieceLaws.{Pieces, holds-pieces, pieces-hold}
 use Rattle.memory.proofs.PieceWrites.{group-put}
-use Rattle.memory.proofs.WriteLaws.{stands-word, widened, widened-end, wrote-as, wrote-over, wrote-stands}
+use Rattle.memory.proofs.WriteLaws.{stands-word, widened, widened-end, wrote-over, wrote-stands}
 
 -- Reading a group.
 

@@ -1,10 +1,10 @@
 -- A line of numbers in memory, 0 behind them to the end of its room: a number leaves it, and another joins it. From writes to the line that
 -- then stands. Assumes nothing.
-use Prim.Native.Nat.{ℕ, zero, suc, _+_, _-_, _≤_, _<_}
+use Prim.Native.Nat.{ℕ, suc, _+_, _-_, _≤_, _<_}
 use native.Mathlib.Nat.{add-zero}
 use native.Mathlib.Omega.{arith}
 use mathlib.Core.List.{List, [], _∷_, _++_}
-use mathlib.Core.Path.{_∙_, _≡_, ap, refl, sym, subst}
+use mathlib.Core.Path.{_∙_, _≡_, ap, sym}
 use lib.ListN.{length, take, drop, getD, length-append, length-drop, take-append-drop}
 use lib.Seq.{drop-cons, length-take-le}
 use Rattle.rules.specs.Build.{pageCount, paper01}

@@ -32,13 +32,13 @@ add-leave-2 : tie.Need-add-leave-2
 add-leave-2 c = let l = record-within _ (c .before .before .before .before .before .pre .0 .1) in omega (arith, c .before .group-at .ensures)
 
 leave-requires : tie.Need-leave-requires
-leave-requires c κs = let f = facts (c .before .before .before .before .before ) in rw (c .before .group-at .ensures) (f .list, f .held)
+leave-requires c κs = let f = facts (c .before .before .before .before .before) in rw (c .before .group-at .ensures) (f .list, f .held)
 
 sub-set-counts : tie.Need-sub-set-counts
-sub-set-counts c = let e = ap (λ (x : Group·rt). x .count) (c .before .before .before .before .before .before .before .read .ensures) in let f = facts (c .before .before .before .before .before .before .before .before .before .before ) in omega arith
+sub-set-counts c = let e = ap (λ (x : Group·rt). x .count) (c .before .before .before .before .before .before .before .read .ensures) in let f = facts (c .before .before .before .before .before .before .before .before .before .before) in omega arith
 
 set-counts-requires : tie.Need-set-counts-requires
-set-counts-requires c κs = in-group (c .before .before .before .before .before .before .before .before .before .before ) _ 3 (c .before .before .before .before .leave .kept .0) (omega arith)
+set-counts-requires c κs = in-group (c .before .before .before .before .before .before .before .before .before .before) _ 3 (c .before .before .before .before .leave .kept .0) (omega arith)
 
 join-requires : tie.Need-join-requires
 join-requires c κs =

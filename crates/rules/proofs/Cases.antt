@@ -8,3 +8,4 @@ pub mod BufferCasesLaws
 pub mod StepCasesLaws
 pub mod TestComputes
 pub mod MemoryCasesLaws
+pub mod PagingCasesLaws

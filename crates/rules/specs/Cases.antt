@@ -6,4 +6,5 @@ pub mod ScriptCases
 pub mod BufferCases
 pub mod StepCases
 pub mod MemoryCases
+pub mod PagingCases
 pub mod TypeCases

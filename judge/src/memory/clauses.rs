@@ -1,4 +1,4 @@
-//! The paper's memory test, clause by clause, each order's clauses where they belong.
+//! The paper's memory test, clause by clause.
 
 use std::fmt::{self, Display, Formatter};
 use std::ops::RangeInclusive;
@@ -16,9 +16,9 @@ use crate::node::{
 /// none if it holds.
 type Clause = (&'static str, fn(&Words) -> Vec<usize>);
 
-/// "Memory is a node when": the sentence clause by clause, in its order. Lengths come before the
-/// clauses that see to it that all waiting messages are found; a message that is not found breaks
-/// one of these.
+/// "Memory is a node when": the sentence clause by clause, in its order, and order 1's clauses each
+/// behind the one that it is like, the first page's last. Lengths come before the clauses that see to
+/// it that all waiting messages are found; a message that is not found breaks one of these.
 const CLAUSES: [Clause; 26] = [
     ("running is 0 to 8", running_in_bounds),
     ("counts are within the bounds", counts_in_bounds),

@@ -51,14 +51,7 @@ pub fn operation(random: &mut Random) -> Operation {
     script::read(line.strip_suffix(b"\n").unwrap_or(&line))
 }
 
-/// Any memory: a node or a changed one, most often of the node's size.
-pub fn any_memory(random: &mut Random) -> Vec<u32> {
-    let mut memory = reachable(random);
-    vary(&mut memory, random);
-    memory
-}
-
-/// Makes any memory of a node's.
+/// Makes any memory of a node's: the node or a changed one, most often of the node's size.
 pub fn vary(memory: &mut Vec<u32>, random: &mut Random) {
     match random.between(1, 8) {
         1 | 2 => (),
@@ -361,9 +354,11 @@ fn change_unused(memory: &mut [u32], random: &mut Random) {
 fn change_unread(memory: &mut [u32], random: &mut Random) {
     let waiting: Vec<usize> = words(memory).waiting().collect();
     let places = (PAGES_AT..SWAP_COUNT).step_by(PLACE_WORDS);
-    let unread = places.filter(|at| !waiting.contains(at)).collect();
-    let at = one_of(random, unread, PAGES_AT) + below(random, PLACE_WORDS);
-    change(memory, random, at, MESSAGE_WORDS);
+    let unread: Vec<usize> = places.filter(|at| !waiting.contains(at)).collect();
+    if !unread.is_empty() {
+        let at = random.pick(&unread) + below(random, PLACE_WORDS);
+        change(memory, random, at, MESSAGE_WORDS);
+    }
 }
 
 /// A message at the end of the hardware queue, often the running group's. In a full queue it takes

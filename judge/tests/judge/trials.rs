@@ -2,9 +2,7 @@
 
 use std::collections::{BTreeMap, HashSet};
 
-use judge::memory::trials::{
-    any_memory, change_words, operation, reachable, Change, Length, CHANGES,
-};
+use judge::memory::trials::{change_words, operation, reachable, vary, Change, Length, CHANGES};
 use judge::memory::{self, broken_clause, clauses, head, step};
 use judge::node::{Node, Operation, Refusal, Report};
 use judge::random::Random;
@@ -14,12 +12,29 @@ const SIZE: usize = 8088;
 #[test]
 fn a_seed_fixes_memories_and_operations() {
     let drawn = |seed| {
-        let mut random = Random::new(seed);
-        let drawn = (0..20).map(|_| (any_memory(&mut random), operation(&mut random)));
-        drawn.collect::<Vec<_>>()
+        let mut drawn = Vec::new();
+        for_any_memory(seed, 40, |memory, operation| {
+            drawn.push((memory, operation))
+        });
+        drawn
     };
     assert_eq!(drawn(1), drawn(1));
     assert_ne!(drawn(1), drawn(2));
+}
+
+/// Any memory with an operation, so many times. Scripts take longer than all else, so ten memories are
+/// made of one node.
+fn for_any_memory(seed: u64, count: usize, mut each: impl FnMut(Vec<u32>, Operation)) {
+    let mut random = Random::new(seed);
+    let mut node = Vec::new();
+    for number in 0..count {
+        if number % 10 == 0 {
+            node = reachable(&mut random);
+        }
+        let mut memory = node.clone();
+        vary(&mut memory, &mut random);
+        each(memory, operation(&mut random));
+    }
 }
 
 type Kind = (&'static str, fn(&Node) -> bool);
@@ -91,12 +106,18 @@ fn one_to_eight_words_are_changed() {
     assert!(counts[1..].iter().all(|&count| count > 20), "{counts:?}");
 }
 
-/// What a change makes of many nodes: nodes, and memories that are told by a clause.
-fn made_by(change: &Change) -> BTreeMap<&'static str, usize> {
+/// Nodes to make changes to.
+fn many_nodes() -> Vec<Vec<u32>> {
+    let mut random = Random::new(1);
+    (0..600).map(|_| reachable(&mut random)).collect()
+}
+
+/// What a change makes of nodes: nodes, and memories that are told by a clause.
+fn made_by(change: &Change, nodes: &[Vec<u32>]) -> BTreeMap<&'static str, usize> {
     let mut random = Random::new(1);
     let mut made = BTreeMap::new();
-    for _ in 0..600 {
-        let mut memory = reachable(&mut random);
+    for node in nodes {
+        let mut memory = node.clone();
         change.make(&mut memory, &mut random);
         let told = broken_clause(&memory).unwrap_or("a node");
         *made.entry(told).or_default() += 1;
@@ -195,8 +216,9 @@ const PURPOSES: [(&str, &str); 23] = [
 fn each_change_makes_what_it_is_for() {
     let names = CHANGES.iter().map(|change| change.name);
     assert!(names.eq(PURPOSES.map(|(name, _)| name)));
+    let nodes = many_nodes();
     for (change, (name, purpose)) in CHANGES.iter().zip(PURPOSES) {
-        let made = made_by(change);
+        let made = made_by(change, &nodes);
         for what in purpose.split("; ") {
             assert!(made.contains_key(what), "{name}: {what}: {made:?}");
         }
@@ -206,12 +228,13 @@ fn each_change_makes_what_it_is_for() {
 /// What no clause asks about.
 #[test]
 fn some_words_may_be_anything() {
+    let nodes = many_nodes();
     for name in [
         "places without a waiting message",
         "pages sent out and brought in",
     ] {
         let change = CHANGES.iter().find(|change| change.name == name);
-        let made = made_by(change.expect("a change of this name"));
+        let made = made_by(change.expect("a change of this name"), &nodes);
         assert!(made.into_keys().eq(["a node"]), "{name}");
     }
 }
@@ -241,14 +264,11 @@ fn lengths_are_too_short_exact_and_longer() {
 /// it as it was, or is that of the node, and leaves a node with the words past it as they were.
 #[test]
 fn any_memory_is_met_and_stepped() {
-    let mut random = Random::new(1);
     let mut told = BTreeMap::new();
-    for _ in 0..10_000 {
-        let before = any_memory(&mut random);
-        let operation = operation(&mut random);
+    for_any_memory(1, 10_000, |before, operation| {
         expect_step(&before, &operation);
         *told.entry(broken_clause(&before)).or_insert(0) += 1;
-    }
+    });
     for clause in clauses().chain(["memory too short"]).map(Some) {
         assert!(told.contains_key(&clause), "{clause:?}: {told:?}");
     }

@@ -1,6 +1,6 @@
 -- The memory: where each number stands, what power-on and a step do to words, answer 1, and for each clause of "Memory is a node when" a
 -- memory that differs from a node's in that clause alone. Addresses are docs/MEMORY.md's. Assumes nothing.
-use Prim.Native.Nat.{ℕ, _+_}
+use Prim.Native.Nat.{ℕ, _+_, _-_}
 use mathlib.Core.Path.{_≡_}
 use mathlib.Core.Bool.{true, false}
 use mathlib.Core.List.{List, [], _∷_, _++_}
@@ -9,7 +9,7 @@ use Rattle.rules.specs.Lists.{concatMap, upFrom}
 use Rattle.rules.specs.Operation.{Report, schedule, tick, user, dispose, unknown}
 use Rattle.rules.specs.Text.{bytes}
 use Rattle.rules.specs.MemoryTest.{MemoryStep, isMemory, stepMemory, powerOnMemory, headPart, headWords, pageCounts}
-use Rattle.rules.specs.Cases.Case.{copies, memoryAfter, Stands, _holds_, Leaves, crowded, LeavesFrom}
+use Rattle.rules.specs.Cases.Case.{copies, memoryAfter, Stands, Stretch, _holds_, Leaves, crowded, LeavesFrom}
 
 -- memory with these words from address a on
 abbrev pub put : ℕ → List ℕ → List ℕ → List ℕ
@@ -23,46 +23,48 @@ numberAndZeros a = record { answer = a; value = 0; trap = 0; upcall = 0; moved =
 abbrev pub answered : ℕ → List ℕ → MemoryStep
 answered a m = record { report = numberAndZeros a; memory = m }
 
+-- memory with these stretches, in the order of their addresses, and else 0; its words are those from address a on
+abbrev pub laid : ℕ → List Stretch → List ℕ
+laid a [] = replicate (8088 - a) 0
+laid a (p ∷ ps) = replicate (p .start - a) 0 ++ (p .held ++ laid (p .start + length (p .held)) ps)
+
 -- a node at power-on: nothing but the free line and the swap line, and how many are in them
 abbrev pub fresh : List ℕ
-fresh =
-    0
-    ∷ 0
-    ∷ 0
-    ∷ 32
-    ∷ replicate 160 0 ++ (upFrom 0 32 ++ (replicate 7792 0 ++ (64 ∷ 0 ∷ 0 ∷ 0 ∷ upFrom 32 64 ++ replicate 32 0)))
+fresh = laid 0 (3 holds (32 ∷ []) ∷ 164 holds upFrom 0 32 ∷ 7988 holds (64 ∷ 0 ∷ 0 ∷ 0 ∷ upFrom 32 64) ∷ [])
 
 -- a busy node: group 1 runs, with a descriptor of two words and two messages in the queue, one of group 2 between them, at tick 5; group 3
 -- has 8 messages behind 2 used-up places in the frames 0 and 1
 abbrev pub busy : List ℕ
 busy =
-    put 0 (1 ∷ 5 ∷ 3 ∷ 30 ∷ [])
-    (put 4 (1 ∷ 1 ∷ 7 ∷ [])
-    (put 14 (2 ∷ 2 ∷ 5 ∷ 6 ∷ [])
-    (put 24 (1 ∷ 3 ∷ 4 ∷ 4 ∷ 4 ∷ [])
-    (put 164 (upFrom 2 30 ++ (0 ∷ 0 ∷ []))
-    (put 196 (1 ∷ 1 ∷ 0 ∷ 0 ∷ 0 ∷ 2 ∷ 9 ∷ 8 ∷ [])
-    (put 416 (1 ∷ 0 ∷ 2 ∷ 8 ∷ 2 ∷ 0 ∷ [])
-    (put 430 (0 ∷ 1 ∷ [])
-    (put 1076 (2 ∷ 10 ∷ 11 ∷ [])
-    (put 1085 (2 ∷ 20 ∷ 21 ∷ [])
-    (put 1094 (2 ∷ 30 ∷ 31 ∷ [])
-    (put 1103 (concatMap (λ w. 1 ∷ w ∷ replicate 7 0) (40 ∷ 50 ∷ 60 ∷ 70 ∷ 80 ∷ 90 ∷ 100 ∷ []))
-    (put 7989 (2 ∷ [])
-    (put 8056 (0 ∷ 1 ∷ [])
-    fresh)))))))))))))
+    laid 0
+    (0 holds (1 ∷ 5 ∷ 3 ∷ 30 ∷ [])
+    ∷ 4 holds (1 ∷ 1 ∷ 7 ∷ [])
+    ∷ 14 holds (2 ∷ 2 ∷ 5 ∷ 6 ∷ [])
+    ∷ 24 holds (1 ∷ 3 ∷ 4 ∷ 4 ∷ 4 ∷ [])
+    ∷ 164 holds upFrom 2 30
+    ∷ 196 holds (1 ∷ 1 ∷ 0 ∷ 0 ∷ 0 ∷ 2 ∷ 9 ∷ 8 ∷ [])
+    ∷ 416 holds (1 ∷ 0 ∷ 2 ∷ 8 ∷ 2 ∷ 0 ∷ [])
+    ∷ 430 holds (0 ∷ 1 ∷ [])
+    ∷ 1076 holds (2 ∷ 10 ∷ 11 ∷ [])
+    ∷ 1085 holds (2 ∷ 20 ∷ 21 ∷ [])
+    ∷ 1094 holds (2 ∷ 30 ∷ 31 ∷ [])
+    ∷ 1103 holds concatMap (λ w. 1 ∷ w ∷ replicate 7 0) (40 ∷ 50 ∷ 60 ∷ 70 ∷ 80 ∷ 90 ∷ 100 ∷ [])
+    ∷ 7988 holds (64 ∷ 2 ∷ 0 ∷ 0 ∷ upFrom 32 64)
+    ∷ 8056 holds (0 ∷ 1 ∷ [])
+    ∷ [])
 
 -- group 3 has 16 messages of 8 words in the frames 0 and 1, none used up
 abbrev pub sixteen : List ℕ
 sixteen =
-    put 3 (30 ∷ [])
-    (put 164 (upFrom 2 30 ++ (0 ∷ 0 ∷ []))
-    (put 418 (0 ∷ 16 ∷ 2 ∷ [])
-    (put 430 (0 ∷ 1 ∷ [])
-    (put 1076 (concatMap (λ w. 8 ∷ replicate 8 w) (upFrom 1 16))
-    (put 7989 (2 ∷ [])
-    (put 8056 (0 ∷ 1 ∷ [])
-    fresh))))))
+    laid 0
+    (3 holds (30 ∷ [])
+    ∷ 164 holds upFrom 2 30
+    ∷ 418 holds (0 ∷ 16 ∷ 2 ∷ [])
+    ∷ 430 holds (0 ∷ 1 ∷ [])
+    ∷ 1076 holds concatMap (λ w. 8 ∷ replicate 8 w) (upFrom 1 16)
+    ∷ 7988 holds (64 ∷ 2 ∷ 0 ∷ 0 ∷ upFrom 32 64)
+    ∷ 8056 holds (0 ∷ 1 ∷ [])
+    ∷ [])
 
 -- group 3 runs, its list the frames 1 and 0, 7 places of the first used up
 abbrev pub sevenUsed : List ℕ
@@ -71,35 +73,38 @@ sevenUsed = put 0 (3 ∷ []) (put 416 (1 ∷ 0 ∷ 7 ∷ 9 ∷ []) (put 430 (1 �
 -- group 1 runs in a section with 16 messages of 8 words in the queue; the free line begins with the frames 1 and 8
 abbrev pub fullQueue : List ℕ
 fullQueue =
-    put 0 (1 ∷ 0 ∷ 16 ∷ 32 ∷ concatMap (λ w. 1 ∷ 8 ∷ replicate 8 w) (upFrom 1 16))
-    (put 164 (1 ∷ 8 ∷ [])
-    (put 172 (0 ∷ [])
-    (put 196 (1 ∷ [])
-    fresh)))
+    laid 0
+    (0 holds (1 ∷ 0 ∷ 16 ∷ 32 ∷ concatMap (λ w. 1 ∷ 8 ∷ replicate 8 w) (upFrom 1 16))
+    ∷ 164 holds (1 ∷ 8 ∷ upFrom 2 6 ++ (0 ∷ upFrom 9 23))
+    ∷ 196 holds (1 ∷ [])
+    ∷ 7988 holds (64 ∷ 0 ∷ 0 ∷ 0 ∷ upFrom 32 64)
+    ∷ [])
 
 -- group 2 has all frames and swap pages, full of its 768 messages of 8 words
 abbrev pub fullPages : List ℕ
 fullPages =
-    put 3 (0 ∷ [])
-    (put 164 (replicate 32 0)
-    (put 308 (0 ∷ 768 ∷ 96 ∷ [])
-    (put 320 (upFrom 0 96)
-    (put 1076 (concatMap (λ w. 8 ∷ replicate 8 w) (upFrom 1 768))
-    (put 7988 (0 ∷ 32 ∷ 64 ∷ 0 ∷ replicate 64 0 ++ upFrom 0 32)
-    fresh)))))
+    laid 0
+    (308 holds (0 ∷ 768 ∷ 96 ∷ [])
+    ∷ 320 holds upFrom 0 96
+    ∷ 1076 holds concatMap (λ w. 8 ∷ replicate 8 w) (upFrom 1 768)
+    ∷ 7988 holds (0 ∷ 32 ∷ 64 ∷ 0 ∷ [])
+    ∷ 8056 holds upFrom 0 32
+    ∷ [])
 
--- group 3 has two messages: one in the last place of its first page, in frame 4, and one in its second page, in swap page 5, the 38th page;
--- 3 pages were sent out and 2 brought in
+-- group 3 has two messages: one in the last place of its first page, in frame 4, and one in its second page, which has number 37 and is in
+-- swap; 3 pages were sent out and 2 brought in
 abbrev pub swapped : List ℕ
 swapped =
-    put 3 (31 ∷ [])
-    (put 164 (upFrom 0 4 ++ (upFrom 5 27 ++ (0 ∷ [])))
-    (put 418 (7 ∷ 2 ∷ 2 ∷ [])
-    (put 430 (4 ∷ 37 ∷ [])
-    (put 1427 (1 ∷ 5 ∷ [])
-    (put 3740 (2 ∷ 6 ∷ 7 ∷ [])
-    (put 7988 (63 ∷ 1 ∷ 3 ∷ 2 ∷ upFrom 32 5 ++ (upFrom 38 58 ++ (0 ∷ 4 ∷ [])))
-    fresh))))))
+    laid 0
+    (3 holds (31 ∷ [])
+    ∷ 164 holds (upFrom 0 4 ++ upFrom 5 27)
+    ∷ 418 holds (7 ∷ 2 ∷ 2 ∷ [])
+    ∷ 430 holds (4 ∷ 37 ∷ [])
+    ∷ 1427 holds (1 ∷ 5 ∷ [])
+    ∷ 3740 holds (2 ∷ 6 ∷ 7 ∷ [])
+    ∷ 7988 holds (63 ∷ 1 ∷ 3 ∷ 2 ∷ upFrom 32 5 ++ upFrom 38 58)
+    ∷ 8056 holds (4 ∷ [])
+    ∷ [])
 
 -- where each number stands
 pub record MapCases : Type 0 where

@@ -1,0 +1,46 @@
+-- The cases of swap space hold, by computation. Assumes nothing.
+use mathlib.Core.Path.{refl}
+use Rattle.rules.specs.Cases.PagingCases.{SendCases, BringCases, PageCountCases}
+use Rattle.rules.proofs.Cases.Computes.{computes}
+use Rattle.rules.proofs.Cases.TestComputes.{same-words}
+
+pub send-cases : SendCases
+unfolding computes
+send-cases =
+    record {
+      frames-first = refl;
+      first-out = refl;
+      third-out = refl;
+      crowded-words = same-words _ _ refl;
+      not-renewed-by-writing = refl;
+      runner-spared = refl;
+      second-not-spared = refl;
+      nobody-spared = refl;
+      new-runner-spared = refl;
+      timeout-sends = refl;
+      whole = refl;
+      whole-old = refl;
+    }
+
+pub bring-cases : BringCases
+unfolding computes
+bring-cases =
+    record {
+      write-brings = refl;
+      freed-to-the-end = refl;
+      write-exchanges = refl;
+      runner-writes = refl;
+      runner-brought = refl;
+      runner-exchanged = refl;
+      exchanged-full = refl;
+      renewed-by-exchange = refl;
+      after-settling = refl;
+      written-not-spared = refl;
+      second-stays = refl;
+      second-brought = refl;
+      into-the-front = refl;
+    }
+
+pub page-count-cases : PageCountCases
+unfolding computes
+page-count-cases = record { out-stays = refl; both-counted = refl; both-stay = refl; brought-stays = refl }

@@ -171,3 +171,8 @@ module _ {m : List ℕ} {n : Node} {r : List ℕ} (h : Holds m n r) (s : Sound p
               → resident paper01 (getD (groupOf n (n .running) .buffer .frames) 0 0) n ≡ firstResident paper01 (groupOf n (n .running) .buffer .frames) n
           go [] q = absurd (omega (arith, first-held, ap length q))
           go (f ∷ fs) q = rw q
+
+-- A message of group g is stored by being put into the prepared node.
+pub prepared-put : (x : Message) (g : ℕ) (n : Node) → x .group ≡ g → put x (prepared paper01 g n) ≡ store paper01 x n
+unfolding store
+prepared-put x g n e = rw (sym e)

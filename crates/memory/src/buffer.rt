@@ -3,12 +3,15 @@ use super::Node;
 use super::frames;
 use super::group;
 use super::map;
+use super::paging;
 use super::words;
 ghost use Prim.Native.Nat.{_≤_};
-ghost use Rattle.rules.specs.Build.{groupCount};
+ghost use Rattle.rules.specs.Build.{paper01, groupCount};
 ghost use Rattle.rules.specs.Node.{Message};
 ghost use Rattle.rules.specs.Frames.{put};
+ghost use Rattle.rules.specs.Paging.{store};
 ghost use Rattle.memory.specs.Holds.{Some, Becomes, Room, Storable, Kept, Waits, putting, usingUp, freeing, removing};
+ghost use Rattle.memory.specs.Paging.{Wanting};
 
 // The last place of a frame.
 const LAST_PLACE: u32 = 7;
@@ -39,6 +42,16 @@ pub fn append(m: &mut [u32], g: u32, len: u32, words: [u32; 8])
         frames::extend(m, g);
     }
     put(m, g, len, words);
+}
+
+// A message moves to the end of group g's buffer: its page is in a frame first.
+pub fn store(m: &mut [u32], g: u32, len: u32, words: [u32; 8])
+    requires { ⌜ (1 ≤ g) × (g ≤ groupCount) ⌝ }
+    requires { ⌜ Some (now m) (Wanting g) ⌝ }
+    ensures { λ _. ⌜ ((x : Message) → Kept g len words x → Becomes (now (m .entry)) (now (m .exit)) (Wanting g) (store paper01 x)) ⌝ }
+{
+    paging::prepare(m, g);
+    append(m, g, len, words);
 }
 
 // The first place of group g's buffer is used up.

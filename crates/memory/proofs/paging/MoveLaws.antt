@@ -6,33 +6,19 @@ use mathlib.Core.Path.{_≡_, refl, sym, ap, _∙_, subst}
 use mathlib.Core.Logic.{_≢_}
 use mathlib.Core.List.{List, [], _∷_, map}
 use lib.ListN.{length, drop, length-drop}
-use borrow.Author.Tests.{eq-eqb, ne-eqb}
 use Rattle.rules.specs.Build.{paper01, pageCount}
 use Rattle.rules.specs.Lists.{Every, concatMap}
 use Rattle.rules.specs.Node.{Frame, Place}
 use Rattle.rules.specs.Memory.{frameAddress, frameStride, framesAt, pagingAt, placeWords, word, wordsAt}
 use Rattle.rules.specs.Paging.{framesFrom, traded}
 use Rattle.rules.specs.Valid.{GoodFrame, GoodPlace}
-use Rattle.rules.proofs.Steps.PageLaws.{good-from}
+use Rattle.rules.proofs.Steps.PagingLaws.{traded-first, traded-other, traded-second}
 use Rattle.rules.proofs.Map.MapWords.{Stands, length-wordsAt, wordsAt-stands}
 use Rattle.memory.specs.Writes.{Wrote, Swapped}
 use Rattle.memory.proofs.PieceLaws.{FrameStands, frame-stands, length-good}
 use Rattle.memory.proofs.WriteLaws.{same-wordsAt}
 
--- what a number is traded for
-pub traded-first : (p q x : ℕ) → x ≡ p → traded p q x ≡ q
-unfolding traded
-traded-first p q x e = rw (eq-eqb x p e)
-
-pub traded-second : (p q x : ℕ) → x ≢ p → x ≡ q → traded p q x ≡ p
-unfolding traded
-traded-second p q x d e = rw (ne-eqb x p d, eq-eqb x q e)
-
-pub traded-other : (p q x : ℕ) → x ≢ p → x ≢ q → traded p q x ≡ x
-unfolding traded
-traded-other p q x d e = rw (ne-eqb x p d, ne-eqb x q e)
-
--- of each kind of number
+-- what a number is traded for, by what it is
 traded-cases : (P : ℕ → ℕ → Type 0) (p q x : ℕ) → (x ≡ p → P p q) → (x ≢ p → x ≡ q → P q p) → (x ≢ p → x ≢ q → P x x) → P x (traded p q x)
 traded-cases P p q x first second other = go (ℕ-discrete x p) (ℕ-discrete x q)
   where

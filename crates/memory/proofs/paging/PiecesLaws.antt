@@ -10,7 +10,7 @@ use Rattle.rules.specs.Build.{paper01, pageCount, groupCount, wordLimit}
 use Rattle.rules.specs.Lists.{Every, concatMap, pad}
 use Rattle.rules.specs.Memory.{flagWord, frameAddress, framesAt, groupAddress, groupStride, groupWords, groupsAt, heldOffset, listAt, listOffset, listWords, pagingAt, pagingWords, placeWords, queueAt, freeAt, size, word, wordsAt}
 use Rattle.rules.specs.Node.{Frame, Group, Node, emptyGroup, withBuffer, withGroups}
-use Rattle.rules.specs.Paging.{framesOf, traded, tradedIn, trading}
+use Rattle.rules.specs.Paging.{framesFrom, framesOf, traded, tradedIn, trading}
 use Rattle.rules.specs.Sound.{Mapped, WholeGroup}
 use Rattle.rules.specs.Valid.{GoodFrame, frameNumber}
 use Rattle.rules.proofs.Steps.EveryLaws.{every-getD, every-mono}
@@ -174,7 +174,7 @@ module _ {m m₁ m₂ : List ℕ} {n : Node} {r : List ℕ} (k : Pieces m n r) (
             let G = getD (n .groups) i emptyGroup in
             let whole : WholeGroup G = every-getD WholeGroup (n .groups) i emptyGroup (v .groups-whole) (omega (arith, v .group-count)) in
             subst (λ (H : Group). Every (FrameStands m₂) (framesOf paper01 H)) (sym (List·getD-map (tradedIn p q) (n .groups) i emptyGroup))
-            (frames-traded L s _ (pages-follow m m₁ p q lp lq (G .buffer .frames) (G .buffer .places)
+            (frames-traded L s (framesFrom paper01 (map (traded p q) (G .buffer .frames)) (G .buffer .places)) (pages-follow m m₁ p q lp lq (G .buffer .frames) (G .buffer .places)
             (good-from paper01 (G .buffer .frames) (G .buffer .places) (whole .whole) (whole .places)) (lists i h) (k .group-frames i h)));
       }
 

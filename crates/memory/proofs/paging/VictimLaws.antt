@@ -12,7 +12,7 @@ use lib.ListN.{length, getD}
 use borrow.Author.Tests.{eq-eqb, ne-eqb}
 use Rattle.rules.specs.Build.{paper01, groupCount}
 use Rattle.rules.specs.Lists.{countOf, filter}
-use Rattle.rules.specs.Memory.{enteredAt, groupAddress, heldOffset, listOffset, runningAt, size, word}
+use Rattle.rules.specs.Memory.{enteredAt, enteredCountAt, groupAddress, heldOffset, listOffset, runningAt, size, word}
 use Rattle.rules.specs.Node.{Node, groupOf}
 use Rattle.rules.specs.Paging.{spared, standsFirst, victim}
 use Rattle.rules.specs.Sound.{Mapped}
@@ -21,9 +21,11 @@ use Rattle.rules.proofs.Steps.PagingLaws.{entered-once}
 use Rattle.rules.proofs.Steps.SoundLaws.{line-lengths}
 use Rattle.memory.specs.Holds.{Holds}
 use Rattle.memory.specs.Paging.{Crowded}
-use Rattle.memory.proofs.LinePieces.{paging-words}
+use Rattle.memory.proofs.LinePieces.{entered-line}
+use Rattle.memory.proofs.lines.LineLaws.{LineStands, line-at, line-first}
 use Rattle.memory.proofs.PieceLaws.{holds-pieces}
-use Rattle.memory.proofs.group.GroupLaws.{group-words, stands-word}
+use Rattle.memory.proofs.group.GroupLaws.{group-words}
+use Rattle.memory.proofs.WriteLaws.{stands-word}
 
 -- the first in the order of entry, where it is not spared
 victim-first : (n : Node) (x : ℕ) (es : List ℕ) → n .paging .entered ≡ x ∷ es → spared n x ≡ false → victim n ≡ x
@@ -54,6 +56,9 @@ module _ {m : List ℕ} {n : Node} {r : List ℕ} (h : Holds m n r) (c : Crowded
   many : 2 ≤ length (n .paging .entered)
   many = omega (arith, line-lengths (c .sound), ap length (c .full))
 
+  order : LineStands m enteredCountAt enteredAt (paper01 .frames) (n .paging .entered)
+  order = entered-line (holds-pieces h) (h .mapped .swap-short) (h .mapped .entered-short)
+
   first : ℕ
   first = getD (n .paging .entered) 0 0
 
@@ -63,13 +68,11 @@ module _ {m : List ℕ} {n : Node} {r : List ℕ} (h : Holds m n r) (c : Crowded
   -- and they are read
   first-read : word m enteredAt ≡ first
   unfolding first
-  first-read =
-      stands-word m enteredAt (n .paging .entered) 0 (let l = many in omega arith) (paging-words (holds-pieces h) (h .mapped) .entered)
+  first-read = line-first order (omega (arith, many))
 
   second-read : word m (enteredAt + 1) ≡ second
   unfolding second
-  second-read =
-      stands-word m enteredAt (n .paging .entered) 1 (let l = many in omega arith) (paging-words (holds-pieces h) (h .mapped) .entered)
+  second-read = line-at order 1 (omega (arith, many))
 
   -- where the first is not spared, it is the victim
   unspared : spared n first ≡ false → first ≡ victim n

@@ -178,15 +178,15 @@ repaged-pledges r b =
 
 -- Numbers traded.
 
-traded-first : (p q x : ℕ) → x ≡ p → traded p q x ≡ q
+pub traded-first : (p q x : ℕ) → x ≡ p → traded p q x ≡ q
 unfolding traded
 traded-first p q x e = rw (eq-eqb x p e)
 
-traded-second : (p q x : ℕ) → x ≢ p → x ≡ q → traded p q x ≡ p
+pub traded-second : (p q x : ℕ) → x ≢ p → x ≡ q → traded p q x ≡ p
 unfolding traded
 traded-second p q x d e = rw (ne-eqb x p d, eq-eqb x q e)
 
-traded-other : (p q x : ℕ) → x ≢ p → x ≢ q → traded p q x ≡ x
+pub traded-other : (p q x : ℕ) → x ≢ p → x ≢ q → traded p q x ≡ x
 unfolding traded
 traded-other p q x d e = rw (ne-eqb x p d, ne-eqb x q e)
 
@@ -214,7 +214,7 @@ lists-traded p q (G ∷ Gs) =
 -- Counts.
 
 -- what is counted has what every element has
-count-in : (P : ℕ → Type 0) (k : ℕ) (xs : List ℕ) → Every P xs → 1 ≤ countOf k xs → P k
+pub count-in : (P : ℕ → Type 0) (k : ℕ) (xs : List ℕ) → Every P xs → 1 ≤ countOf k xs → P k
 count-in P k [] e h = absurd (omega arith)
 count-in P k (x ∷ xs) e h = go (ℕ-discrete x k) (count-in P k xs (e .1))
   where
@@ -349,7 +349,7 @@ module _ {b : Build} {n : Node} (s : Sound b n) where
       (once .0, (once .1, not-true (spared n (victim n)) (passes .1)))
 
   -- a page that leaves its frame or swap page leaves its words there
-  leaving-good : (p : ℕ) → Listed p n → GoodFrame b (leaving b p n)
+  pub leaving-good : (p : ℕ) → Listed p n → GoodFrame b (leaving b p n)
   unfolding leaving
   leaving-good p listed =
       let pages = concatMap (framesOf b) (n .groups) in

@@ -50,24 +50,28 @@ listing_agrees() {
     "$root/bin/$1" <"$2" >"$scratch/listing" && cmp -- "$scratch/listing" "${2%.script}.listing"
 }
 
-# vectors: leaves the paths of the scripts of vectors/base in `scripts`.
+# vectors FOLDER..: leaves the paths of the scripts of these folders of vectors/ in `scripts`.
 vectors() {
-    local listings
+    local folder found listings
+    scripts=()
     shopt -s nullglob
-    scripts=("$root"/vectors/base/*.script)
-    listings=("$root"/vectors/base/*.listing)
+    for folder in "$@"; do
+        found=("$root/vectors/$folder"/*.script)
+        listings=("$root/vectors/$folder"/*.listing)
+        scripts+=("${found[@]}")
+        check "vectors/$folder has scripts" test "${#found[@]}" -gt 0
+        check "each listing of vectors/$folder has its script" test "${#found[@]}" -eq "${#listings[@]}"
+    done
     shopt -u nullglob
-    check 'vectors/base has scripts' test "${#scripts[@]}" -gt 0
-    check 'each listing has its script' test "${#scripts[@]}" -eq "${#listings[@]}"
 }
 
-# listings PROGRAM: the scripts of vectors/base by a program.
+# listings PROGRAM: the scripts of vectors/ by a program.
 listings() {
     local script
-    vectors
-    printf '%s: %s scripts in vectors/base\n' "$1" "${#scripts[@]}"
+    vectors base order1
+    printf '%s: %s scripts in vectors/\n' "$1" "${#scripts[@]}"
     for script in "${scripts[@]}"; do
-        check "${script##*/}" listing_agrees "$1" "$script"
+        check "${script#"$root"/vectors/}" listing_agrees "$1" "$script"
     done
 }
 
@@ -83,15 +87,22 @@ put() {
 
 # The memory that the whole case leaves, written by docs/MEMORY.md.
 whole_case() {
-    head -c 11472 /dev/zero >"$scratch/memory"
+    head -c 32352 /dev/zero >"$scratch/memory"
     put "$scratch/memory" 0 2 0 0 32
     put "$scratch/memory" 164 {2..31} 0 1
-    put "$scratch/memory" 242 1
-    put "$scratch/memory" 564 1 7
-    put "$scratch/memory" 636 2 5 6
+    put "$scratch/memory" 306 1
+    put "$scratch/memory" 1076 1 7
+    put "$scratch/memory" 1148 2 5 6
+    put "$scratch/memory" 7988 64
+    put "$scratch/memory" 7992 {32..95}
 }
 
-# holds FILE: the judge tells the whole case's state of it, and no more.
+# holds FILE STATE: the judge tells this state of it, and no more.
 holds() {
-    "$root/bin/judge" --state "$1" >"$scratch/told" 2>"$scratch/message" && cmp -- "$scratch/told" "$root/examples/whole-case.state" && ! test -s "$scratch/message"
+    "$root/bin/judge" --state "$1" >"$scratch/told" 2>"$scratch/message" && cmp -- "$scratch/told" "$2" && ! test -s "$scratch/message"
+}
+
+# holds_whole_case FILE
+holds_whole_case() {
+    holds "$1" "$root/examples/whole-case.state"
 }

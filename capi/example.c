@@ -1,4 +1,4 @@
-/* A node from C: power-on, steps by letter and by line, the head message, and what is refused.
+/* A node from C: power-on, steps by letter and by line, the head message, pages sent out and brought in, and what is refused.
  *
  *     rt staticlib capi
  *     cc -std=c11 -Icapi capi/example.c target/staticlib/libcapi.a -o example && ./example
@@ -47,6 +47,27 @@ static void print_head(void) {
     }
 }
 
+static void print_paging(void) {
+    uint32_t paging[FUGU_PAGING];
+    if (fugu_paging(memory, FUGU_SIZE, paging, FUGU_PAGING) == FUGU_PAGING) {
+        printf("pages: %u sent out, %u brought in\n", paging[0], paging[1]);
+    }
+}
+
+/* Messages for group 2, which does not run, until its first page has gone out; then it runs. */
+static void fill_frames(void) {
+    const uint32_t word[] = {2, 9};
+    uint32_t report[FUGU_REPORT];
+    for (int i = 0; i < 257; i++) {
+        fugu_step(memory, FUGU_SIZE, 'A', word, 2, report, FUGU_REPORT);
+    }
+    print_report("257 times A,2,9", report);
+    print_paging();
+    line("S,2");
+    print_paging();
+    print_head();
+}
+
 int main(void) {
     uint32_t report[FUGU_REPORT];
     const uint32_t group[] = {1};
@@ -70,6 +91,8 @@ int main(void) {
     line("D");
     line("P,5");
     line("L,63");
+    print_paging();
+    fill_frames();
 
     step("S, no number", 'S', group, 0);
     step("Q", 'Q', group, 0);

@@ -7,8 +7,8 @@
  * longer; what stands behind the first FUGU_SIZE words is never touched. Memory may also be anything: a step on words that are no node is
  * refused.
  *
- * What a call has to tell, a report or where the head message stands, it writes into a part that the caller lends beside the memory, and
- * returns how many words it wrote there. Where the part is too short it returns 0, and neither the memory nor the part has changed. Words of
+ * What a call has to tell, a report, where the head message stands or how many pages went, it writes into a part that the caller lends beside
+ * the memory, and returns how many words it wrote there. Where the part is too short it returns 0, and neither the memory nor the part has changed. Words of
  * the part behind those written stay as they were.
  *
  * What a caller owes: each pointer is not null, is aligned for its type, and has as many words or bytes behind it as the length after it says,
@@ -28,9 +28,10 @@ extern "C" {
 #endif
 
 enum {
-    FUGU_SIZE = 2868,  /* the words of a node */
+    FUGU_SIZE = 8088,  /* the words of a node */
     FUGU_REPORT = 16,  /* the words of a report */
-    FUGU_HEAD = 2      /* the words that say where the head message stands */
+    FUGU_HEAD = 2,     /* the words that say where the head message stands */
+    FUGU_PAGING = 2    /* the words that say how many pages went to swap space and back */
 };
 
 /* Where each number stands in a report. Of a refused step all but the answer are 0. */
@@ -88,6 +89,10 @@ uint32_t fugu_line(uint32_t *FUGU_LENT memory, size_t memory_length, const uint8
 /* The running group's first message, where it stands: into the part go the index in the memory of its first word, and how many words it has,
  * 1 to 8; 0 and 0 where there is none or the memory is no node. */
 uint32_t fugu_head(const uint32_t *memory, size_t memory_length, uint32_t *FUGU_LENT part, size_t part_length);
+
+/* Pages that went to swap space and back: into the part go how many were sent out so far, and how many were brought in, an exchange being one
+ * of each. A count stays at 4,294,967,295 once there. 0 and 0 where the memory is no node. */
+uint32_t fugu_paging(const uint32_t *memory, size_t memory_length, uint32_t *FUGU_LENT part, size_t part_length);
 
 #undef FUGU_LENT
 

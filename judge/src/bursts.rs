@@ -2,7 +2,7 @@
 
 use std::collections::VecDeque;
 
-use crate::node::Node;
+use crate::node::{Node, FRAMES};
 use crate::random::Random;
 use crate::script::{self, LONGEST_LINE};
 
@@ -254,10 +254,64 @@ impl Lines {
         }
     }
 
-    /// Arrivals while nobody runs, until all frames are taken, and some more.
-    pub fn brim(&mut self) {
+    /// Arrivals for one group or two until no frame is free, and so many more that older pages are
+    /// sent out, at times all of them but the runner's first.
+    pub fn spill(&mut self) {
+        // A runner that is buffered leaves nothing in the hardware queue, as nobody does.
+        let runner = self.group();
+        let is_buffered = self.node.groups[runner as usize - 1].buffer.messages > 0;
+        self.switch_to(if is_buffered { runner } else { 0 });
+        // Last pages with room, which others push out.
+        for group in 1..=8 {
+            if group != self.running() {
+                self.arrival_for(group);
+            }
+        }
+        let groups = [self.group(), self.group()];
+        let (few, many) = (self.random.between(8, 60), self.random.between(240, 400));
+        let mut more = self.random.pick(&[few, many]);
+        while more > 0 && !self.node.swap_free.is_empty() {
+            if self.node.free.is_empty() {
+                more -= 1;
+            }
+            let group = self.random.pick(&groups);
+            self.arrival_for(group);
+        }
+    }
+
+    /// Messages for the groups whose last pages are out; at times a short line is emptied before, so
+    /// that a frame is free.
+    pub fn rewrite(&mut self) {
+        if self.random.one_in(3) {
+            self.take_over();
+        }
         self.switch_to(0);
-        while !self.node.free.is_empty() {
+        for group in 1..=8 {
+            if self.last_page_is_out(group) {
+                self.arrival_for(group);
+            }
+        }
+    }
+
+    fn last_page_is_out(&self, group: u64) -> bool {
+        let pages = &self.node.groups[group as usize - 1].buffer.pages;
+        pages.back().is_some_and(|&last| last >= FRAMES)
+    }
+
+    /// Arrivals until all frames are taken, and some more: the oldest pages are sent out.
+    pub fn fill(&mut self) {
+        self.arrivals_while(|node| !node.free.is_empty());
+    }
+
+    /// Arrivals until all pages are taken, and some more.
+    pub fn brim(&mut self) {
+        self.arrivals_while(|node| !(node.free.is_empty() && node.swap_free.is_empty()));
+    }
+
+    /// Nobody runs meanwhile.
+    fn arrivals_while(&mut self, has_room: fn(&Node) -> bool) {
+        self.switch_to(0);
+        while has_room(&self.node) {
             self.arrival();
         }
         for _ in 0..self.random.between(5, 40) {

@@ -1,9 +1,9 @@
-//! Which answers and traps scripts have met, operation by operation.
+//! Which answers and traps scripts have met, operation by operation, and what they did with pages.
 
 use std::fmt::{self, Display, Formatter};
 use std::io::{self, BufRead};
 
-use crate::node::{Refusal, Report};
+use crate::node::{Cause, Paging, Refusal, Report};
 use crate::script;
 
 /// The rows of the table: the operations' letters, then lines that ask for none.
@@ -25,6 +25,46 @@ const ANSWERS: usize = 16;
 const TRAPS: usize = 4;
 /// Answer 1 is the memory keeper's: no script can meet it.
 const NOT_A_NODE: usize = Refusal::NotANode as usize;
+
+/// All that a step can do with a page, in words.
+pub const PAGING: [(Paging, &str); 5] = [
+    (Paging::SentOut, "pages sent out"),
+    (
+        Paging::BroughtIn(Cause::Write),
+        "pages brought in to be written",
+    ),
+    (
+        Paging::Exchanged(Cause::Write),
+        "pages exchanged to be written",
+    ),
+    (Paging::BroughtIn(Cause::First), "first pages brought in"),
+    (Paging::Exchanged(Cause::First), "first pages exchanged"),
+];
+
+/// How often steps did each.
+#[derive(Clone, Default)]
+pub struct PagingCounts([u64; PAGING.len()]);
+
+impl PagingCounts {
+    pub fn add(&mut self, report: &Report) {
+        for done in &report.paging {
+            let at = PAGING.iter().position(|(paging, _)| paging == done);
+            self.0[at.expect("all that a step can do")] += 1;
+        }
+    }
+
+    /// What no step did.
+    pub fn missing(&self) -> impl Iterator<Item = &'static str> + '_ {
+        let counts = PAGING.iter().zip(self.0);
+        counts.filter_map(|((_, name), count)| (count == 0).then_some(*name))
+    }
+
+    /// A line for each, the counts as wide as asked for.
+    pub fn lines(&self, width: usize) -> impl Iterator<Item = String> + '_ {
+        let counts = PAGING.iter().zip(self.0);
+        counts.map(move |((_, name), count)| format!("{count:>width$} {name}"))
+    }
+}
 
 #[derive(Clone, Default)]
 struct Row {
@@ -61,6 +101,7 @@ impl Row {
 #[derive(Clone, Default)]
 pub struct Counts {
     rows: [Row; ROWS.len()],
+    paging: PagingCounts,
 }
 
 impl Counts {
@@ -79,6 +120,7 @@ impl Counts {
         if report.accepted() {
             row.traps[report.trap as usize] += 1;
         }
+        self.paging.add(report);
     }
 
     fn sum(&self) -> Row {
@@ -93,7 +135,7 @@ impl Counts {
         self.sum().answers.iter().sum()
     }
 
-    /// The answers 2 to 15 and traps 0 to 3 that were not met.
+    /// The answers 2 to 15, the traps 0 to 3 and what is done with pages that were not met.
     pub fn missing(&self) -> Vec<String> {
         let sum = self.sum();
         let answers = (2..ANSWERS).filter(|&answer| sum.answers[answer] == 0);
@@ -101,6 +143,7 @@ impl Counts {
         answers
             .map(|answer| format!("answer {answer}"))
             .chain(traps.map(|trap| format!("trap {trap}")))
+            .chain(self.paging.missing().map(str::to_string))
             .collect()
     }
 }
@@ -131,6 +174,7 @@ impl Display for Counts {
                 write!(f, "{count:>width$}")?;
             }
         }
-        Ok(())
+        let mut paging = self.paging.lines(10 + width);
+        paging.try_for_each(|line| write!(f, "\n{line}"))
     }
 }

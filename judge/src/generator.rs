@@ -14,7 +14,7 @@ pub struct Flavour {
     last_newline: bool,
 }
 
-pub static FLAVOURS: [Flavour; 10] = [
+pub static FLAVOURS: [Flavour; 12] = [
     Flavour {
         name: "uniform",
         about: "every operation equally often",
@@ -29,7 +29,7 @@ pub static FLAVOURS: [Flavour; 10] = [
     },
     Flavour {
         name: "arrivals",
-        about: "the hardware queue and the frames filled to the brim",
+        about: "the hardware queue and all pages filled to the brim",
         bursts: &[
             (1, Lines::brim),
             (2, Lines::flood),
@@ -37,6 +37,36 @@ pub static FLAVOURS: [Flavour; 10] = [
             (2, Lines::drain),
             (1, Lines::clear),
             (1, Lines::odd_arrival),
+            (1, Lines::any),
+        ],
+        last_newline: true,
+    },
+    Flavour {
+        name: "swap",
+        about: "pages sent out and brought in, to be written and to be read",
+        bursts: &[
+            (1, Lines::brim),
+            (6, Lines::spill),
+            (9, Lines::rewrite),
+            (12, Lines::switch),
+            (2, Lines::drain),
+            (1, Lines::read_out),
+            (4, Lines::clear),
+            (1, Lines::any),
+        ],
+        last_newline: true,
+    },
+    Flavour {
+        name: "swaptime",
+        about: "the hardware queue drained by timeouts and switches with no frame free",
+        bursts: &[
+            (3, Lines::spill),
+            (2, Lines::rewrite),
+            (5, Lines::crowd),
+            (2, Lines::hog),
+            (2, Lines::brink),
+            (2, Lines::exchange),
+            (1, Lines::clear),
             (1, Lines::any),
         ],
         last_newline: true,
@@ -98,11 +128,11 @@ pub static FLAVOURS: [Flavour; 10] = [
     },
     Flavour {
         name: "mixed",
-        about: "every burst of the others",
+        about: "every burst of the others but those that fill the swap pages",
         bursts: &[
             (12, Lines::any),
             (2, Lines::serve),
-            (1, Lines::brim),
+            (1, Lines::fill),
             (2, Lines::flood),
             (2, Lines::crowd),
             (3, Lines::drain),

@@ -1,4 +1,4 @@
-//! The judge: the paper's node written a second time, from the paper alone.
+//! The judge: the papers' node written a second time, from the papers alone.
 //!
 //! - [`node`]: the node as ordinary records, its operations, refusals, settling and upcall.
 //! - [`memory`]: the same node in lent memory, where docs/MEMORY.md puts it, the memory test, and
@@ -6,7 +6,7 @@
 //! - [`state`]: what a node holds, as text, and a node read from the bytes of its memory.
 //! - [`script`]: a script's lines read to operations, reports written as a listing.
 //! - [`generator`]: random scripts in flavours, made of bursts and fixed by a seed.
-//! - [`counts`]: which answers and traps scripts have met.
+//! - [`counts`]: which answers and traps scripts have met, and what they did with pages.
 //! - [`feed`]: a script on its way to the judge and to a program at once.
 //! - [`comparison`]: a program's listing held against the judge's.
 //! - [`program`]: what the programs share.

@@ -1,5 +1,5 @@
-//! The judge's program: a script on standard input, its listing on standard output; or what a node's
-//! memory in a file holds.
+//! The judge's program: a script on standard input, its listing on standard output, or what the node
+//! holds after it; or what a node's memory in a file holds.
 
 use std::ffi::OsStr;
 use std::fs::File;
@@ -9,22 +9,24 @@ use std::process::ExitCode;
 
 use judge::node::Node;
 use judge::program::{failed, finish, misused, print, unread};
-use judge::script::write_listing;
+use judge::script::{self, write_listing};
 use judge::state;
 
 const NAME: &str = "judge";
 const USAGE: &str = "\
 usage: bin/judge < SCRIPT > LISTING
+       bin/judge --after < SCRIPT
        bin/judge --state FILE
        bin/judge --help
 
-Reads a script from standard input and writes its listing to standard output.
+Reads a script from standard input and writes its listing to standard output; with --after, what the
+node holds after the last line, one fact a line.
 
 With --state it reads a node's memory from FILE, 32-bit words with the lowest byte first as
-docs/MEMORY.md has them, and tells what the node holds, one fact a line. Words past the node's 2868
-are not looked at; a file whose last word is cut short is no node. If the memory is no node, it tells
-the first clause of \"Memory is a node when\" that fails and the words that break it, each with its
-address and value, and the exit status is 1. It is 2 if the call is wrong or FILE can't be read.";
+docs/MEMORY.md has them, and tells the same of it. Words past the node's 8088 are not looked at; a
+file whose last word is cut short is no node. If the memory is no node, it tells the first clause of
+\"Memory is a node when\" that fails and the words that break it, each with its address and value,
+and the exit status is 1. It is 2 if the call is wrong or FILE can't be read.";
 
 fn main() -> ExitCode {
     let arguments: Vec<_> = std::env::args_os().skip(1).collect();
@@ -32,6 +34,7 @@ fn main() -> ExitCode {
     match arguments.as_slice() {
         [] => finish(NAME, list()),
         [help] if *help == "--help" => finish(NAME, print(USAGE)),
+        [after] if *after == "--after" => finish(NAME, tell_after()),
         [state] if *state == "--state" => misused(NAME, "--state needs a FILE", USAGE),
         [state, file] if *state == "--state" => tell_state(Path::new(file)),
         _ => misused(NAME, "wrong arguments", USAGE),
@@ -43,6 +46,11 @@ fn list() -> io::Result<ExitCode> {
     write_listing(io::stdin().lock(), &mut output)?;
     output.flush()?;
     Ok(ExitCode::SUCCESS)
+}
+
+fn tell_after() -> io::Result<ExitCode> {
+    let node = script::run(io::stdin().lock(), |_, _| Ok::<(), io::Error>(()))?;
+    write_state(&node)
 }
 
 fn tell_state(file: &Path) -> ExitCode {

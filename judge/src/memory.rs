@@ -7,15 +7,16 @@ mod map;
 pub mod trials;
 
 pub use clauses::{broken_clause, clauses, Fault};
-pub use map::{what_stands_at, FRAMES_AT, SIZE};
+pub use map::{what_stands_at, PAGES_AT, SIZE};
 
+use std::collections::VecDeque;
 use std::ops::Range;
 
-use crate::node::{Frame, Group, Message, Node, Operation, Place, Refusal, Report};
+use crate::node::{Group, Message, Node, Operation, Page, Place, Refusal, Report};
 use map::{
-    group_at, message, place_at, queued_at, Record, Words, ATOMIC, DESCRIPTOR_AT, DESCRIPTOR_COUNT,
-    FREE_AT, FREE_COUNT, LIST_AT, LIST_COUNT, MESSAGES, PENDING, PLACE_WORDS, QUEUE_COUNT, RUNNING,
-    TIMER, USED_UP,
+    group_at, message, place_at, queued_at, Record, Words, ATOMIC, BROUGHT_IN, DESCRIPTOR_AT,
+    DESCRIPTOR_COUNT, ENTRY_AT, ENTRY_COUNT, FREE_AT, FREE_COUNT, LIST_AT, LIST_COUNT, MESSAGES,
+    PENDING, PLACE_WORDS, QUEUE_COUNT, RUNNING, SENT_OUT, SWAP_AT, SWAP_COUNT, TIMER, USED_UP,
 };
 
 /// Makes the memory a node at power-on. "Power-on tests only the size."
@@ -53,6 +54,11 @@ pub fn head_part(memory: &[u32]) -> Range<usize> {
     first.map_or(0..0, |at| at + 1..at + 1 + memory[at] as usize)
 }
 
+/// "A separate call gives pages sent out and brought in so far"; zeros where the memory is no node.
+pub fn paging(memory: &[u32]) -> [u32; 2] {
+    clauses::test(memory).map_or([0, 0], |words| [words.sent_out(), words.brought_in()])
+}
+
 /// The records that stand in the memory, or why it is no node.
 pub fn read(memory: &[u32]) -> Result<Node, Fault> {
     let words = clauses::test(memory)?;
@@ -60,9 +66,14 @@ pub fn read(memory: &[u32]) -> Result<Node, Fault> {
         running: words.running(),
         timer: words.timer(),
         queue: words.queued().map(|at| read_queued(&words, at)).collect(),
-        free: words.free().iter().map(|&frame| frame as usize).collect(),
+        free: read_numbers(&words.0[words.free_line()]),
+        swap_free: read_numbers(&words.0[words.swap_line()]),
+        entry: read_numbers(&words.0[words.entry_order()]),
+        sent_out: words.sent_out(),
+        brought_in: words.brought_in(),
         groups: std::array::from_fn(|at| read_group(&words.group(at + 1))),
-        frames: std::array::from_fn(|frame| read_frame(&words, frame)),
+        pages: std::array::from_fn(|page| read_page(&words, page)),
+        paging: Vec::new(),
     })
 }
 
@@ -82,13 +93,17 @@ fn read_group(record: &Record) -> Group {
     };
     group.buffer.used_up = record.used_up() as usize;
     group.buffer.messages = record.messages() as usize;
-    group.buffer.frames = record.list().iter().map(|&frame| frame as usize).collect();
+    group.buffer.pages = read_numbers(record.list());
     group
 }
 
-fn read_frame(words: &Words, frame: usize) -> Frame {
+fn read_numbers(words: &[u32]) -> VecDeque<usize> {
+    words.iter().map(|&number| number as usize).collect()
+}
+
+fn read_page(words: &Words, page: usize) -> Page {
     std::array::from_fn(|place| {
-        let kept = words.kept(place_at(frame, place));
+        let kept = words.kept(place_at(page, place));
         Place {
             length: kept[0],
             words: std::array::from_fn(|word| kept[1 + word]),
@@ -111,15 +126,21 @@ fn write(node: &Node, memory: &mut [u32]) {
     memory[TIMER] = node.timer;
     memory[QUEUE_COUNT] = node.queue.len() as u32;
     memory[FREE_COUNT] = node.free.len() as u32;
+    memory[SWAP_COUNT] = node.swap_free.len() as u32;
+    memory[ENTRY_COUNT] = node.entry.len() as u32;
+    memory[SENT_OUT] = node.sent_out;
+    memory[BROUGHT_IN] = node.brought_in;
     for (place, message) in node.queue.iter().enumerate() {
         write_queued(message, &mut memory[queued_at(place)..]);
     }
-    write_frame_numbers(&node.free, &mut memory[FREE_AT..]);
+    write_numbers(&node.free, &mut memory[FREE_AT..]);
+    write_numbers(&node.swap_free, &mut memory[SWAP_AT..]);
+    write_numbers(&node.entry, &mut memory[ENTRY_AT..]);
     for (at, group) in node.groups.iter().enumerate() {
         write_group(group, &mut memory[group_at(at + 1)..]);
     }
-    for (number, frame) in node.frames.iter().enumerate() {
-        write_frame(frame, &mut memory[place_at(number, 0)..]);
+    for (number, page) in node.pages.iter().enumerate() {
+        write_page(page, &mut memory[place_at(number, 0)..]);
     }
 }
 
@@ -134,21 +155,21 @@ fn write_group(group: &Group, words: &mut [u32]) {
     words[PENDING] = group.pending.into();
     words[USED_UP] = group.buffer.used_up as u32;
     words[MESSAGES] = group.buffer.messages as u32;
-    words[LIST_COUNT] = group.buffer.frames.len() as u32;
+    words[LIST_COUNT] = group.buffer.pages.len() as u32;
     words[DESCRIPTOR_COUNT] = group.descriptor.len() as u32;
     words[DESCRIPTOR_AT..][..group.descriptor.len()].copy_from_slice(&group.descriptor);
-    write_frame_numbers(&group.buffer.frames, &mut words[LIST_AT..]);
+    write_numbers(&group.buffer.pages, &mut words[LIST_AT..]);
 }
 
-fn write_frame(frame: &Frame, words: &mut [u32]) {
-    for (place, words) in frame.iter().zip(words.chunks_exact_mut(PLACE_WORDS)) {
+fn write_page(page: &Page, words: &mut [u32]) {
+    for (place, words) in page.iter().zip(words.chunks_exact_mut(PLACE_WORDS)) {
         words[0] = place.length;
         words[1..].copy_from_slice(&place.words);
     }
 }
 
-fn write_frame_numbers<'a>(frames: impl IntoIterator<Item = &'a usize>, words: &mut [u32]) {
-    for (word, &frame) in words.iter_mut().zip(frames) {
-        *word = frame as u32;
+fn write_numbers(numbers: &VecDeque<usize>, words: &mut [u32]) {
+    for (word, &number) in words.iter_mut().zip(numbers) {
+        *word = number as u32;
     }
 }

@@ -1,4 +1,5 @@
-//! The paper's "The node" as ordinary records, and its "Each step".
+//! The paper's "The node" as ordinary records, and its "Each step", with the orders that have changed
+//! them: order 1, swap space.
 
 use std::collections::VecDeque;
 
@@ -10,8 +11,13 @@ pub const MESSAGE_WORDS: usize = 8;
 pub const QUEUE_PLACES: usize = 16;
 /// "There are 32 page frames."
 pub const FRAMES: usize = 32;
-/// "A frame holds 8 messages."
-pub const FRAME_PLACES: usize = 8;
+/// "there are now 64 swap pages"
+pub const SWAP_PAGES: usize = 64;
+/// Where a page can be: in a frame, numbered below [`FRAMES`], or in a swap page, numbered from there
+/// on. "Answer 6 and the memory test now read 96 for 32."
+pub const PAGES: usize = FRAMES + SWAP_PAGES;
+/// "A frame holds 8 messages." "Pages go whole", so a swap page does too.
+pub const PAGE_PLACES: usize = 8;
 /// "a descriptor of 0 to 8 words"
 pub const DESCRIPTOR_WORDS: usize = 8;
 /// "At 256: timeout"
@@ -59,7 +65,7 @@ pub enum Refusal {
     ArrivalGroup = 3,
     ArrivalWords = 4,
     QueueFull = 5,
-    FramesPledged = 6,
+    PagesPledged = 6,
     NobodyRuns = 7,
     LineEmpty = 8,
     PastMessage = 9,
@@ -89,6 +95,23 @@ pub struct Launched {
     pub words: Vec<u32>,
 }
 
+/// What a step does with one page. No listing tells it; it is counted, so that scripts are seen to
+/// meet each.
+#[derive(Clone, Copy, Debug, PartialEq, Eq)]
+pub enum Paging {
+    SentOut,
+    /// Into a free frame.
+    BroughtIn(Cause),
+    Exchanged(Cause),
+}
+
+/// Why a page is brought in: "before it is written", or as "a running group's first page".
+#[derive(Clone, Copy, Debug, PartialEq, Eq)]
+pub enum Cause {
+    Write,
+    First,
+}
+
 /// A step's report. Its default is that of an accepted step of which nothing is to be told.
 #[derive(Clone, Debug, Default, PartialEq, Eq)]
 pub struct Report {
@@ -98,6 +121,8 @@ pub struct Report {
     pub upcall: u32,
     pub moved: u32,
     pub launched: Option<Launched>,
+    /// In the order in which it happened; no part of the listing.
+    pub paging: Vec<Paging>,
 }
 
 impl Report {
@@ -135,7 +160,7 @@ pub struct Message {
     pub words: Vec<u32>,
 }
 
-/// One of a frame's eight places. A place that holds no waiting message keeps its last length and
+/// One of a page's eight places. A place that holds no waiting message keeps its last length and
 /// words: "Freed words, and the length kept with each message, stay unchanged."
 #[derive(Clone, Copy, Debug, Default, PartialEq, Eq)]
 pub struct Place {
@@ -158,47 +183,41 @@ impl Place {
     }
 }
 
-pub type Frame = [Place; FRAME_PLACES];
+pub type Page = [Place; PAGE_PLACES];
 
-/// "Each group has a virtual buffer: a list of frames, filled in order."
+/// "Each group has a virtual buffer: a list of frames, filled in order." Some of its pages may be in
+/// swap pages now.
 #[derive(Clone, Debug, Default, PartialEq, Eq)]
 pub struct Buffer {
     /// h: "the used-up places before the first".
     pub used_up: usize,
     /// n: "its messages".
     pub messages: usize,
-    pub frames: VecDeque<usize>,
+    pub pages: VecDeque<usize>,
 }
 
 impl Buffer {
-    /// Where the messages stand: a frame, and a place in it.
+    /// Where the messages stand: a page, and a place in it.
     fn places(&self) -> impl Iterator<Item = (usize, usize)> + '_ {
         let places = self.used_up..self.used_up + self.messages;
-        places.map(|place| (self.frames[place / FRAME_PLACES], place % FRAME_PLACES))
+        places.map(|place| (self.pages[place / PAGE_PLACES], place % PAGE_PLACES))
     }
 
-    /// The place after the last message; a frame is taken from the free line's front if the list
-    /// has no room for it.
-    fn next_place(&mut self, free: &mut VecDeque<usize>) -> (usize, usize) {
-        let place = self.used_up + self.messages;
-        if place == self.frames.len() * FRAME_PLACES {
-            // Settling keeps every pledge, and the pledges are never above the frames.
-            self.frames
-                .push_back(free.pop_front().expect("a frame was pledged"));
-        }
-        self.messages += 1;
-        (self.frames[place / FRAME_PLACES], place % FRAME_PLACES)
+    /// The place in the last page that the next message goes to; 0 is that of a page to come.
+    fn next_place(&self) -> usize {
+        (self.used_up + self.messages) % PAGE_PLACES
     }
 
-    /// Uses up the first message's place. "A frame whose places are all used up is freed; when n
-    /// becomes 0 its last frame is freed too", and joins the free line's end.
-    fn use_up_first(&mut self, free: &mut VecDeque<usize>) {
+    /// Uses up the first message's place, and hands back the page that is left: "A frame whose places
+    /// are all used up is freed; when n becomes 0 its last frame is freed too."
+    fn use_up_first(&mut self) -> Option<usize> {
         self.used_up += 1;
         self.messages -= 1;
-        if self.messages == 0 || self.used_up == FRAME_PLACES {
-            self.used_up = 0;
-            free.extend(self.frames.pop_front());
+        if self.messages > 0 && self.used_up < PAGE_PLACES {
+            return None;
         }
+        self.used_up = 0;
+        self.pages.pop_front()
     }
 }
 
@@ -211,9 +230,9 @@ pub struct Group {
     pub descriptor: Vec<u32>,
 }
 
-/// "(h + n + k) / 8 rounded up": the frames that so many places ask for.
-pub fn frames_for(places: u64) -> u64 {
-    places.div_ceil(FRAME_PLACES as u64)
+/// "(h + n + k) / 8 rounded up": the pages that so many places ask for.
+pub fn pages_for(places: u64) -> u64 {
+    places.div_ceil(PAGE_PLACES as u64)
 }
 
 #[derive(Clone, Debug, PartialEq, Eq)]
@@ -223,22 +242,36 @@ pub struct Node {
     pub timer: u32,
     pub queue: VecDeque<Message>,
     pub free: VecDeque<usize>,
+    /// "swap pages are taken and freed in a line, as frames are"
+    pub swap_free: VecDeque<usize>,
+    /// "the order of entry into frames": the frames in use, the one that was entered first first.
+    pub entry: VecDeque<usize>,
+    /// "pages sent out and brought in so far (an exchange is one of each)"
+    pub sent_out: u32,
+    pub brought_in: u32,
     /// Group g stands at g - 1.
     pub groups: [Group; GROUPS],
-    pub frames: [Frame; FRAMES],
+    pub pages: [Page; PAGES],
+    /// What the step under way has done with pages so far: nothing between steps.
+    pub(crate) paging: Vec<Paging>,
 }
 
 impl Node {
     /// "At power-on nobody runs, every queue, buffer, flag and descriptor is empty or off, all
-    /// message words are 0." The free line is 0 to 31.
+    /// message words are 0." The free line is 0 to 31, the swap line all swap pages in order.
     pub fn power_on() -> Self {
         Node {
             running: 0,
             timer: 0,
             queue: VecDeque::new(),
             free: (0..FRAMES).collect(),
+            swap_free: (FRAMES..PAGES).collect(),
+            entry: VecDeque::new(),
+            sent_out: 0,
+            brought_in: 0,
             groups: Default::default(),
-            frames: Default::default(),
+            pages: [Page::default(); PAGES],
+            paging: Vec::new(),
         }
     }
 
@@ -250,7 +283,9 @@ impl Node {
         }
         let mut report = self.act(operation);
         report.moved += self.settle();
+        self.bring_in_first();
         report.upcall = self.upcall();
+        report.paging = std::mem::take(&mut self.paging);
         report
     }
 
@@ -260,7 +295,7 @@ impl Node {
             .checked_sub(1)
             .into_iter()
             .flat_map(|at| self.groups[at].buffer.places())
-            .map(|(frame, place)| self.frames[frame][place].message());
+            .map(|(page, place)| self.pages[page][place].message());
         let queued = self
             .queue
             .iter()
@@ -273,7 +308,7 @@ impl Node {
     fn pledge(&self, group: usize, more: usize) -> u64 {
         let buffer = &self.groups[group - 1].buffer;
         let queued = self.queue.iter().filter(|m| m.group == group).count();
-        frames_for((buffer.used_up + buffer.messages + queued + more) as u64)
+        pages_for((buffer.used_up + buffer.messages + queued + more) as u64)
     }
 
     /// "A group is buffered while n is above 0, else direct."
@@ -304,8 +339,8 @@ impl Node {
             Some(Refusal::ArrivalWords)
         } else if self.queue.len() == QUEUE_PLACES {
             Some(Refusal::QueueFull)
-        } else if self.pledges_with(group as usize) > FRAMES as u64 {
-            Some(Refusal::FramesPledged)
+        } else if self.pledges_with(group as usize) > PAGES as u64 {
+            Some(Refusal::PagesPledged)
         } else {
             None
         }
@@ -418,8 +453,10 @@ impl Node {
         self.timer = 0;
         self.running_group().pending = false;
         if self.is_buffered(self.running) {
-            let buffer = &mut self.groups[self.running - 1].buffer;
-            buffer.use_up_first(&mut self.free);
+            if let Some(frame) = self.running_group().buffer.use_up_first() {
+                self.entry.retain(|&entered| entered != frame);
+                self.free.push_back(frame);
+            }
             Report::of_trap(Trap::DisposeExtend)
         } else {
             // Settled: the head of the queue is the running group's.
@@ -479,9 +516,106 @@ impl Node {
     /// Moves the head of the hardware queue to the end of its group's buffer.
     fn buffer_head(&mut self) {
         let head = self.queue.pop_front().expect("the queue has a head");
+        let page = self.page_to_write(head.group);
         let buffer = &mut self.groups[head.group - 1].buffer;
-        let (frame, place) = buffer.next_place(&mut self.free);
-        self.frames[frame][place] = Place::holding(&head.words);
+        self.pages[page][buffer.next_place()] = Place::holding(&head.words);
+        buffer.messages += 1;
+    }
+
+    /// The frame with the page that the group's next message is written to: a new page, or its last,
+    /// which "is brought in before it is written".
+    fn page_to_write(&mut self, group: usize) -> usize {
+        let buffer = &self.groups[group - 1].buffer;
+        match buffer.pages.back() {
+            Some(&last) if buffer.next_place() > 0 => self.brought_in(last, Cause::Write),
+            _ => {
+                let frame = self.taken_frame();
+                self.groups[group - 1].buffer.pages.push_back(frame);
+                frame
+            }
+        }
+    }
+
+    /// A frame for a new page. "A page needed when no frame is free sends out the page that has been
+    /// in a frame longest."
+    fn taken_frame(&mut self) -> usize {
+        if self.free.is_empty() {
+            self.send_out();
+        }
+        let frame = self.free.pop_front().expect("a frame is free");
+        self.entry.push_back(frame);
+        frame
+    }
+
+    fn send_out(&mut self) {
+        let frame = self.left_by_victim();
+        // Settling keeps every pledge, and the pledges are never above the pages.
+        let swap = self.swap_free.pop_front().expect("a page was pledged");
+        self.pages[swap] = self.pages[frame];
+        self.trade(frame, swap);
+        self.free.push_back(frame);
+        self.paging.push(Paging::SentOut);
+    }
+
+    /// "once settling is done, a running group's first page"
+    fn bring_in_first(&mut self) {
+        if let Some(first) = self.runners_first_page() {
+            self.brought_in(first, Cause::First);
+        }
+    }
+
+    fn runners_first_page(&self) -> Option<usize> {
+        let group = &self.groups[self.running.checked_sub(1)?];
+        group.buffer.pages.front().copied()
+    }
+
+    /// The frame that a page is in, once it is brought in where it was not: "exchanged with the one so
+    /// chosen if no frame is free".
+    fn brought_in(&mut self, page: usize, cause: Cause) -> usize {
+        if page < FRAMES {
+            return page;
+        }
+        let (frame, paging) = match self.free.pop_front() {
+            Some(frame) => {
+                self.pages[frame] = self.pages[page];
+                self.swap_free.push_back(page);
+                (frame, Paging::BroughtIn(cause))
+            }
+            None => {
+                let frame = self.left_by_victim();
+                self.pages.swap(frame, page);
+                (frame, Paging::Exchanged(cause))
+            }
+        };
+        self.trade(frame, page);
+        self.entry.push_back(frame);
+        count(&mut self.brought_in);
+        self.paging.push(paging);
+        frame
+    }
+
+    /// The frame of the page to go: "the page that has been in a frame longest, except the running
+    /// group's first page and the page being written". The latter is new or in a swap page, so in no
+    /// frame yet.
+    fn left_by_victim(&mut self) -> usize {
+        let first = self.runners_first_page();
+        let oldest = self.entry.iter().position(|&frame| Some(frame) != first);
+        count(&mut self.sent_out);
+        oldest
+            .and_then(|at| self.entry.remove(at))
+            .expect("all frames are in use, and one at most is spared")
+    }
+
+    /// The lists name the one page where they named the other: each goes where the other was.
+    fn trade(&mut self, one: usize, other: usize) {
+        let lists = self.groups.iter_mut().map(|group| &mut group.buffer.pages);
+        for page in lists.flatten() {
+            if *page == one {
+                *page = other;
+            } else if *page == other {
+                *page = one;
+            }
+        }
     }
 
     /// "if the running group isn't atomic and its line isn't empty, it becomes atomic and pending,
@@ -495,4 +629,9 @@ impl Node {
         group.pending = true;
         self.running as u32
     }
+}
+
+/// "each count staying at 4,294,967,295 once there"
+fn count(so_far: &mut u32) {
+    *so_far = so_far.saturating_add(1);
 }

@@ -1,5 +1,5 @@
 //! What the programs share: their arguments, how they end, where the project's own program is, and
-//! the script that they are measured with.
+//! the scripts that they are measured with.
 
 use std::fs;
 use std::io::{self, ErrorKind, Write};
@@ -8,7 +8,9 @@ use std::process::{Command, ExitCode, Stdio};
 
 use crate::generator::Flavour;
 
-/// The measured script, if none is named: random, of so many lines.
+/// The measured scripts, if none is named: random ones, the first without much use of swap space, the
+/// second with the frames full most of the time.
+const MEASURED_FLAVOURS: [&str; 2] = ["mixed", "swap"];
 const MEASURED_SEED: u64 = 1998;
 const MEASURED_LINES: u64 = 1_000_000;
 /// What tests the memory before every step is measured with the lines that end in the script's
@@ -88,13 +90,31 @@ pub fn fugu(project: &Path) -> Result<PathBuf, String> {
     }
 }
 
-/// The script of a file, or a mixed random one.
-pub fn measured_script(path: Option<&str>) -> Result<Vec<u8>, String> {
-    match path {
-        Some(path) => fs::read(path).map_err(|error| format!("{path}: {error}")),
-        None => {
-            let mixed = Flavour::named("mixed").expect("a flavour of this name");
-            Ok(mixed.script(MEASURED_SEED, MEASURED_LINES))
+/// A script to measure with, and what it is called.
+pub struct Measured {
+    pub name: String,
+    pub script: Vec<u8>,
+}
+
+impl Measured {
+    /// The script of a file, or random ones.
+    pub fn scripts(path: Option<&str>) -> Result<Vec<Measured>, String> {
+        let Some(path) = path else {
+            return Ok(MEASURED_FLAVOURS
+                .iter()
+                .map(|name| Measured::random(name))
+                .collect());
+        };
+        let script = fs::read(path).map_err(|error| format!("{path}: {error}"))?;
+        let name = path.to_string();
+        Ok(vec![Measured { name, script }])
+    }
+
+    fn random(name: &str) -> Self {
+        let flavour = Flavour::named(name).expect("a flavour of this name");
+        Measured {
+            name: name.to_string(),
+            script: flavour.script(MEASURED_SEED, MEASURED_LINES),
         }
     }
 }

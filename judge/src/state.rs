@@ -1,14 +1,15 @@
 //! What a node holds, one fact a line, in words that know no memory map.
 //!
 //! The lines: `running`, `timer`, the hardware queue's messages from the head on, the free line from
-//! the front on, the groups, and every place of a frame that is not 0 throughout. A list's pages
-//! stand with the letter of where they are, f for a frame.
+//! the front on, the order of entry, the swap line from the front on, the counts of pages sent out
+//! and brought in, the groups, and every place of a page that is not 0 throughout. A page stands with
+//! the letter of where it is, f for a frame and s for a swap page.
 
 use std::fmt::{self, Display, Formatter};
 use std::io::{self, Read, Write};
 
 use crate::memory::{self, Fault, SIZE};
-use crate::node::{Group, Message, Node, Place, MESSAGE_WORDS};
+use crate::node::{Group, Message, Node, Place, FRAMES, MESSAGE_WORDS};
 
 /// The bytes of a memory's word, the lowest first.
 const WORD_BYTES: usize = 4;
@@ -57,14 +58,19 @@ pub fn write(node: &Node, output: &mut impl Write) -> io::Result<()> {
         writeln!(output, "queued {} words{words}", message.group)?;
     }
     writeln!(output, "free{}", joined(&node.free))?;
+    writeln!(output, "entry{}", joined(&node.entry))?;
+    let swap_free = node.swap_free.iter().map(|page| page - FRAMES);
+    writeln!(output, "swap-free{}", joined(swap_free))?;
+    writeln!(output, "out {} in {}", node.sent_out, node.brought_in)?;
     for (at, group) in node.groups.iter().enumerate() {
         writeln!(output, "group {}{}", at + 1, facts(group))?;
     }
-    for (number, frame) in node.frames.iter().enumerate() {
-        for (at, place) in frame.iter().enumerate() {
+    for (number, page) in node.pages.iter().enumerate() {
+        let name = page_name(number);
+        for (at, place) in page.iter().enumerate() {
             if *place != Place::default() {
                 let (length, words) = (place.length, joined(place.words));
-                writeln!(output, "f{number} place {at} length {length} words{words}")?;
+                writeln!(output, "{name} place {at} length {length} words{words}")?;
             }
         }
     }
@@ -81,14 +87,17 @@ fn padded(message: &Message) -> [u32; MESSAGE_WORDS] {
 fn facts(group: &Group) -> String {
     let [atomic, pending] = [group.atomic, group.pending].map(u32::from);
     let (h, n) = (group.buffer.used_up, group.buffer.messages);
-    let pages: Vec<String> = group
-        .buffer
-        .frames
-        .iter()
-        .map(|f| format!("f{f}"))
-        .collect();
-    let (pages, descriptor) = (joined(&pages), joined(&group.descriptor));
+    let pages = joined(group.buffer.pages.iter().map(|&page| page_name(page)));
+    let descriptor = joined(&group.descriptor);
     format!(" atomic {atomic} pending {pending} h {h} n {n} pages{pages} descriptor{descriptor}")
+}
+
+/// The letter of where a page is, and its number there.
+fn page_name(page: usize) -> String {
+    match page.checked_sub(FRAMES) {
+        None => format!("f{page}"),
+        Some(swap) => format!("s{swap}"),
+    }
 }
 
 /// Each with a blank before it.

@@ -7,6 +7,7 @@ use crate::asked::Asked;
 pub trait Calls {
     fn test(&self, memory: &[u32]) -> u32;
     fn head(&self, memory: &[u32], part: &mut [u32]) -> u32;
+    fn paging(&self, memory: &[u32], part: &mut [u32]) -> u32;
     fn ask(&self, asked: &Asked, memory: &mut [u32], part: &mut [u32]) -> u32;
 }
 
@@ -20,6 +21,10 @@ impl Calls for Proved {
 
     fn head(&self, memory: &[u32], part: &mut [u32]) -> u32 {
         fugu::calls::head(memory, part)
+    }
+
+    fn paging(&self, memory: &[u32], part: &mut [u32]) -> u32 {
+        fugu::calls::paging(memory, part)
     }
 
     fn ask(&self, asked: &Asked, memory: &mut [u32], part: &mut [u32]) -> u32 {

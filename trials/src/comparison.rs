@@ -4,7 +4,7 @@ use std::fmt::{self, Display, Formatter};
 use std::ops::Range;
 
 use fugu::REPORT;
-use judge::memory::{broken_clause, head_part, what_stands_at};
+use judge::memory::{broken_clause, head_part, paging, what_stands_at};
 use judge::node::Report;
 
 use crate::calls::Calls;
@@ -31,6 +31,8 @@ pub struct Met {
     /// The clause by which it is no node.
     pub clause: Option<&'static str>,
     pub head: Range<usize>,
+    /// Pages sent out and brought in before the step.
+    pub paging: [u32; 2],
     /// None where the part had no room for it.
     pub report: Option<Report>,
 }
@@ -45,8 +47,8 @@ impl Display for Difference {
     }
 }
 
-/// The test and the head of a memory, then what it is asked; all words of the part and of the memory
-/// are held against the judge's.
+/// The test, the head and the counts of pages of a memory, then what it is asked; all words of the
+/// parts and of the memory are held against the judge's.
 pub fn compare(calls: &impl Calls, trial: &Trial) -> Result<Met, Difference> {
     let clause = broken_clause(&trial.memory);
     let mut memory = trial.memory.clone();
@@ -64,6 +66,16 @@ pub fn compare(calls: &impl Calls, trial: &Trial) -> Result<Met, Difference> {
         _ => behind(at),
     })?;
 
+    let paging = paging(&trial.memory);
+    let judged = told(&paging, trial.paging_length);
+    let mut part = vec![BEFORE; trial.paging_length];
+    let written = calls.paging(&memory, &mut part);
+    same_part("fugu_paging", &judged, &part, written, |at| match at {
+        0 => "pages sent out".to_string(),
+        1 => "pages brought in".to_string(),
+        _ => behind(at),
+    })?;
+
     let mut judged_memory = trial.memory.clone();
     // Without room for the report there is no step.
     let report = (trial.report_length >= REPORT).then(|| trial.asked.judged(&mut judged_memory));
@@ -78,6 +90,7 @@ pub fn compare(calls: &impl Calls, trial: &Trial) -> Result<Met, Difference> {
     Ok(Met {
         clause,
         head,
+        paging,
         report,
     })
 }

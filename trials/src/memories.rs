@@ -1,6 +1,6 @@
 //! Random memories, each with what it is asked.
 
-use fugu::{HEAD, REPORT};
+use fugu::{HEAD, PAGING, REPORT};
 use judge::memory::trials::{reachable, vary};
 use judge::random::Random;
 
@@ -17,6 +17,7 @@ pub struct Trial {
     pub asked: Asked,
     pub report_length: usize,
     pub head_length: usize,
+    pub paging_length: usize,
 }
 
 /// The memories of a seed, without end.
@@ -53,6 +54,7 @@ impl Iterator for Memories {
             asked: Asked::any(random),
             report_length: any_length(random, REPORT),
             head_length: any_length(random, HEAD),
+            paging_length: any_length(random, PAGING),
         })
     }
 }

@@ -1,9 +1,10 @@
-//! What the memories have met: clauses of the memory test, places of the head message, and answers
-//! and traps by operation.
+//! What the memories have met: clauses of the memory test, places of the head message, counts of
+//! pages, answers and traps by operation, and what steps did with pages.
 
 use std::fmt::{self, Display, Formatter};
 
-use judge::memory::{clauses, FRAMES_AT, SIZE};
+use judge::counts::PagingCounts;
+use judge::memory::{clauses, PAGES_AT, SIZE};
 use judge::node::Operation;
 
 use crate::asked::{taken_apart, Asked};
@@ -21,6 +22,8 @@ const ROWS: usize = 2 * OPERATIONS.len() + 1;
 const ANSWERS: usize = 16;
 const TRAPS: usize = 4;
 const HEADS: [&str; 3] = ["none", "in the hardware queue", "in a frame"];
+/// What the counts of pages sent out and brought in are, together.
+const COUNTED: [&str; 3] = ["none", "some", "more than can be counted"];
 
 #[derive(Clone, Default)]
 struct Row {
@@ -58,7 +61,9 @@ pub struct Table {
     clauses: Vec<u64>,
     longer: u64,
     heads: [u64; HEADS.len()],
+    counted: [u64; COUNTED.len()],
     rows: [Row; ROWS],
+    paging: PagingCounts,
 }
 
 /// What so many memories of a seed meet, or the first difference. `each` is handed the number of every
@@ -100,6 +105,7 @@ impl Table {
         }
         self.longer += u64::from(trial.memory.len() > SIZE);
         self.heads[head_place(met)] += 1;
+        self.counted[counted(met)] += 1;
         let row = &mut self.rows[row_of(&trial.asked)];
         match &met.report {
             None => row.no_room += 1,
@@ -108,6 +114,7 @@ impl Table {
                 if report.accepted() {
                     row.traps[report.trap as usize] += 1;
                 }
+                self.paging.add(report);
             }
         }
     }
@@ -139,14 +146,17 @@ impl Table {
         });
         let sum = self.sum();
         let heads = (0..HEADS.len()).filter(|&at| self.heads[at] == 0);
+        let counted = (0..COUNTED.len()).filter(|&at| self.counted[at] == 0);
         let rows = (0..ROWS).filter(|&at| self.rows[at].sum() == 0);
         let answers = (0..ANSWERS).filter(|&answer| sum.answers[answer] == 0);
         let traps = (0..TRAPS).filter(|&trap| sum.traps[trap] == 0);
         clauses
             .chain(heads.map(|at| format!("head {}", HEADS[at])))
+            .chain(counted.map(|at| format!("pages counted {}", COUNTED[at])))
             .chain(rows.map(row_name))
             .chain(answers.map(|answer| format!("answer {answer}")))
             .chain(traps.map(|trap| format!("trap {trap}")))
+            .chain(self.paging.missing().map(str::to_string))
             .collect()
     }
 }
@@ -154,8 +164,16 @@ impl Table {
 fn head_place(met: &Met) -> usize {
     match met.head.start {
         0 => 0,
-        at if at < FRAMES_AT => 1,
+        at if at < PAGES_AT => 1,
         _ => 2,
+    }
+}
+
+fn counted(met: &Met) -> usize {
+    match met.paging {
+        [0, 0] => 0,
+        counts if counts.contains(&u32::MAX) => 2,
+        _ => 1,
     }
 }
 
@@ -207,6 +225,17 @@ impl Display for Table {
         writeln!(f, "{memories:>wide$} head messages:")?;
         for (place, count) in HEADS.iter().zip(self.heads) {
             writeln!(f, "  {count:>wide$} {place}")?;
+        }
+        writeln!(
+            f,
+            "{memories:>wide$} counts of pages sent out and brought in:"
+        )?;
+        for (counted, count) in COUNTED.iter().zip(self.counted) {
+            writeln!(f, "  {count:>wide$} {counted}")?;
+        }
+        writeln!(f, "in steps:")?;
+        for line in self.paging.lines(2 + wide) {
+            writeln!(f, "{line}")?;
         }
         let sum = self.sum();
         let width = 8.max(wide);

@@ -36,6 +36,12 @@ mod raw {
             part: *mut u32,
             part_length: usize,
         ) -> u32;
+        pub fn fugu_paging(
+            memory: *const u32,
+            memory_length: usize,
+            part: *mut u32,
+            part_length: usize,
+        ) -> u32;
     }
 }
 
@@ -98,4 +104,10 @@ pub fn line(memory: &mut [u32], text: &[u8], report: &mut [u32]) -> u32 {
 /// where there is none or the memory is no node.
 pub fn head(memory: &[u32], part: &mut [u32]) -> u32 {
     unsafe { raw::fugu_head(memory.as_ptr(), memory.len(), part.as_mut_ptr(), part.len()) }
+}
+
+/// How many pages were sent out so far, and how many were brought in; 0 and 0 where the memory is no
+/// node.
+pub fn paging(memory: &[u32], part: &mut [u32]) -> u32 {
+    unsafe { raw::fugu_paging(memory.as_ptr(), memory.len(), part.as_mut_ptr(), part.len()) }
 }

@@ -4,6 +4,7 @@
 //! - [`calls`]: the calls as they are, over slices, each with the part that it tells in.
 //! - [`Node`]: memory, owned or lent, with the calls as methods.
 //! - [`Report`]: what a step reported; [`answer`] has its answers by name.
+//! - [`Paging`]: how many pages went to swap space and back.
 //! - [`listing`]: a script played on a node, with its listing.
 //! - [`kept`]: memory kept in a file. With the script it makes the program `desk`.
 //!
@@ -24,14 +25,17 @@ pub mod listing;
 mod node;
 mod report;
 
-pub use node::Node;
+pub use node::{Node, Paging};
 pub use report::{Report, Sent};
 
 /// The words of a node.
-pub const SIZE: usize = 2868;
+pub const SIZE: usize = 8088;
 
 /// The words of a report.
 pub const REPORT: usize = 16;
 
 /// The words that say where the head message stands.
 pub const HEAD: usize = 2;
+
+/// The words that say how many pages went to swap space and back.
+pub const PAGING: usize = 2;

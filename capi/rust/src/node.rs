@@ -2,7 +2,15 @@
 
 use std::ops::Range;
 
-use crate::{calls, Report, HEAD, REPORT};
+use crate::{calls, Report, HEAD, PAGING, REPORT};
+
+/// How many pages went to swap space and back so far; an exchange is one of each. A count stays at
+/// `u32::MAX` once there.
+#[derive(Clone, Copy, Debug, Default, PartialEq, Eq)]
+pub struct Paging {
+    pub sent_out: u32,
+    pub brought_in: u32,
+}
 
 /// Memory that the calls are made on: a `Vec<u32>` that it owns, or a `&mut [u32]` that it is lent.
 /// It need not be a node: then each step is refused with 1, and changes nothing.
@@ -61,6 +69,18 @@ impl<M: AsRef<[u32]> + AsMut<[u32]>> Node<M> {
     /// Its words, in the memory itself.
     pub fn head(&self) -> &[u32] {
         &self.memory()[self.head_part()]
+    }
+
+    /// How many pages were sent out and brought in; none where the memory is no node.
+    pub fn paging(&self) -> Paging {
+        let mut part = [0; PAGING];
+        let written = calls::paging(self.memory(), &mut part);
+        debug_assert_eq!(written as usize, PAGING);
+        let [sent_out, brought_in] = part;
+        Paging {
+            sent_out,
+            brought_in,
+        }
     }
 
     pub fn memory(&self) -> &[u32] {

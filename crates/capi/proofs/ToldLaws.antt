@@ -4,16 +4,14 @@ use native.Mathlib.Omega.{arith}
 use mathlib.Core.List.{List, _∷_, _++_}
 use mathlib.Core.Path.{_≡_, _∙_, ap, refl, sym}
 use lib.ListN.{length, drop, set}
-use Rattle.rules.specs.MemoryTest.{MemoryStep, headPart}
+use Rattle.rules.specs.MemoryTest.{MemoryStep}
 use Rattle.rules.specs.declared.Report.{Report as Report·rt}
 use Rattle.rules.proofs.Map.MapWords.{Stands, stands-front}
 use Rattle.memory.specs.Answers.{Answers}
 use Rattle.memory.specs.Writes.{Wrote}
 use Rattle.memory.proofs.PieceLaws.{same-drop}
 use Rattle.memory.proofs.WriteLaws.{wrote-set, wrote-next, wrote-then}
-use Rattle.node.specs.Parts.{partOf}
-use Rattle.node.specs.declared.message.Part.{Part as Part·rt}
-use Rattle.capi.specs.Told.{reportRoom, reportWords, Reports, headRoom, TellsHead}
+use Rattle.capi.specs.Told.{reportRoom, reportWords, Reports, pairRoom, TellsPair}
 
 -- a part whose first words are written is these words and what stood behind them
 front-written : {p p′ ws : List ℕ} (k : ℕ) → length ws ≡ k → k ≤ length p → Wrote p p′ 0 ws → p′ ≡ ws ++ drop k p
@@ -73,19 +71,19 @@ reports-nothing m p s short =
       nothing = λ h. refl;
     }
 
--- the head message's part told
-pub head-told : (m p : List ℕ) {h : Part·rt} → headRoom ≤ length p → h ≡ partOf (headPart m) → TellsHead m p (set (set p 0 (h .start)) 1 (h .len)) headRoom
-head-told m p {h} long e =
-    let w0 = wrote-set p 0 (h .start) (omega arith) in
-    let w1 = wrote-next w0 1 (h .len) refl (omega arith) in
+-- two numbers told
+pub pair-told : (x y : ℕ) (p : List ℕ) → pairRoom ≤ length p → TellsPair x y p (set (set p 0 x) 1 y) pairRoom
+pair-told x y p long =
+    let w0 = wrote-set p 0 x (omega arith) in
+    let w1 = wrote-next w0 1 y refl (omega arith) in
     record {
-      told = λ l. front-written headRoom refl long w1 ∙ ap (λ (q : Part·rt). q .start ∷ q .len ∷ drop headRoom p) e;
+      told = λ l. front-written pairRoom refl long w1;
       counted = λ l. refl;
       part-kept = λ l. absurd (omega arith);
       nothing = λ l. absurd (omega arith);
     }
 
 -- or not
-pub head-nothing : (m p : List ℕ) → length p < headRoom → TellsHead m p p 0
-head-nothing m p short =
+pub pair-nothing : (x y : ℕ) (p : List ℕ) → length p < pairRoom → TellsPair x y p p 0
+pair-nothing x y p short =
     record { told = λ l. absurd (omega arith); counted = λ l. absurd (omega arith); part-kept = λ l. refl; nothing = λ l. refl }

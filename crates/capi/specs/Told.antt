@@ -3,7 +3,7 @@ use Prim.Native.Nat.{ℕ, _≤_, _<_}
 use mathlib.Core.List.{List, _∷_, _++_}
 use mathlib.Core.Path.{_≡_}
 use lib.ListN.{length, drop}
-use Rattle.rules.specs.MemoryTest.{MemoryStep, headPart}
+use Rattle.rules.specs.MemoryTest.{MemoryStep, headPart, pageCounts}
 use Rattle.rules.specs.Types.{reportOf}
 use Rattle.rules.specs.declared.Report.{Report as Report·rt}
 
@@ -35,15 +35,23 @@ pub record Reports (m p : List ℕ) (s : MemoryStep) (m′ p′ : List ℕ) (cou
   pub part-kept : length p < reportRoom → p′ ≡ p
   pub nothing : length p < reportRoom → count ≡ 0
 
--- the words of the head message's part
-abbrev pub headRoom : ℕ
-headRoom = 2
+-- the words of two numbers
+abbrev pub pairRoom : ℕ
+pairRoom = 2
 
--- a call that tells where the head message of memory m stands, and how long it is
-pub record TellsHead (m p p′ : List ℕ) (count : ℕ) : Type 0 where
+-- a call that tells the numbers x and y
+pub record TellsPair (x y : ℕ) (p p′ : List ℕ) (count : ℕ) : Type 0 where
   -- the part has room
-  pub told : headRoom ≤ length p → p′ ≡ headPart m .start ∷ headPart m .len ∷ drop headRoom p
-  pub counted : headRoom ≤ length p → count ≡ headRoom
+  pub told : pairRoom ≤ length p → p′ ≡ x ∷ y ∷ drop pairRoom p
+  pub counted : pairRoom ≤ length p → count ≡ pairRoom
   -- it is too short
-  pub part-kept : length p < headRoom → p′ ≡ p
-  pub nothing : length p < headRoom → count ≡ 0
+  pub part-kept : length p < pairRoom → p′ ≡ p
+  pub nothing : length p < pairRoom → count ≡ 0
+
+-- where the head message of memory m stands, and how long it is
+abbrev pub TellsHead : List ℕ → List ℕ → List ℕ → ℕ → Type 0
+TellsHead m = TellsPair (headPart m .start) (headPart m .len)
+
+-- the pages of memory m that were sent out, and those that were brought in
+abbrev pub TellsPages : List ℕ → List ℕ → List ℕ → ℕ → Type 0
+TellsPages m = TellsPair (pageCounts m .out) (pageCounts m .brought)

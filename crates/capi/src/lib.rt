@@ -2,6 +2,7 @@
 // caller lends, and it returns how many words it wrote there: 0 where the part is too short, and then nothing at all has changed.
 pub mod head;
 pub mod lines;
+pub mod paging;
 pub mod power;
 pub mod report;
 pub mod steps;

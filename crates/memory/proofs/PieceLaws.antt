@@ -1,6 +1,6 @@
--- A memory that holds a node, piece by piece: the numbers, the queue, the free line, each group's record, and each frame where its number
--- says. Frames are told by where they are held and not by a lookup among all of them, so that a frame that goes from one list to another
--- changes nothing at its address. Assumes nothing.
+-- A memory that holds a node, piece by piece: the numbers, the queue, the free line, each group's record, each frame and swap page where its
+-- number says, and swap space with the order of entry. Frames are told by where they are held and not by a lookup among all of them, so that
+-- a frame that goes from one list to another changes nothing at its address. Assumes nothing.
 use Prim.Native.Nat.{ℕ, zero, suc, _+_, _-_, _*_, _≤_, _<_}
 use mathlib.Core.Path.{_≡_, sym, subst, ap, _∙_}
 use mathlib.Core.Logic.{_↔_}
@@ -9,21 +9,25 @@ use native.Mathlib.Omega.{arith}
 use lib.ListN.{length, drop, getD, length-append, length-drop}
 use lib.Seq.{ext-getD, getD-drop, drop-at}
 use Rattle.rules.specs.Lists.{Every, concatMap, countOf, upFrom}
-use Rattle.rules.specs.Build.{paper01, groupCount}
+use Rattle.rules.specs.Build.{paper01, pageCount, groupCount}
 use Rattle.rules.specs.Node.{Place, Frame, Node, emptyGroup}
-use Rattle.rules.specs.Valid.{frameNumber}
-use Rattle.rules.specs.Memory.{runningAt, timerAt, queuedAt, freeCountAt, queueAt, freeAt, groupsAt, groupStride, framesAt, frameStride, size, word, words, queueWords, lineWords, groupWords, placeWords, frameWords, framesOf, placesOf, allFrames, frameAddress}
-use Rattle.rules.proofs.Steps.EveryLaws.{every-of, every-at, every-append, every-concat, every-getD}
+use Rattle.rules.specs.Valid.{frameNumber, idle, GoodFrame}
+use Rattle.rules.specs.Paging.{framesOf, placesOf}
+use Rattle.rules.specs.Memory.{runningAt, timerAt, queuedAt, freeCountAt, queueAt, freeAt, groupsAt, groupStride, framesAt, frameStride, placeStride, pagingAt, size, word, words, queueWords, lineWords, groupWords, placeWords, frameWords, pagingWords, allFrames, frameAddress}
+use Rattle.rules.proofs.Steps.EveryLaws.{every-of, every-at, every-append, every-concat, every-getD, every-mono}
+use Rattle.rules.proofs.Steps.ListLaws.{length-parts}
 use Rattle.rules.specs.Sound.{Mapped}
 use Rattle.rules.proofs.Map.MapWords.{Stands, stands-append, stands-nil, parts-stand, front-stands, stands-front}
-use Rattle.rules.proofs.Map.MapParts.{length-group}
-use Rattle.rules.proofs.Map.MapFrames.{all-numbers, numbers-bounded, each-found, found, length-frame}
+use Rattle.rules.proofs.Map.MapParts.{length-group, length-place}
+use Rattle.rules.proofs.Steps.PageLaws.{found}
+use Rattle.rules.proofs.Map.MapFrames.{all-good, all-numbers, numbers-bounded, each-found, length-frame}
 use Rattle.rules.proofs.Map.MapRead.{MapStands, map-stands, words-length}
 use Rattle.memory.specs.Holds.{Holds}
 
--- the words of a frame stand at the address of its number
-abbrev pub FrameStands : List ℕ → Frame → Type 0
-FrameStands m x = Stands m (frameAddress (x .number)) (concatMap placeWords (x .places))
+-- the words of a frame or swap page stand at the address of its number, all of them below what is kept of swap space
+pub record FrameStands (m : List ℕ) (x : Frame) : Type 0 where
+  pub stands : Stands m (frameAddress (x .number)) (concatMap placeWords (x .places))
+  pub inside : frameAddress (x .number) + length (concatMap placeWords (x .places)) ≤ pagingAt
 
 pub record Pieces (m : List ℕ) (n : Node) (r : List ℕ) : Type 0 where
   pub long : size ≤ length m
@@ -35,8 +39,10 @@ pub record Pieces (m : List ℕ) (n : Node) (r : List ℕ) : Type 0 where
   pub queue : Stands m queueAt (queueWords (n .queue))
   pub free : Stands m freeAt (lineWords (map frameNumber (n .free)))
   pub groups : (i : ℕ) → i < groupCount → Stands m (groupsAt + groupStride * i) (groupWords (getD (n .groups) i emptyGroup))
+  pub paging : Stands m pagingAt (pagingWords (n .paging))
   pub free-frames : Every (FrameStands m) (n .free)
-  pub group-frames : (i : ℕ) → i < groupCount → Every (FrameStands m) (framesOf (getD (n .groups) i emptyGroup))
+  pub swap-frames : Every (FrameStands m) (n .paging .swap)
+  pub group-frames : (i : ℕ) → i < groupCount → Every (FrameStands m) (framesOf paper01 (getD (n .groups) i emptyGroup))
 
 -- what holds at each index holds of every element
 pub every-index : {A : Type 0} (P : A → Type 0) (d : A) (xs : List A) → ((i : ℕ) → i < length xs → P (getD xs i d)) → Every P xs
@@ -66,18 +72,29 @@ lists-stand {X} m w s d sized (x ∷ xs) a =
 -- the words of the frame that is found under a number
 by-number : (m : List ℕ) (j : ℕ) (y : Frame) (ps : List Place) → y .number ≡ j → ps ≡ y .places → FrameStands m y
     → Stands m (frameAddress j) (concatMap placeWords ps)
-by-number m j y ps e q h = rw (q, ← e) h
+by-number m j y ps e q h = rw (q, ← e) (h .stands)
+
+-- the words of a good frame are 72
+pub length-good : (x : Frame) → GoodFrame paper01 x → length (concatMap placeWords (x .places)) ≡ frameStride
+length-good x good =
+    length-parts placeWords placeStride (x .places) (every-mono _ _ length-place (x .places) (good .places)) ∙ ap (λ (k : ℕ). placeStride * k) (good .whole)
+
+-- a good frame of one of the 96 numbers stands where its words do
+pub frame-stands : (m : List ℕ) (x : Frame) → GoodFrame paper01 x → x .number < pageCount paper01
+    → Stands m (frameAddress (x .number)) (concatMap placeWords (x .places)) → FrameStands m x
+unfolding frameAddress
+frame-stands m x good below s = record { stands = s; inside = omega (arith, length-good x good) }
 
 module _ (m : List ℕ) (n : Node) (v : Mapped n) where
   -- the frames' region stands frame by frame
-  frames-stand : Stands m framesAt (concatMap (frameWords (allFrames n)) (upFrom 0 (paper01 .frames))) ↔ Every (FrameStands m) (allFrames n)
+  frames-stand : Stands m framesAt (concatMap (frameWords (allFrames n)) (upFrom 0 (pageCount paper01))) ↔ Every (FrameStands m) (allFrames n)
   unfolding frameWords frameAddress
   frames-stand =
-      let parts = parts-stand m (frameWords (allFrames n)) framesAt frameStride 0 (paper01 .frames) (λ j l k. length-frame n v j k) in (
+      let parts = parts-stand m (frameWords (allFrames n)) framesAt frameStride 0 (pageCount paper01) (λ j l k. length-frame n v j k) in (
         λ h. every-of _ (allFrames n) (λ x k.
-            let below = every-at (λ y. y .number < paper01 .frames) (numbers-bounded n v) k in
+            let below = every-at (λ y. y .number < pageCount paper01) (numbers-bounded n v) k in
             let same = every-at (λ y. placesOf (y .number) (allFrames n) ≡ y .places) (each-found n v) k in
-            rw same at (parts .0 h (x .number) (omega arith) below)),
+            frame-stands m x (every-at (GoodFrame paper01) (all-good n v) k) below (rw same at (parts .0 h (x .number) (omega arith) below))),
         λ e. parts .1 (λ j l k.
             let once : countOf j (map frameNumber (allFrames n)) ≡ 1 = rw (all-numbers n) (v .frames-once j k) in
             let t = found (FrameStands m) j (allFrames n) (omega arith) e in
@@ -86,10 +103,11 @@ module _ (m : List ℕ) (n : Node) (v : Mapped n) where
 
   -- the map stands piece by piece
   pub map-pieces : (r : List ℕ) → size ≤ length m → drop size m ≡ r → MapStands m n → Pieces m n r
-  unfolding allFrames
+  unfolding allFrames idle
   map-pieces r long rest s =
-      let all = every-append (FrameStands m) (n .free) (concatMap framesOf (n .groups)) .0 (frames-stand .0 (s .frames)) in
-      let each = every-concat (FrameStands m) framesOf (n .groups) .0 (all .1) in
+      let all = every-append (FrameStands m) (idle n) (concatMap (framesOf paper01) (n .groups)) .0 (frames-stand .0 (s .frames)) in
+      let lines = every-append (FrameStands m) (n .free) (n .paging .swap) .0 (all .0) in
+      let each = every-concat (FrameStands m) (framesOf paper01) (n .groups) .0 (all .1) in
       let count = v .group-count in
       record {
         long = long;
@@ -101,16 +119,19 @@ module _ (m : List ℕ) (n : Node) (v : Mapped n) where
         queue = s .queue;
         free = s .free;
         groups = λ i l. lists-stand m groupWords groupStride emptyGroup length-group (n .groups) groupsAt .0 (s .groups) i (omega arith);
-        free-frames = all .0;
-        group-frames = λ i l. every-getD (λ G. Every (FrameStands m) (framesOf G)) (n .groups) i emptyGroup each (omega arith);
+        paging = s .paging;
+        free-frames = lines .0;
+        swap-frames = lines .1;
+        group-frames = λ i l. every-getD (λ G. Every (FrameStands m) (framesOf paper01 G)) (n .groups) i emptyGroup each (omega arith);
       }
 
   -- and back
   pub pieces-map : {r : List ℕ} → Pieces m n r → MapStands m n
-  unfolding allFrames
+  unfolding allFrames idle
   pieces-map p =
       let count = v .group-count in
-      let each = every-index (λ G. Every (FrameStands m) (framesOf G)) emptyGroup (n .groups) (λ i l. p .group-frames i (omega arith)) in
+      let lines = every-append (FrameStands m) (n .free) (n .paging .swap) .1 (p .free-frames, p .swap-frames) in
+      let each = every-index (λ G. Every (FrameStands m) (framesOf paper01 G)) emptyGroup (n .groups) (λ i l. p .group-frames i (omega arith)) in
       record {
         running = p .running;
         timer = p .timer;
@@ -119,8 +140,9 @@ module _ (m : List ℕ) (n : Node) (v : Mapped n) where
         queue = p .queue;
         free = p .free;
         groups = lists-stand m groupWords groupStride emptyGroup length-group (n .groups) groupsAt .1 (λ i l. p .groups i (omega arith));
-        frames = frames-stand .1 (every-append (FrameStands m) (n .free) (concatMap framesOf (n .groups)) .1
-            (p .free-frames, every-concat (FrameStands m) framesOf (n .groups) .1 each));
+        frames = frames-stand .1 (every-append (FrameStands m) (idle n) (concatMap (framesOf paper01) (n .groups)) .1
+            (lines, every-concat (FrameStands m) (framesOf paper01) (n .groups) .1 each));
+        paging = p .paging;
       }
 
 -- a memory that holds a node has its pieces
@@ -128,14 +150,14 @@ pub holds-pieces : {m : List ℕ} {n : Node} {r : List ℕ} → Holds m n r → 
 holds-pieces {m} {n} {r} h =
     let l = words-length n (h .mapped) in
     map-pieces m n (h .mapped) r (omega (arith, ap length (h .map), length-append (words n) r)) (ap (drop size) (h .map) ∙ drop-at (words n) r size l)
-    (map-stands n (h .mapped .group-count) m .0 (subst (λ (k : List ℕ). Stands k 0 (words n)) (sym (h .map)) (front-stands (words n) r)))
+    (map-stands n (h .mapped) m .0 (subst (λ (k : List ℕ). Stands k 0 (words n)) (sym (h .map)) (front-stands (words n) r)))
 
 -- and a memory that has the pieces of a node holds it
 pub pieces-hold : {m : List ℕ} {n : Node} {r : List ℕ} → Mapped n → Pieces m n r → Holds m n r
 pieces-hold {m} {n} {r} v p =
     let l = words-length n v in
     let long = p .long in
-    let s = map-stands n (v .group-count) m .1 (pieces-map m n v p) in
+    let s = map-stands n v m .1 (pieces-map m n v p) in
     let all = rw l at (stands-front m (words n) (omega arith) s) in
     record { mapped = v; map = sym all ∙ ap (λ (t : List ℕ). words n ++ t) (p .rest) }
 

@@ -1,5 +1,5 @@
 -- What a write to one piece of a node leaves of the others, and the pieces after it: the two numbers that stand alone, the queue with its
--- count, the free line with its count, and a group's record. Assumes nothing.
+-- count, the free line with its count, a group's record, and swap space with the order of entry. Assumes nothing.
 use Prim.Native.Nat.{_*_, _+_, _-_, _<_, _≤_, pred, ℕ}
 use native.Mathlib.Decide.{decLt, ℕ-discrete}
 use native.Mathlib.Omega.{arith}
@@ -10,11 +10,13 @@ use lib.ListN.{drop, getD, length, set}
 use lib.Seq.{getD-set-other, getD-set-same}
 use Rattle.rules.specs.Build.{groupCount, paper01}
 use Rattle.rules.specs.Lists.{Every, concatMap}
-use Rattle.rules.specs.Memory.{frameAddress, frameStride, framesAt, framesOf, freeAt, freeCountAt, groupAddress, groupStride, groupWords, groupsAt, lineWords, placeWords, queueAt, queueWords, queuedAt, runningAt, size, timerAt}
-use Rattle.rules.specs.Node.{Frame, Group, Message, Node, emptyGroup, withFree, withGroup, withQueue, withRunning, withTimer}
-use Rattle.rules.specs.Refusal.{queued}
-use Rattle.rules.specs.Valid.{GoodMessage, frameNumber, frameNumbers}
+use Rattle.rules.specs.Memory.{frameAddress, frameStride, framesAt, freeAt, freeCountAt, groupAddress, groupStride, groupWords, groupsAt, lineWords, pagingAt, pagingWords, placeWords, queueAt, queueWords, queuedAt, runningAt, size, timerAt}
+use Rattle.rules.specs.Node.{Frame, Group, Message, Node, Paging, emptyGroup, withFree, withGroup, withPaging, withQueue, withRunning, withTimer}
+use Rattle.rules.specs.Paging.{framesOf}
+use Rattle.rules.specs.Sound.{Mapped}
+use Rattle.rules.specs.Valid.{GoodMessage, frameNumber, frameNumbers, idle}
 use Rattle.rules.proofs.Steps.EveryLaws.{every-mono}
+use Rattle.rules.proofs.Map.MapPaging.{length-paging}
 use Rattle.rules.proofs.Map.MapParts.{length-group}
 use Rattle.rules.proofs.Map.MapRead.{length-line, length-queue}
 use Rattle.rules.proofs.Map.MapWords.{Stands, stands-cons, stands-nil}
@@ -41,7 +43,20 @@ module _ {m m′ : List ℕ} {a : ℕ} {ws : List ℕ} (w : Wrote m m′ a ws) w
   pub frames-above : a + length ws ≤ framesAt → (xs : List Frame) → Every (FrameStands m) xs → Every (FrameStands m′) xs
   unfolding frameAddress
   frames-above h =
-      every-mono (FrameStands m) (FrameStands m′) (λ x. kept-above w (framesAt + frameStride * x .number) (concatMap placeWords (x .places)) (omega arith))
+      every-mono (FrameStands m) (FrameStands m′) (λ x s.
+      record {
+        stands = kept-above w (framesAt + frameStride * x .number) (concatMap placeWords (x .places)) (omega arith) (s .stands);
+        inside = s .inside;
+      })
+
+  -- and where it is above them
+  pub frames-below : pagingAt ≤ a → (xs : List Frame) → Every (FrameStands m) xs → Every (FrameStands m′) xs
+  frames-below h =
+      every-mono (FrameStands m) (FrameStands m′) (λ x s.
+      record {
+        stands = kept-below w (frameAddress (x .number)) (concatMap placeWords (x .places)) (omega (arith, s .inside)) (s .stands);
+        inside = s .inside;
+      })
 
   -- the record of a group stays where the write is outside it
   pub group-outside : (i : ℕ) (G : Group) → (groupsAt + groupStride * i < a → groupsAt + groupStride * i + groupStride ≤ a)
@@ -55,7 +70,7 @@ module _ {m m′ : List ℕ} {a : ℕ} {ws : List ℕ} (w : Wrote m m′ a ws) w
 
 -- the record of a group is written
 pub group-put : {m m′ : List ℕ} {n : Node} {r : List ℕ} → Pieces m n r → (g : ℕ) → 1 ≤ g → g ≤ groupCount → length (n .groups) ≡ groupCount
-    → (G : Group) → Wrote m m′ (groupAddress g) (groupWords G) → Every (FrameStands m) (framesOf G) → Pieces m′ (withGroup g G n) r
+    → (G : Group) → Wrote m m′ (groupAddress g) (groupWords G) → Every (FrameStands m) (framesOf paper01 G) → Pieces m′ (withGroup g G n) r
 unfolding withGroup groupAddress
 group-put {m} {m′} {n} p g low high count G w e =
     let l = length-group G in
@@ -73,31 +88,44 @@ group-put {m} {m′} {n} p g low high count G w e =
           set-cases (λ H. Stands m′ (groupsAt + groupStride * i) (groupWords H)) (n .groups) i (pred g) G (omega arith)
           (λ same. rw (same, ← at) (wrote-stands w))
           (λ other. group-outside w i (getD (n .groups) i emptyGroup) (λ k. omega arith) (λ k. omega arith) (p .groups i h));
+      paging = kept-above w pagingAt _ (omega arith) (p .paging);
       free-frames = frames-above w (omega arith) (n .free) (p .free-frames);
+      swap-frames = frames-above w (omega arith) (n .paging .swap) (p .swap-frames);
       group-frames = λ i h.
-          set-cases (λ H. Every (FrameStands m′) (framesOf H)) (n .groups) i (pred g) G (omega arith)
-          (λ same. frames-above w (omega arith) (framesOf G) e)
-          (λ other. frames-above w (omega arith) (framesOf (getD (n .groups) i emptyGroup)) (p .group-frames i h));
+          set-cases (λ H. Every (FrameStands m′) (framesOf paper01 H)) (n .groups) i (pred g) G (omega arith)
+          (λ same. frames-above w (omega arith) (framesOf paper01 G) e)
+          (λ other. frames-above w (omega arith) (framesOf paper01 (getD (n .groups) i emptyGroup)) (p .group-frames i h));
+    }
+
+-- a node with other numbers and another queue can be mapped
+mapped-front : {n : Node} → Mapped n → (g t : ℕ) (q : List Message) → length q ≤ paper01 .places → Every GoodMessage q
+    → Mapped (withTimer t (withRunning g (withQueue q n)))
+unfolding withRunning withTimer withQueue frameNumbers idle
+mapped-front v g t q few good =
+    record {
+      queue-length = few;
+      queue-good = good;
+      group-count = v .group-count;
+      groups-whole = v .groups-whole;
+      free-good = v .free-good;
+      swap-good = v .swap-good;
+      frames-once = v .frames-once;
+      frames-all = v .frames-all;
+      free-short = v .free-short;
+      swap-short = v .swap-short;
+      entered-short = v .entered-short;
     }
 
 -- the two numbers that stand alone are written
 numbers-held : {m m′ : List ℕ} {n : Node} {r : List ℕ} → Holds m n r → (g t : ℕ) → Wrote m m′ runningAt (g ∷ t ∷ [])
     → Holds m′ (withTimer t (withRunning g n)) r
-unfolding withRunning withTimer frameNumbers
+unfolding withRunning withTimer withQueue
 numbers-held {m} {m′} {n} {r} h g t w =
     let p = holds-pieces h in
     let v = h .mapped in
     let both = stands-cons m′ 0 g (t ∷ []) .0 (wrote-stands w) in
     pieces-hold
-    (record {
-      queue-length = v .queue-length;
-      queue-good = v .queue-good;
-      group-count = v .group-count;
-      groups-whole = v .groups-whole;
-      free-good = v .free-good;
-      frames-once = v .frames-once;
-      frames-all = v .frames-all;
-    })
+    (mapped-front v g t (n .queue) (v .queue-length) (v .queue-good))
     (record {
       long = omega (arith, p .long, w .same-length);
       rest = rest-kept w (omega arith) (p .rest);
@@ -108,8 +136,10 @@ numbers-held {m} {m′} {n} {r} h g t w =
       queue = kept-above w 4 _ (omega arith) (p .queue);
       free = kept-above w 164 _ (omega arith) (p .free);
       groups = λ j l. kept-above w (groupsAt + groupStride * j) _ (omega arith) (p .groups j l);
+      paging = kept-above w pagingAt _ (omega arith) (p .paging);
       free-frames = frames-above w (omega arith) (n .free) (p .free-frames);
-      group-frames = λ j l. frames-above w (omega arith) (framesOf (getD (n .groups) j emptyGroup)) (p .group-frames j l);
+      swap-frames = frames-above w (omega arith) (n .paging .swap) (p .swap-frames);
+      group-frames = λ j l. frames-above w (omega arith) (framesOf paper01 (getD (n .groups) j emptyGroup)) (p .group-frames j l);
     })
 
 -- they stand as they were
@@ -133,21 +163,15 @@ timer-held {n = n} h t w =
 -- the queue is written, and its count
 pub queue-held : {m m₁ m₂ : List ℕ} {n : Node} {r : List ℕ} → Holds m n r → (q : List Message) → length q ≤ paper01 .places → Every GoodMessage q
     → Wrote m m₁ queueAt (queueWords q) → Wrote m₁ m₂ queuedAt (length q ∷ []) → Holds m₂ (withQueue q n) r
-unfolding withQueue frameNumbers
+unfolding withQueue withRunning withTimer
 queue-held {m} {m₁} {m₂} {n} {r} h q few good w₁ w₂ =
     let p = holds-pieces h in
     let v = h .mapped in
     let long = length-queue q in
+    let frames : (xs : List Frame) → Every (FrameStands m) xs → Every (FrameStands m₂) xs =
+    λ xs t. frames-above w₂ (omega arith) xs (frames-above w₁ (omega arith) xs t) in
     pieces-hold
-    (record {
-      queue-length = few;
-      queue-good = good;
-      group-count = v .group-count;
-      groups-whole = v .groups-whole;
-      free-good = v .free-good;
-      frames-once = v .frames-once;
-      frames-all = v .frames-all;
-    })
+    (mapped-front v (n .running) (n .timer) q few good)
     (record {
       long = omega (arith, p .long, w₁ .same-length, w₂ .same-length);
       rest = rest-kept w₂ (omega arith) (rest-kept w₁ (omega arith) (p .rest));
@@ -158,10 +182,10 @@ queue-held {m} {m₁} {m₂} {n} {r} h q few good w₁ w₂ =
       queue = kept-above w₂ 4 _ (omega arith) (wrote-stands w₁);
       free = kept-above w₂ 164 _ (omega arith) (kept-above w₁ 164 _ (omega arith) (p .free));
       groups = λ j l. kept-above w₂ (groupsAt + groupStride * j) _ (omega arith) (kept-above w₁ (groupsAt + groupStride * j) _ (omega arith) (p .groups j l));
-      free-frames = frames-above w₂ (omega arith) (n .free) (frames-above w₁ (omega arith) (n .free) (p .free-frames));
-      group-frames = λ j l.
-          frames-above w₂ (omega arith) (framesOf (getD (n .groups) j emptyGroup))
-          (frames-above w₁ (omega arith) (framesOf (getD (n .groups) j emptyGroup)) (p .group-frames j l));
+      paging = kept-above w₂ pagingAt _ (omega arith) (kept-above w₁ pagingAt _ (omega arith) (p .paging));
+      free-frames = frames (n .free) (p .free-frames);
+      swap-frames = frames (n .paging .swap) (p .swap-frames);
+      group-frames = λ j l. frames (framesOf paper01 (getD (n .groups) j emptyGroup)) (p .group-frames j l);
     })
 
 -- the free line is written, and its count; the frames of the new line stand where their numbers say
@@ -184,6 +208,31 @@ line-put {m} {m₁} {m₂} {n} {r} p fs stand w₁ w₂ =
       groups = λ i h.
           kept-above w₂ (groupsAt + groupStride * i) _ (omega arith)
           (kept-above w₁ (groupsAt + groupStride * i) _ (omega arith) (p .groups i h));
+      paging = kept-above w₂ pagingAt _ (omega arith) (kept-above w₁ pagingAt _ (omega arith) (p .paging));
       free-frames = frames fs stand;
-      group-frames = λ i h. frames (framesOf (getD (n .groups) i emptyGroup)) (p .group-frames i h);
+      swap-frames = frames (n .paging .swap) (p .swap-frames);
+      group-frames = λ i h. frames (framesOf paper01 (getD (n .groups) i emptyGroup)) (p .group-frames i h);
+    }
+
+-- swap space and the order of entry are written; the pages of the new swap line stand where their numbers say
+pub paging-put : {m m′ : List ℕ} {n : Node} {r : List ℕ} → Pieces m n r → (s : Paging) → Every (FrameStands m) (s .swap)
+    → Wrote m m′ pagingAt (pagingWords s) → Pieces m′ (withPaging s n) r
+unfolding withPaging
+paging-put {n = n} p s stand w =
+    let k = length-paging s in
+    record {
+      long = omega (arith, p .long, w .same-length);
+      rest = rest-kept w (omega arith) (p .rest);
+      running = w .below 0 (omega arith) ∙ p .running;
+      timer = w .below 1 (omega arith) ∙ p .timer;
+      queued = w .below 2 (omega arith) ∙ p .queued;
+      free-count = w .below 3 (omega arith) ∙ p .free-count;
+      queue = kept-below w 4 _ (omega (arith, length-queue (n .queue))) (p .queue);
+      free = kept-below w 164 _ (omega (arith, length-line (map frameNumber (n .free)))) (p .free);
+      groups = λ i h.
+          kept-below w (groupsAt + groupStride * i) _ (omega (arith, length-group (getD (n .groups) i emptyGroup))) (p .groups i h);
+      paging = wrote-stands w;
+      free-frames = frames-below w (omega arith) (n .free) (p .free-frames);
+      swap-frames = frames-below w (omega arith) (s .swap) stand;
+      group-frames = λ i h. frames-below w (omega arith) (framesOf paper01 (getD (n .groups) i emptyGroup)) (p .group-frames i h);
     }

@@ -10,7 +10,7 @@ use lib.Seq.{getD-set-same, getD-set-other, getD-take, getD-drop, getD-append-ad
 use Rattle.rules.specs.Lists.{pad}
 use Rattle.rules.specs.Memory.{word, wordsAt}
 use Rattle.rules.proofs.Steps.ListLaws.{pad-fits}
-use Rattle.rules.proofs.Map.MapWords.{Stands, stands-append, wordsAt-part, wordsAt-stands}
+use Rattle.rules.proofs.Map.MapWords.{Stands, stands-append, stands-cons, wordsAt-part, wordsAt-stands}
 use Rattle.memory.specs.Writes.{Wrote}
 
 -- the same words at the same addresses are read the same
@@ -26,6 +26,14 @@ same-wordsAt m m′ a (suc k) same =
 pub same-stands : (m m′ : List ℕ) (a : ℕ) (ws : List ℕ) → ((b : ℕ) → a ≤ b → b < a + length ws → word m′ b ≡ word m b) → Stands m a ws → Stands m′ a ws
 unfolding Stands
 same-stands m m′ a ws same h = same-wordsAt m m′ a (length ws) same ∙ h
+
+-- a word of those that stand
+pub stands-word : (m : List ℕ) (a : ℕ) (ws : List ℕ) (j : ℕ) → j < length ws → Stands m a ws → word m (a + j) ≡ getD ws j 0
+stands-word m a [] j h s = absurd (omega arith)
+stands-word m a (w ∷ ws) zero h s = rw (add-zero a) (stands-cons m a w ws .0 s .0)
+stands-word m a (w ∷ ws) (suc j) h s =
+    let e : a + suc j ≡ a + 1 + j = omega arith in
+    rw e (stands-word m (a + 1) ws j (omega arith) (stands-cons m a w ws .0 s .1))
 
 -- one word more
 pub wordsAt-more : (m : List ℕ) (a k : ℕ) → wordsAt m a (k + 1) ≡ wordsAt m a k ++ (word m (a + k) ∷ [])

@@ -1,2 +1,3 @@
--- The laws of words that are 0.
+-- The laws of words that are 0, and of words copied and exchanged.
 pub mod ZeroLaws
+pub mod SwapLaws

@@ -3,11 +3,12 @@ use Prim.Native.Nat.{ℕ, _+_, _≤_, _<_}
 use mathlib.Core.Bool.{Bool}
 use mathlib.Core.List.{List, _∷_, _++_, []}
 use mathlib.Core.Path.{_≡_}
-use lib.ListN.{length, drop}
+use lib.ListN.{length, drop, getD}
 use Rattle.rules.specs.Build.{paper01}
-use Rattle.rules.specs.Frames.{takeFrame, appended, freeFirst, useUp, removeFirst, withStock}
+use Rattle.rules.specs.Lists.{countOf}
+use Rattle.rules.specs.Frames.{takeFrame, appended, without, freeFirst, useUp, removeFirst, withStock}
 use Rattle.rules.specs.Memory.{words, placeWords}
-use Rattle.rules.specs.Node.{Message, Node, groupOf, withQueue, placeOf, withFlags, withGroup}
+use Rattle.rules.specs.Node.{Message, Frame, Buffer, Node, groupOf, withQueue, withFree, withPaging, withEntered, withBuffer, placeOf, withFlags, withGroup}
 use Rattle.rules.specs.Sound.{Mapped}
 
 -- the memory m is the map of the node n, with the rest behind it
@@ -26,21 +27,48 @@ pub record Some (m : List ℕ) (P : Node → Type 0) : Type 0 where
 abbrev pub Becomes : List ℕ → List ℕ → (Node → Type 0) → (Node → Node) → Type 0
 Becomes m m′ P f = (n : Node) (r : List ℕ) → Holds m n r → P n → Holds m′ (f n) r
 
--- a frame is free
-abbrev pub FrameLeft : Node → Type 0
-FrameLeft n = 1 ≤ length (n .free)
+-- the order of entry has a place left
+abbrev pub OrderRoom : Node → Type 0
+OrderRoom n = length (n .paging .entered) < paper01 .frames
+
+-- frame f stands once in the order of entry
+abbrev pub InOrder : ℕ → Node → Type 0
+InOrder f n = countOf f (n .paging .entered) ≡ 1
+
+-- a frame is free, and the free frames and those in use are no more than there are
+pub record FrameLeft (n : Node) : Type 0 where
+  pub some : 1 ≤ length (n .free)
+  pub order : length (n .free) + length (n .paging .entered) ≤ paper01 .frames
 
 -- the buffer of group g has a place behind its last message
 abbrev pub Room : ℕ → Node → Type 0
 Room g n = groupOf n g .buffer .used + groupOf n g .buffer .count < length (groupOf n g .buffer .places)
 
+-- frame f is the last in the order of entry
+unfoldable pub entering : ℕ → Node → Node
+entering f n = withPaging (withEntered (n .paging .entered ++ (f ∷ [])) (n .paging)) n
+
+-- frame f leaves the order of entry
+unfoldable pub departing : ℕ → Node → Node
+departing f n = withPaging (withEntered (without f (n .paging .entered)) (n .paging)) n
+
+-- the node in which this is the free line and this the buffer of group g
+unfoldable pub withBoth : ℕ → List Frame → Buffer → Node → Node
+withBoth g fs v n = withGroup g (withBuffer v (groupOf n g)) (withFree fs n)
+
 -- group g takes the front of the free line
 unfoldable pub taking : ℕ → Node → Node
-taking g n = withStock g (takeFrame (n .free) (groupOf n g .buffer)) n
+taking g n = withStock g (takeFrame (n .free) (n .paging .entered) (groupOf n g .buffer)) n
+
+-- the same but for the order of entry
+unfoldable pub granting : ℕ → Node → Node
+granting g n =
+    let s = takeFrame (n .free) (n .paging .entered) (groupOf n g .buffer) in
+    withBoth g (s .free) (s .buffer) n
 
 -- the message is put behind the last of its group's buffer
 unfoldable pub putting : Message → Node → Node
-putting x n = withStock (x .group) (record { free = n .free; buffer = appended x (groupOf n (x .group) .buffer) }) n
+putting x n = withGroup (x .group) (withBuffer (appended x (groupOf n (x .group) .buffer)) (groupOf n (x .group))) n
 
 -- the buffer of group g has such a place, or is full and a frame is free
 abbrev pub Storable : ℕ → Node → Type 0
@@ -65,23 +93,33 @@ Queued i n = i ≤ length (n .queue)
 unfoldable pub dropping : ℕ → Node → Node
 dropping i n = withQueue (drop i (n .queue)) n
 
--- the buffer of group g has a message, behind used-up places of its first frame
+-- the buffer of group g has a message, behind used-up places of its first page, which is in a frame
 pub record Waits (g : ℕ) (n : Node) : Type 0 where
   pub some : 1 ≤ groupOf n g .buffer .count
   pub used : groupOf n g .buffer .used < paper01 .perFrame
   pub held : 1 ≤ length (groupOf n g .buffer .frames)
+  -- that frame stands once in the order of entry
+  pub entered : InOrder (getD (groupOf n g .buffer .frames) 0 0) n
+  -- the free frames and those in use are no more than there are
+  pub order : length (n .free) + length (n .paging .entered) ≤ paper01 .frames
 
 -- the first place of group g's buffer is used up
 unfoldable pub usingUp : ℕ → Node → Node
-usingUp g n = withStock g (useUp (n .free) (groupOf n g .buffer)) n
+usingUp g n = withStock g (useUp (n .free) (n .paging .entered) (groupOf n g .buffer)) n
 
 -- the first frame of group g's buffer is freed
 unfoldable pub freeing : ℕ → Node → Node
-freeing g n = withStock g (freeFirst paper01 (n .free) (groupOf n g .buffer)) n
+freeing g n = withStock g (freeFirst paper01 (n .free) (n .paging .entered) (groupOf n g .buffer)) n
+
+-- the same but for the order of entry
+unfoldable pub releasing : ℕ → Node → Node
+releasing g n =
+    let s = freeFirst paper01 (n .free) (n .paging .entered) (groupOf n g .buffer) in
+    withBoth g (s .free) (s .buffer) n
 
 -- the first message of group g's buffer goes
 unfoldable pub removing : ℕ → Node → Node
-removing g n = withStock g (removeFirst paper01 (n .free) (groupOf n g .buffer)) n
+removing g n = withStock g (removeFirst paper01 (n .free) (n .paging .entered) (groupOf n g .buffer)) n
 
 -- the queue has a place left
 abbrev pub QueueRoom : Node → Type 0

@@ -3,12 +3,15 @@ use super::Node;
 use super::frames;
 use super::group;
 use super::map;
+use super::paging;
 use super::words;
 ghost use Prim.Native.Nat.{_≤_};
-ghost use Rattle.rules.specs.Build.{groupCount};
+ghost use Rattle.rules.specs.Build.{paper01, groupCount};
 ghost use Rattle.rules.specs.Node.{Message};
-ghost use Rattle.rules.specs.Frames.{store};
+ghost use Rattle.rules.specs.Frames.{put};
+ghost use Rattle.rules.specs.Paging.{store};
 ghost use Rattle.memory.specs.Holds.{Some, Becomes, Room, Storable, Kept, Waits, putting, usingUp, freeing, removing};
+ghost use Rattle.memory.specs.Paging.{Wanting};
 
 // The last place of a frame.
 const LAST_PLACE: u32 = 7;
@@ -27,11 +30,11 @@ pub fn put(m: &mut [u32], g: u32, len: u32, words: [u32; 8])
     group::set_counts(m, g, x.used, x.count + 1);
 }
 
-// A message moves to the end of group g's buffer.
+// A message is put at the end of group g's buffer, in a frame taken for it where the buffer is full.
 pub fn append(m: &mut [u32], g: u32, len: u32, words: [u32; 8])
     requires { ⌜ (1 ≤ g) × (g ≤ groupCount) ⌝ }
     requires { ⌜ Some (now m) (Storable g) ⌝ }
-    ensures { λ _. ⌜ ((x : Message) → Kept g len words x → Becomes (now (m .entry)) (now (m .exit)) (Storable g) (store x)) ⌝ }
+    ensures { λ _. ⌜ ((x : Message) → Kept g len words x → Becomes (now (m .entry)) (now (m .exit)) (Storable g) (put x)) ⌝ }
 {
     let end = map::group_word(m, g, map::USED) + map::group_word(m, g, map::COUNT);
     let places = Node::PER_FRAME * map::group_word(m, g, map::HELD);
@@ -39,6 +42,16 @@ pub fn append(m: &mut [u32], g: u32, len: u32, words: [u32; 8])
         frames::extend(m, g);
     }
     put(m, g, len, words);
+}
+
+// A message moves to the end of group g's buffer: its page is in a frame first.
+pub fn store(m: &mut [u32], g: u32, len: u32, words: [u32; 8])
+    requires { ⌜ (1 ≤ g) × (g ≤ groupCount) ⌝ }
+    requires { ⌜ Some (now m) (Wanting g) ⌝ }
+    ensures { λ _. ⌜ ((x : Message) → Kept g len words x → Becomes (now (m .entry)) (now (m .exit)) (Wanting g) (store paper01 x)) ⌝ }
+{
+    paging::prepare(m, g);
+    append(m, g, len, words);
 }
 
 // The first place of group g's buffer is used up.
@@ -51,16 +64,15 @@ pub fn use_up(m: &mut [u32], g: u32)
     group::set_counts(m, g, x.used + 1, x.count - 1);
 }
 
-// The first frame of group g's buffer is freed, and its first message with it.
+// The first frame of group g's buffer is freed, and its first message with it; the frame leaves the order of entry.
 pub fn free_first(m: &mut [u32], g: u32)
     requires { ⌜ (1 ≤ g) × (g ≤ groupCount) ⌝ }
     requires { ⌜ Some (now m) (Waits g) ⌝ }
     ensures { λ _. ⌜ Becomes (now (m .entry)) (now (m .exit)) (Waits g) (freeing g) ⌝ }
 {
-    let x = group::read(m, g);
-    let f = frames::unlist(m, g);
-    group::set_counts(m, g, 0, x.count - 1);
-    frames::give_frame(m, f);
+    let f = map::group_word(m, g, map::LIST);
+    frames::release(m, g);
+    frames::depart(m, f);
 }
 
 // The first message of group g's buffer goes.

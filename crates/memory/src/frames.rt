@@ -1,59 +1,59 @@
-// Frames between the free line and the groups' lists.
+// Frames between the free line and the groups' lists, and the order of entry into frames.
+use super::group;
+use super::lines;
 use super::map;
-use super::words;
-ghost use Prim.Native.Nat.{_+_, _≤_, _<_};
-ghost use lib.ListN.{length};
-ghost use Rattle.rules.specs.Build.{paper01, groupCount};
-ghost use Rattle.rules.specs.Memory.{size, word, groupAddress, freeCountAt, heldOffset};
-ghost use Rattle.memory.specs.Writes.{InGroup, TookFrame, GaveFrame, Unlisted};
-ghost use Rattle.memory.specs.Holds.{Some, Becomes, FrameLeft, taking};
+ghost use Prim.Native.Nat.{_≤_};
+ghost use Rattle.rules.specs.Build.{groupCount};
+ghost use Rattle.memory.specs.Holds.{Some, Becomes, FrameLeft, OrderRoom, InOrder, Waits, granting, taking, entering, departing, releasing};
 
-// The front of the free line is taken.
-pub fn take_frame(m: &mut [u32]) -> u32
-    requires { ⌜ size ≤ length (now m) ⌝ }
-    requires { ⌜ (1 ≤ word (now m) freeCountAt) × (word (now m) freeCountAt ≤ paper01 .frames) ⌝ }
-    ensures { λ r. ⌜ TookFrame (now (m .entry)) (now (m .exit)) r ⌝ }
+// Frame f enters: it is the last in the order of entry.
+pub fn enter(m: &mut [u32], f: u32)
+    requires { ⌜ Some (now m) OrderRoom ⌝ }
+    ensures { λ _. ⌜ Becomes (now (m .entry)) (now (m .exit)) OrderRoom (entering f) ⌝ }
 {
-    let f = m[map::FREE_AT];
-    let n = m[map::FREE_COUNT];
-    words::shift(m, map::FREE_AT, 1, n as usize - 1);
-    m[map::FREE_COUNT] = n - 1;
-    f
+    lines::join(m, map::ENTERED_COUNT, map::ENTERED_AT, f);
 }
 
-// Frame f joins the end of the free line.
-pub fn give_frame(m: &mut [u32], f: u32)
-    requires { ⌜ size ≤ length (now m) ⌝ }
-    requires { ⌜ word (now m) freeCountAt < paper01 .frames ⌝ }
-    ensures { λ _. ⌜ GaveFrame (now (m .entry)) (now (m .exit)) f ⌝ }
+// Frame f leaves the order of entry.
+pub fn depart(m: &mut [u32], f: u32)
+    requires { ⌜ Some (now m) (InOrder f) ⌝ }
+    ensures { λ _. ⌜ Becomes (now (m .entry)) (now (m .exit)) (InOrder f) (departing f) ⌝ }
 {
-    let n = m[map::FREE_COUNT];
-    m[map::FREE_AT + n as usize] = f;
-    m[map::FREE_COUNT] = n + 1;
+    let i = lines::position(m, map::ENTERED_COUNT, map::ENTERED_AT, f);
+    lines::leave(m, map::ENTERED_COUNT, map::ENTERED_AT, i);
 }
 
-// Group g takes a frame to the end of its list.
+// The front of the free line goes to the end of group g's list.
+pub fn grant(m: &mut [u32], g: u32)
+    requires { ⌜ (1 ≤ g) × (g ≤ groupCount) ⌝ }
+    requires { ⌜ Some (now m) FrameLeft ⌝ }
+    ensures { λ _. ⌜ Becomes (now (m .entry)) (now (m .exit)) FrameLeft (granting g) ⌝ }
+{
+    let f = lines::leave(m, map::FREE_COUNT, map::FREE_AT, 0);
+    let at = map::group_at(g);
+    lines::join(m, at + map::HELD, at + map::LIST, f);
+}
+
+// Group g takes a frame, which enters.
 pub fn extend(m: &mut [u32], g: u32)
     requires { ⌜ (1 ≤ g) × (g ≤ groupCount) ⌝ }
     requires { ⌜ Some (now m) FrameLeft ⌝ }
     ensures { λ _. ⌜ Becomes (now (m .entry)) (now (m .exit)) FrameLeft (taking g) ⌝ }
 {
-    let k = map::group_word(m, g, map::HELD);
-    let f = take_frame(m);
-    map::set_group_word(m, g, map::LIST + k as usize, f);
-    map::set_group_word(m, g, map::HELD, k + 1);
+    let f = m[map::FREE_AT];
+    grant(m, g);
+    enter(m, f);
 }
 
-// The front of group g's list leaves it.
-pub fn unlist(m: &mut [u32], g: u32) -> u32
-    requires { ⌜ InGroup (now m) g heldOffset ⌝ }
-    requires { ⌜ (1 ≤ word (now m) (groupAddress g + heldOffset)) × (word (now m) (groupAddress g + heldOffset) ≤ paper01 .frames) ⌝ }
-    ensures { λ r. ⌜ Unlisted (now (m .entry)) (now (m .exit)) g r ⌝ }
+// The front of group g's list goes to the end of the free line, and the first message with it.
+pub fn release(m: &mut [u32], g: u32)
+    requires { ⌜ (1 ≤ g) × (g ≤ groupCount) ⌝ }
+    requires { ⌜ Some (now m) (Waits g) ⌝ }
+    ensures { λ _. ⌜ Becomes (now (m .entry)) (now (m .exit)) (Waits g) (releasing g) ⌝ }
 {
-    let f = map::group_word(m, g, map::LIST);
-    let k = map::group_word(m, g, map::HELD);
-    let at = map::group_at(g) + map::LIST;
-    words::shift(m, at, 1, k as usize - 1);
-    map::set_group_word(m, g, map::HELD, k - 1);
-    f
+    let x = group::read(m, g);
+    let at = map::group_at(g);
+    let f = lines::leave(m, at + map::HELD, at + map::LIST, 0);
+    group::set_counts(m, g, 0, x.count - 1);
+    lines::join(m, map::FREE_COUNT, map::FREE_AT, f);
 }

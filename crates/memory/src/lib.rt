@@ -3,7 +3,9 @@ pub mod buffer;
 pub mod descriptor;
 pub mod frames;
 pub mod group;
+pub mod lines;
 pub mod map;
+pub mod paging;
 pub mod queue;
 pub mod words;
 
@@ -32,6 +34,8 @@ impl Node {
 
     pub const FRAMES: u32 = 32;
 
+    pub const SWAP: u32 = 64;
+
     pub const PER_FRAME: u32 = 8;
 
     pub const TIMEOUT: u32 = 256;
@@ -46,6 +50,7 @@ impl Node {
     {
         Build {
             frames: Node::FRAMES,
+            swap: Node::SWAP,
             per_frame: Node::PER_FRAME,
             places: Node::PLACES,
             timeout: Node::TIMEOUT,
@@ -75,17 +80,15 @@ impl Node {
         Report::accepted(0, 0, 0, 0)
     }
 
-    // The same on memory that is known to be long enough: all 0, and the free line 0 to 31.
+    // The same on memory that is known to be long enough: all 0, but the free line, 0 to 31, and the swap line, 32 to 95.
     pub fn start(memory: &mut [u32])
         requires { ⌜ size ≤ length (now memory) ⌝ }
         ensures { λ _. ⌜ now (memory .exit) ≡ replaced (powerOn paper01) (now (memory .entry)) ⌝ }
     {
         words::clear(memory, 0, map::SIZE);
         memory[map::FREE_COUNT] = Node::FRAMES;
-        let mut i: u32 = 0;
-        while i < Node::FRAMES {
-            memory[map::FREE_AT + i as usize] = i;
-            i += 1;
-        }
+        lines::count_up(memory, map::FREE_AT, 0, Node::FRAMES);
+        memory[map::SWAP_COUNT] = Node::SWAP;
+        lines::count_up(memory, map::SWAP_AT, Node::FRAMES, Node::SWAP);
     }
 }

@@ -3,7 +3,7 @@ use super::Node;
 ghost use mathlib.Core.Path.{_≡_};
 ghost use mathlib.Core.List.{[], _∷_};
 ghost use Prim.Native.Nat.{_+_, _*_, _≤_, _<_};
-ghost use Rattle.rules.specs.Build.{paper01, groupCount};
+ghost use Rattle.rules.specs.Build.{paper01, pageCount, groupCount};
 ghost use lib.ListN.{length};
 ghost use Rattle.rules.specs.Frames.{ceilDiv};
 ghost use Rattle.rules.specs.Memory.{size, queueAt, queueStride, placeStride, word, groupAddress, frameAddress};
@@ -34,7 +34,7 @@ pub const MESSAGE: usize = 2;
 // The words of a message and of a descriptor.
 pub const WORDS: usize = 8;
 
-// The free line, and how many frame numbers it and each list have room for.
+// The free line, and how many frame numbers it and the order of entry have room for.
 pub const FREE_AT: usize = 164;
 
 pub const LINE: usize = 32;
@@ -42,7 +42,7 @@ pub const LINE: usize = 32;
 // The groups' records, and what stands where in one.
 pub const GROUPS_AT: usize = 196;
 
-pub const GROUP_STRIDE: usize = 46;
+pub const GROUP_STRIDE: usize = 110;
 
 pub const ATOMIC: usize = 0;
 
@@ -60,15 +60,34 @@ pub const DESCRIPTOR: usize = 6;
 
 pub const LIST: usize = 14;
 
-// The frames, and the words of a frame and of one of its places: length, eight words.
-pub const FRAMES_AT: usize = 564;
+// How many page numbers a list has room for.
+pub const PAGES: usize = 96;
+
+// The frames and behind them the swap pages, and the words of one and of one of its places: length, eight words.
+pub const FRAMES_AT: usize = 1076;
 
 pub const FRAME_STRIDE: usize = 72;
 
 pub const PLACE_STRIDE: usize = 9;
 
+// Swap space: the counts of the swap line and of the order of entry, the pages sent out and brought in, and the two lines.
+pub const SWAP_COUNT: usize = 7988;
+
+pub const ENTERED_COUNT: usize = 7989;
+
+pub const OUT: usize = 7990;
+
+pub const BROUGHT: usize = 7991;
+
+pub const SWAP_AT: usize = 7992;
+
+pub const ENTERED_AT: usize = 8056;
+
+// How many page numbers the swap line has room for.
+pub const SWAP_LINE: usize = 64;
+
 // The words of a node.
-pub const SIZE: usize = 2868;
+pub const SIZE: usize = 8088;
 
 // Where place i of the hardware queue stands.
 pub fn queue_at(i: u32) -> usize
@@ -86,9 +105,9 @@ pub fn group_at(g: u32) -> usize
     GROUPS_AT + GROUP_STRIDE * (g as usize - 1)
 }
 
-// Where a place of frame f stands.
+// Where a place of the frame or swap page with number f stands.
 pub fn place_at(f: u32, place: u32) -> usize
-    requires { ⌜ (f < paper01 .frames) × (place < paper01 .perFrame) ⌝ }
+    requires { ⌜ (f < pageCount paper01) × (place < paper01 .perFrame) ⌝ }
     ensures { λ r. ⌜ r ≡ frameAddress f + placeStride * place ⌝ }
 {
     FRAMES_AT + FRAME_STRIDE * (f as usize) + PLACE_STRIDE * (place as usize)

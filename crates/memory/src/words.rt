@@ -1,11 +1,11 @@
 // Words copied, moved, cleared and tested, whatever they stand for.
 ghost use mathlib.Core.Path.{_≡_};
 ghost use mathlib.Core.List.{_∷_, _++_};
-ghost use Prim.Native.Nat.{_+_, _≤_};
+ghost use Prim.Native.Nat.{_+_, _≤_, _<_};
 ghost use lib.ListN.{length, replicate};
 ghost use Rattle.rules.specs.Memory.{wordsAt};
 ghost use Rattle.rules.specs.MemoryTest.{zeroAt};
-ghost use Rattle.memory.specs.Writes.{Wrote};
+ghost use Rattle.memory.specs.Writes.{Wrote, Swapped};
 
 // Eight words from address a on.
 pub fn eight(m: &[u32], a: usize) -> [u32; 8]
@@ -60,14 +60,29 @@ pub fn put_eight(m: &mut [u32], at: usize, words: [u32; 8])
     copy_in(m, at, &words);
 }
 
-// n words from address `from` on move down to address `to`.
-pub fn move_down(m: &mut [u32], to: usize, from: usize, n: usize)
-    requires { ⌜ (to ≤ from) × (from + n ≤ length (now m)) ⌝ }
+// n words from address `from` on are copied to address `to`, which is below them or behind them.
+pub fn copy(m: &mut [u32], to: usize, from: usize, n: usize)
+    requires { ⌜ (to + n ≤ length (now m)) × (from + n ≤ length (now m)) ⌝ }
+    requires { ⌜ (from < to → from + n ≤ to) ⌝ }
     ensures { λ _. ⌜ Wrote (now (m .entry)) (now (m .exit)) to (wordsAt (now (m .entry)) from n) ⌝ }
 {
     let mut i = 0;
     while i < n {
         m[to + i] = m[from + i];
+        i += 1;
+    }
+}
+
+// n words from address a on and as many from address b on, behind them, are exchanged.
+pub fn swap(m: &mut [u32], a: usize, b: usize, n: usize)
+    requires { ⌜ (a + n ≤ b) × (b + n ≤ length (now m)) ⌝ }
+    ensures { λ _. ⌜ Swapped (now (m .entry)) (now (m .exit)) a b n ⌝ }
+{
+    let mut i = 0;
+    while i < n {
+        let x = m[a + i];
+        m[a + i] = m[b + i];
+        m[b + i] = x;
         i += 1;
     }
 }
@@ -89,7 +104,7 @@ pub fn shift(m: &mut [u32], at: usize, by: usize, n: usize)
     requires { ⌜ at + by + n ≤ length (now m) ⌝ }
     ensures { λ _. ⌜ Wrote (now (m .entry)) (now (m .exit)) at (wordsAt (now (m .entry)) (at + by) n ++ replicate by 0) ⌝ }
 {
-    move_down(m, at, at + by, n);
+    copy(m, at, at + by, n);
     clear(m, at + n, by);
 }
 

@@ -3,6 +3,7 @@ pub mod TestLaws
 pub mod MapWords
 pub mod MapParts
 pub mod MapFrames
+pub mod MapPaging
 pub mod MapTest
 pub mod MapRead
 pub mod MapLaws

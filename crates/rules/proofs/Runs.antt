@@ -5,3 +5,5 @@ pub mod RunLine
 pub mod RunQueue
 pub mod RunTimer
 pub mod RunWaits
+pub mod AlikeLaws
+pub mod UnseenLaws

@@ -4,6 +4,9 @@ pub mod ListLaws
 pub mod SoundLaws
 pub mod NodeLaws
 pub mod FrameLaws
+pub mod RoomLaws
+pub mod PageLaws
+pub mod PagingLaws
 pub mod StoreLaws
 pub mod SettlingLaws
 pub mod LineLaws

@@ -39,11 +39,11 @@ lastNode = 63
 abbrev pub tickLimit : ℕ
 tickLimit = 65535
 
--- a build that makes sense: at least one of each of its parts, and two frames. With one frame the running group's first page, which is never
--- sent out, could stand in it, and no other page could be written; with two there is always a page to send out.
+-- a build that makes sense: at least one of each of its parts but swap pages, and two frames. With one frame the running group's first page,
+-- which is never sent out, could stand in it, and no other page could be written; with two there is always a page to send out. Without swap
+-- pages none ever is.
 pub record Sensible (b : Build) : Type 0 where
   pub frames : 2 ≤ b .frames
-  pub swap : 1 ≤ b .swap
   pub perFrame : 1 ≤ b .perFrame
   pub places : 1 ≤ b .places
   pub timeout : 1 ≤ b .timeout

@@ -35,8 +35,8 @@ pub data Due (m : List ℕ) (n : Node) : Operation → ℕ → Type 0 where
   bad-words : {g : ℕ} {ws : List ℕ} → (length ws ≡ 0) ⊎ (8 < length ws) → Due m n (arrive g ws) 4
   -- "5: 16 messages already in the hardware queue."
   queue-full : {g : ℕ} {ws : List ℕ} → length (n .queue) ≡ 16 → Due m n (arrive g ws) 5
-  -- "6: with this message the pledges would sum to above 32."
-  no-frames : {g : ℕ} {ws : List ℕ} → 32 < pledgesWith n g → Due m n (arrive g ws) 6
+  -- "6: with this message the pledges would sum to above 32."; "Answer 6 .. now read[s] 96 for 32"
+  no-frames : {g : ℕ} {ws : List ℕ} → 96 < pledgesWith n g → Due m n (arrive g ws) 6
   -- "7: nobody runs"
   nobody-runs : {r : Request} → n .running ≡ 0 → Due m n (user r) 7
   -- "8: D or E with an empty line."

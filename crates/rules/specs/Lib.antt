@@ -20,3 +20,4 @@ pub mod Cases
 pub mod Conditions
 pub mod DemandOne
 pub mod DemandThree
+pub mod Unseen

@@ -1,6 +1,6 @@
--- What the clauses tested so far establish for those behind them. The counts bound every list; the buffers' numbers and the frames, each
--- standing once among 32, make every list name frames; and with the queue's groups every line can be told. Assumes nothing.
-use Prim.Native.Nat.{ℕ, _+_, _*_, _≤_, _<_}
+-- What the clauses tested so far establish for those behind them. The counts bound every list; the buffers' numbers and the pages, each
+-- standing once among 96, make every list name pages; and with the queue's groups every line can be told. Assumes nothing.
+use Prim.Native.Nat.{ℕ, _+_, _-_, _*_, _≤_, _<_}
 use mathlib.Core.Path.{_≡_}
 use mathlib.Core.Bool.{true, not, _||_, and-eq-true-iff}
 use mathlib.Core.List.{List, _∷_, _++_}
@@ -12,24 +12,24 @@ use Rattle.rules.specs.Lists.{all, upFrom}
 use Rattle.rules.specs.Build.{groupCount}
 use Rattle.rules.specs.Frames.{ceilDiv}
 use Rattle.rules.specs.Valid.{isMessage, frameNumbers, standsOnce}
-use Rattle.rules.specs.Memory.{runningAt, queuedAt, freeCountAt, queueAt, queueStride, usedOffset, countOffset, heldOffset, describedOffset, size, word, wordsAt, messageAt, groupAddress, nodeAt}
+use Rattle.rules.specs.Memory.{runningAt, queuedAt, freeCountAt, swapCountAt, enteredCountAt, queueAt, queueStride, usedOffset, countOffset, heldOffset, describedOffset, size, word, wordsAt, messageAt, groupAddress, nodeAt}
 use Rattle.rules.specs.MemoryTest.{groupCounts, lengthInBounds, countsInBounds}
 use Rattle.rules.proofs.Map.TestLaws.{range-tells}
 use Rattle.rules.proofs.Steps.EveryLaws.{every-append}
 use Rattle.rules.proofs.Steps.ListLaws.{once-bounded}
-use Rattle.validate.specs.Clauses.{messageGood, bufferGood, framesOnce, listStart, listCount, listed, numbersGood, framesGood}
+use Rattle.validate.specs.Clauses.{messageGood, bufferGood, pagesOnce, listStart, listCount, listed, numbersGood, framesGood}
 use Rattle.validate.specs.Known.{Counted, Framed, Lined}
-use Rattle.validate.proofs.frames.ListedLaws.{count-held, start-held, numbers-split, behind}
+use Rattle.validate.proofs.frames.ListedLaws.{group-count, group-start, numbers-listed, numbers-split, behind}
 use Rattle.validate.proofs.TestLaws.{numbers-tell, frames-tell}
 
 module _ (m : List ℕ) where
   -- the counts of group g
   group-counted : (g : ℕ) → groupCounts m g ≡ true
-      → (word m (groupAddress g + heldOffset) ≤ 32) × (word m (groupAddress g + describedOffset) ≤ 8)
+      → (word m (groupAddress g + heldOffset) ≤ 96) × (word m (groupAddress g + describedOffset) ≤ 8)
   unfolding groupCounts
   group-counted g h =
       let k = and-eq-true-iff _ _ .0 h in
-      (leb-true _ 32 (k .0), leb-true _ 8 (k .1))
+      (leb-true _ 96 (k .0), leb-true _ 8 (k .1))
 
   -- the counts
   pub counted : size ≤ length m → countsInBounds m ≡ true → Counted m
@@ -37,13 +37,17 @@ module _ (m : List ℕ) where
   counted long h =
       let k = and-eq-true-iff (leb (word m queuedAt) 16) _ .0 h in
       let l = and-eq-true-iff (leb (word m freeCountAt) 32) _ .0 (k .1) in
-      let n = and-eq-true-iff (all (groupCounts m) (upFrom 1 groupCount)) _ .0 (l .1) in
+      let s = and-eq-true-iff (leb (word m swapCountAt) 64) _ .0 (l .1) in
+      let e = and-eq-true-iff (leb (word m enteredCountAt) 32) _ .0 (s .1) in
+      let n = and-eq-true-iff (all (groupCounts m) (upFrom 1 groupCount)) _ .0 (e .1) in
       let gs = range-tells (groupCounts m) 1 groupCount .0 (n .0) in
       let ls = range-tells (lengthInBounds m) 0 (word m queuedAt) .0 (n .1) in
       record {
         long = long;
         queued = leb-true _ 16 (k .0);
         free = leb-true _ 32 (l .0);
+        swap = leb-true _ 64 (s .0);
+        entered = leb-true _ 32 (e .0);
         held = λ g low high. group-counted g (gs g low (omega arith)) .0;
         described = λ g low high. group-counted g (gs g low (omega arith)) .1;
         lengths = λ i h. leb-true _ 8 (ls i (omega arith) (omega arith));
@@ -62,23 +66,25 @@ module _ (m : List ℕ) where
       let l = and-eq-true-iff (not (eqb count 0) || eqb used 0) (eqb (word m (a + heldOffset)) (ceilDiv (used + count) 8)) .0 (k .1) in
       (ltb-true used 8 (k .0), eqb-true (word m (a + heldOffset)) (ceilDiv (used + count) 8) (l .1))
 
-  -- a number of a list is a frame's
-  frame-bound : length (frameNumbers (nodeAt m)) ≡ 32 → framesOnce m ≡ true → (g i : ℕ) → g < 9 → i < listCount m g → word m (listStart g + i) < 32
-  unfolding framesOnce standsOnce
-  frame-bound l h g i b k =
-      let each = range-tells (standsOnce (frameNumbers (nodeAt m))) 0 32 .0 h in
-      let small = once-bounded 32 (frameNumbers (nodeAt m)) (λ f low. eqb-true _ 1 (each f (omega arith) (omega arith))) l in
-      let parted = rw (numbers-split m g i b k) at small in
-      every-append (λ x. x < 32) (listed m g ++ wordsAt m (listStart g) i) (word m (listStart g + i) ∷ behind m g i) .0 parted .1 .0
+  -- a number of a list is a page's
+  page-bound : length (frameNumbers (nodeAt m)) ≡ 96 → pagesOnce m ≡ true → (l i : ℕ) → 1 ≤ l → l < 11 → i < listCount m l
+      → word m (listStart l + i) < 96
+  unfolding pagesOnce standsOnce
+  page-bound whole h l i low high k =
+      let each = range-tells (standsOnce (frameNumbers (nodeAt m))) 0 96 .0 h in
+      let small = once-bounded 96 (frameNumbers (nodeAt m)) (λ f b. eqb-true _ 1 (each f (omega arith) (omega arith))) whole in
+      let parted = rw (numbers-listed m, numbers-split m 1 11 l i low high k) at small in
+      every-append (λ x. x < 96) (listed m 1 (l - 1) ++ wordsAt m (listStart l) i) (word m (listStart l + i) ∷ behind m 11 l i) .0 parted .1 .0
 
-  -- every list names frames
-  pub framed : Counted m → numbersGood m ≡ true → length (frameNumbers (nodeAt m)) ≡ 32 → framesOnce m ≡ true
+  -- every list names pages
+  pub framed : Counted m → numbersGood m ≡ true → length (frameNumbers (nodeAt m)) ≡ 96 → pagesOnce m ≡ true
       → (g : ℕ) → 1 ≤ g → g ≤ groupCount → Framed m g
   framed c h l o g low high =
       let ns = numbers-tell m .0 h in
       let b = buffer-tells g (range-tells (bufferGood m) 1 groupCount .0 (ns .1 .1 .1 .0) g low (omega arith)) in
-      let count = count-held m g (λ z. omega arith) in
-      let start = start-held g (λ z. omega arith) in
+      let back : g + 2 - 2 ≡ g = omega arith in
+      let count = rw back at (group-count m (g + 2) (omega arith)) in
+      let start = rw back at (group-start (g + 2) (omega arith)) in
       record {
         long = c .long;
         low = low;
@@ -86,7 +92,7 @@ module _ (m : List ℕ) where
         used = b .0;
         held = b .1;
         few = c .held g low high;
-        numbers = λ i k. rw start at (frame-bound l o g i (omega arith) (omega arith));
+        numbers = λ i k. rw start at (page-bound l o (g + 2) i (omega arith) (omega arith) (omega arith));
       }
 
   -- the group of message i
@@ -106,5 +112,5 @@ module _ (m : List ℕ) where
         counted = c;
         running = leb-true (word m runningAt) 8 (ns .0);
         groups = λ i l. group-tells i (range-tells (messageGood m) 0 (word m queuedAt) .0 (ns .1 .1 .0) i (omega arith) (omega arith));
-        framed = framed c h (eqb-true (length (frameNumbers (nodeAt m))) 32 (fs .0)) (fs .1 .0);
+        framed = framed c h (eqb-true (length (frameNumbers (nodeAt m))) 96 (fs .0)) (fs .1 .0);
       }

@@ -1,10 +1,10 @@
 -- Tests of a range by a loop: what the turns so far have passed, and what one failure tells. Assumes nothing.
-use Prim.Native.Nat.{ℕ, _+_, _≤_, _<_}
-use mathlib.Core.Path.{_≡_, refl, sym, _∙_}
+use Prim.Native.Nat.{ℕ, zero, suc, _+_, _≤_, _<_}
+use mathlib.Core.Path.{_≡_, refl, sym, ap, _∙_}
 use mathlib.Core.Logic.{_⊎_, inl, inr}
-use mathlib.Core.Bool.{Bool, true, false, not, _&&_, true≢false}
+use mathlib.Core.Bool.{Bool, true, false, not, _&&_, true≢false, and-true, and-assoc}
 use native.Mathlib.Omega.{arith}
-use native.Mathlib.Nat.{eq-or-lt-of-le}
+use native.Mathlib.Nat.{add-zero, suc-add, eq-or-lt-of-le}
 use borrow.Author.Tests.{not-true, not-false}
 use Rattle.rules.specs.Lists.{all, upFrom}
 use Rattle.rules.specs.Build.{groupCount}
@@ -22,6 +22,14 @@ and-fails a b e = rw e
 -- one that passes leaves it to the second
 pub and-passes : (a b t : Bool) → a ≡ true → b ≡ t → a && b ≡ t
 and-passes a b t e f = rw (e, f)
+
+-- one number more
+pub all-more : (p : ℕ → Bool) (a k : ℕ) → all p (upFrom a (k + 1)) ≡ all p (upFrom a k) && p (a + k)
+all-more p a zero = rw (add-zero a) (and-true (p a))
+all-more p a (suc k) =
+    let e : suc a + k ≡ a + suc k = omega arith in
+    rw (suc-add k 1, ← e)
+    (ap (λ (r : Bool). p a && r) (all-more p (suc a) k) ∙ sym (and-assoc (p a) (all p (upFrom (suc a) k)) (p (suc a + k))))
 
 -- where a call that answers for a test says no, the test fails
 pub refused : {a t : Bool} → a ≡ t → not t ≡ true → a ≡ false

@@ -13,14 +13,14 @@ use borrow.Author.Tests.{le-leb, eq-eqb}
 use Rattle.rules.specs.Lists.{Every, all, upFrom}
 use Rattle.rules.specs.Build.{paper01, groupCount, wordLimit}
 use Rattle.rules.specs.Frames.{pledges}
-use Rattle.rules.specs.Valid.{isMessage, isPlace, isFrame, isBuffer, isGroup, frameNumbers, pendingHasLine, runnerAtomic, headStays, nodeTests, isNode}
-use Rattle.rules.specs.Memory.{runningAt, timerAt, queuedAt, freeAt, freeCountAt, queueAt, groupsAt, heldOffset, describedOffset, descriptorOffset, listOffset, size, word, wordsAt, placeAt, framePlaces, frameAddress, frameAt, listAt, bufferAt, groupAt, groupsFrom, groupAddress, nodeAt}
+use Rattle.rules.specs.Valid.{isMessage, isPlace, isFrame, isBuffer, isGroup, isSwap, frameNumbers, frameOrder, pendingHasLine, runnerAtomic, headStays, runnerInFrame, nodeTests, isNode}
+use Rattle.rules.specs.Memory.{runningAt, timerAt, queuedAt, freeAt, freeCountAt, swapAt, swapCountAt, queueAt, groupsAt, heldOffset, describedOffset, descriptorOffset, listOffset, size, word, wordsAt, placeAt, framePlaces, frameAddress, frameAt, listAt, bufferAt, groupAt, groupsFrom, groupAddress, pagingFrom, nodeAt}
 use Rattle.rules.specs.MemoryTest.{countsInBounds, flagsAreFlags, unusedAreZero, memoryTests, isMemory}
 use Rattle.rules.proofs.Map.TestLaws.{all-every, passes-every, range-tells}
 use Rattle.rules.proofs.Steps.EveryLaws.{every-of, every-map, every-concat}
 use Rattle.rules.proofs.Map.MapWords.{Records, length-wordsAt, length-records, every-record}
 use Rattle.rules.proofs.Map.MapParts.{messages, places, groups}
-use Rattle.validate.specs.Clauses.{messageGood, bufferGood, pendingAtomic, waitingGood, framesOnce, numbersGood, framesGood, linesGood}
+use Rattle.validate.specs.Clauses.{messageGood, bufferGood, pendingAtomic, waitingGood, pagesOnce, swapPage, enteredOnce, numbersGood, framesGood, linesGood}
 use Rattle.validate.specs.Known.{Counted}
 use Rattle.validate.proofs.RangeLaws.{fails}
 use Rattle.validate.proofs.frames.PlaceLaws.{places-all}
@@ -70,12 +70,33 @@ module _ (m : List ℕ) where
       let l = length-records (places m) (frameAddress f) 8 in
       and-eq-true-iff _ _ .1 (eq-eqb (length (framePlaces m f)) 8 l, each isPlace (framePlaces m f) .1 (frame-eights f))
 
+  -- and so are all that are
+  frames-whole : (ws : List ℕ) → all (isFrame paper01) (map (frameAt m) ws) ≡ true
+  frames-whole ws =
+      each (isFrame paper01) (map (frameAt m) ws) .1 (every-map (λ x. isFrame paper01 x ≡ true) (frameAt m) frame-whole ws)
+
   -- the free frames
   free-tested : all (isFrame paper01) (nodeAt m .free) ≡ true
   unfolding nodeAt
-  free-tested =
-      let ws = wordsAt m freeAt (word m freeCountAt) in
-      each (isFrame paper01) (map (frameAt m) ws) .1 (every-map (λ x. isFrame paper01 x ≡ true) (frameAt m) frame-whole ws)
+  free-tested = frames-whole (wordsAt m freeAt (word m freeCountAt))
+
+  -- the free swap pages
+  swap-tested : all (isFrame paper01) (nodeAt m .paging .swap) ≡ true
+  unfolding nodeAt pagingFrom
+  swap-tested = frames-whole (wordsAt m swapAt (word m swapCountAt))
+
+  -- their numbers, from the i-th on
+  swap-from : (i k : ℕ) → all (isSwap paper01) (map (frameAt m) (wordsAt m (swapAt + i) k)) ≡ all (swapPage m) (upFrom i k)
+  unfolding wordsAt isSwap frameAt swapPage
+  swap-from i zero = refl
+  swap-from i (suc k) =
+      let e : swapAt + i + 1 ≡ swapAt + suc i = omega arith in
+      ap (λ (t : Bool). leb 32 (word m (swapAt + i)) && t) (rw e (swap-from (suc i) k))
+
+  -- and all of them
+  swap-numbered : all (isSwap paper01) (nodeAt m .paging .swap) ≡ all (swapPage m) (upFrom 0 (word m swapCountAt))
+  unfolding nodeAt pagingFrom
+  swap-numbered = swap-from 0 (word m swapCountAt)
 
   -- the first numbers
   running-tested : leb (nodeAt m .running) groupCount ≡ leb (word m runningAt) groupCount
@@ -152,31 +173,36 @@ module _ (m : List ℕ) where
   numbers-tell = and-tells (and-tells (and-tells (and-tells Iff·rfl)))
 
   pub frames-tell : (framesGood m ≡ true)
-      ↔ ((eqb (length (frameNumbers (nodeAt m))) 32 ≡ true) × ((framesOnce m ≡ true) × (all (waitingGood m) (upFrom 1 groupCount) ≡ true)))
+      ↔ ((eqb (length (frameNumbers (nodeAt m))) 96 ≡ true)
+      × ((pagesOnce m ≡ true)
+      × ((all (swapPage m) (upFrom 0 (word m swapCountAt)) ≡ true)
+      × ((eqb (length (frameOrder (nodeAt m))) 32 ≡ true) × ((enteredOnce m ≡ true) × (all (waitingGood m) (upFrom 1 groupCount) ≡ true))))))
   unfolding framesGood
-  frames-tell = and-tells (and-tells Iff·rfl)
+  frames-tell = and-tells (and-tells (and-tells (and-tells (and-tells Iff·rfl))))
 
   lines-tell : (linesGood m ≡ true)
-      ↔ ((leb (pledges paper01 (nodeAt m)) 32 ≡ true)
+      ↔ ((leb (pledges paper01 (nodeAt m)) 96 ≡ true)
       × ((all (pendingHasLine (nodeAt m)) (upFrom 1 groupCount) ≡ true)
-      × ((runnerAtomic (nodeAt m) ≡ true) × (headStays (nodeAt m .queue) (nodeAt m) ≡ true))))
+      × ((runnerAtomic (nodeAt m) ≡ true)
+      × ((headStays (nodeAt m .queue) (nodeAt m) ≡ true) × (runnerInFrame paper01 (nodeAt m) ≡ true)))))
   unfolding linesGood
-  lines-tell = and-tells (and-tells (and-tells Iff·rfl))
+  lines-tell = and-tells (and-tells (and-tells (and-tells Iff·rfl)))
 
   -- the clauses of a node are those of its words
   pub node-tested : Counted m
       → (isNode paper01 (nodeAt m) ≡ true)
       ↔ ((numbersGood m ≡ true) × ((framesGood m ≡ true) × (linesGood m ≡ true)))
-  unfolding isNode nodeTests framesOnce
+  unfolding isNode nodeTests pagesOnce enteredOnce
   node-tested c = (
     λ h.
         let t = passes-every (nodeTests paper01) (nodeAt m) .0 h in
         let Gs = groups-tell c .0 (t .1 .1 .1 .1 .1 .0) in
-        let rest = t .1 .1 .1 .1 .1 .1 .1 in (
+        let fs = t .1 .1 .1 .1 .1 .1 .1 .1 in
+        let ls = fs .1 .1 .1 .1 .1 in (
           numbers-tell .1 (sym running-tested ∙ t .0, (sym timer-tested ∙ t .1 .0, (sym queue-tested ∙ t .1 .1 .1 .0, (Gs .0, Gs .1 .0)))),
           (
-            frames-tell .1 (rest .1 .0, (rest .0, Gs .1 .1)),
-            lines-tell .1 (rest .1 .1 .0, (rest .1 .1 .1 .0, (rest .1 .1 .1 .1 .0, rest .1 .1 .1 .1 .1 .0))),
+            frames-tell .1 (fs .1 .0, (fs .0, (sym swap-numbered ∙ fs .1 .1 .0, (fs .1 .1 .1 .1 .0, (fs .1 .1 .1 .0, Gs .1 .1))))),
+            lines-tell .1 (ls .0, (ls .1 .0, (ls .1 .1 .0, (ls .1 .1 .1 .0, ls .1 .1 .1 .1 .0)))),
           ),
         ),
     λ h.
@@ -185,7 +211,7 @@ module _ (m : List ℕ) where
         let ls = lines-tell .0 (h .1 .1) in
         let places = le-leb (length (nodeAt m .queue)) 16 (omega (arith, c .queued, queue-length)) in
         let eight = eq-eqb (length (nodeAt m .groups)) 8 groups-length in
-        let Gs = groups-tell c .1 (ns .1 .1 .1 .0, (ns .1 .1 .1 .1, fs .1 .1)) in
+        let Gs = groups-tell c .1 (ns .1 .1 .1 .0, (ns .1 .1 .1 .1, fs .1 .1 .1 .1 .1)) in
         passes-every (nodeTests paper01) (nodeAt m) .1 (
           running-tested ∙ ns .0,
           (
@@ -194,7 +220,31 @@ module _ (m : List ℕ) where
               places,
               (
                 queue-tested ∙ ns .1 .1 .0,
-                (eight, (Gs, (free-tested, (fs .1 .0, (fs .0, (ls .0, (ls .1 .0, (ls .1 .1 .0, (ls .1 .1 .1, tt))))))))),
+                (
+                  eight,
+                  (
+                    Gs,
+                    (
+                      free-tested,
+                      (
+                        swap-tested,
+                        (
+                          fs .1 .0,
+                          (
+                            fs .0,
+                            (
+                              swap-numbered ∙ fs .1 .1 .0,
+                              (
+                                fs .1 .1 .1 .1 .0,
+                                (fs .1 .1 .1 .0, (ls .0, (ls .1 .0, (ls .1 .1 .0, (ls .1 .1 .1 .0, (ls .1 .1 .1 .1, tt)))))),
+                              ),
+                            ),
+                          ),
+                        ),
+                      ),
+                    ),
+                  ),
+                ),
               ),
             ),
           ),

@@ -6,11 +6,11 @@ use mathlib.Core.List.{List}
 use lib.Dec.{eqb, leb, ltb}
 use lib.ListN.{length}
 use Rattle.rules.specs.Lists.{all, concatMap, upFrom}
-use Rattle.rules.specs.Build.{paper01, groupCount}
+use Rattle.rules.specs.Build.{paper01, pageCount, groupCount}
 use Rattle.rules.specs.Node.{waiting}
 use Rattle.rules.specs.Frames.{ceilDiv, pledges}
-use Rattle.rules.specs.Valid.{isMessage, isWaiting, frameNumbers, standsOnce, pendingHasLine, runnerAtomic, headStays}
-use Rattle.rules.specs.Memory.{runningAt, timerAt, queuedAt, freeCountAt, queueAt, queueStride, freeAt, listOffset, atomicOffset, pendingOffset, usedOffset, countOffset, heldOffset, placeStride, word, wordsAt, messageAt, placeAt, frameAddress, flagAt, bufferAt, groupAddress, nodeAt}
+use Rattle.rules.specs.Valid.{isMessage, isWaiting, frameNumbers, frameOrder, standsOnce, pendingHasLine, runnerAtomic, headStays, runnerInFrame}
+use Rattle.rules.specs.Memory.{runningAt, timerAt, queuedAt, freeCountAt, queueAt, queueStride, freeAt, listOffset, atomicOffset, pendingOffset, usedOffset, countOffset, heldOffset, placeStride, swapCountAt, enteredCountAt, swapAt, enteredAt, word, wordsAt, messageAt, placeAt, frameAddress, flagAt, bufferAt, groupAddress, nodeAt}
 
 -- "groups, waiting messages' lengths .. are within the bounds above": those of the i-th in the queue
 unfoldable pub messageGood : List ℕ → ℕ → Bool
@@ -32,37 +32,50 @@ pendingAtomic m g = not (flagAt m (groupAddress g + pendingOffset)) || flagAt m 
 unfoldable pub waitingGood : List ℕ → ℕ → Bool
 waitingGood m g = all isWaiting (waiting (bufferAt m (groupAddress g)))
 
--- place i of frame f: whether a message waits there as it must
+-- place i of frame or swap page f: whether a message waits there as it must
 unfoldable pub waitingIn : List ℕ → ℕ → ℕ → Bool
 waitingIn m f i = isWaiting (placeAt m (frameAddress f + placeStride * i))
 
--- place p of the list of group g, counted through its frames: the same
+-- place p of the list of group g, counted through its pages: the same
 unfoldable pub waitingAt : List ℕ → ℕ → ℕ → Bool
 waitingAt m g p = waitingIn m (word m (groupAddress g + listOffset + p / paper01 .perFrame)) (p % paper01 .perFrame)
 
--- The free line and the groups' lists as nine lists of frame numbers, the free line being list 0.
+-- The order of entry, the free line, the swap line and the groups' lists as eleven lists of page numbers: lists 0 and 1 have the frames, and
+-- those from 1 on all pages. The list of group g is list g + 2.
 
--- where list g begins
+-- where list l begins
 unfoldable pub listStart : ℕ → ℕ
-listStart zero = freeAt
-listStart (suc g) = groupAddress (suc g) + listOffset
+listStart zero = enteredAt
+listStart (suc zero) = freeAt
+listStart (suc (suc zero)) = swapAt
+listStart (suc (suc (suc g))) = groupAddress (suc g) + listOffset
 
--- how many frames it has
+-- how many numbers it has
 unfoldable pub listCount : List ℕ → ℕ → ℕ
-listCount m zero = word m freeCountAt
-listCount m (suc g) = word m (groupAddress (suc g) + heldOffset)
+listCount m zero = word m enteredCountAt
+listCount m (suc zero) = word m freeCountAt
+listCount m (suc (suc zero)) = word m swapCountAt
+listCount m (suc (suc (suc g))) = word m (groupAddress (suc g) + heldOffset)
 
--- their numbers
+-- the numbers
 unfoldable pub listNumbers : List ℕ → ℕ → List ℕ
-listNumbers m g = wordsAt m (listStart g) (listCount m g)
+listNumbers m l = wordsAt m (listStart l) (listCount m l)
 
--- the numbers of the first g lists
-unfoldable pub listed : List ℕ → ℕ → List ℕ
-listed m g = concatMap (listNumbers m) (upFrom 0 g)
+-- the numbers of k lists from list l on
+unfoldable pub listed : List ℕ → ℕ → ℕ → List ℕ
+listed m l k = concatMap (listNumbers m) (upFrom l k)
 
--- "each frame stands once, in the free line or in one list"
-unfoldable pub framesOnce : List ℕ → Bool
-framesOnce m = all (standsOnce (frameNumbers (nodeAt m))) (upFrom 0 (paper01 .frames))
+-- "each frame stands once, in the free line or in one list", and each swap page in its line or in one list
+unfoldable pub pagesOnce : List ℕ → Bool
+pagesOnce m = all (standsOnce (frameNumbers (nodeAt m))) (upFrom 0 (pageCount paper01))
+
+-- "this order holds each frame in use once"
+unfoldable pub enteredOnce : List ℕ → Bool
+enteredOnce m = all (standsOnce (frameOrder (nodeAt m))) (upFrom 0 (paper01 .frames))
+
+-- the i-th in the swap line is a swap page
+unfoldable pub swapPage : List ℕ → ℕ → Bool
+swapPage m i = leb (paper01 .frames) (word m (swapAt + i))
 
 -- The clauses on the node that the words hold, in three parts.
 
@@ -74,14 +87,17 @@ numbersGood m =
     && (all (messageGood m) (upFrom 0 (word m queuedAt))
     && (all (bufferGood m) (upFrom 1 groupCount) && all (pendingAtomic m) (upFrom 1 groupCount))))
 
--- those on the frames and on what waits in them
+-- those on the frames and swap pages and on what waits in them
 unfoldable pub framesGood : List ℕ → Bool
 framesGood m =
-    eqb (length (frameNumbers (nodeAt m))) (paper01 .frames) && (framesOnce m && all (waitingGood m) (upFrom 1 groupCount))
+    eqb (length (frameNumbers (nodeAt m))) (pageCount paper01)
+    && (pagesOnce m
+    && (all (swapPage m) (upFrom 0 (word m swapCountAt))
+    && (eqb (length (frameOrder (nodeAt m))) (paper01 .frames) && (enteredOnce m && all (waitingGood m) (upFrom 1 groupCount)))))
 
--- those on the groups' lines
+-- those on the groups' lines, and on the running group
 unfoldable pub linesGood : List ℕ → Bool
 linesGood m =
-    leb (pledges paper01 (nodeAt m)) (paper01 .frames)
+    leb (pledges paper01 (nodeAt m)) (pageCount paper01)
     && (all (pendingHasLine (nodeAt m)) (upFrom 1 groupCount)
-    && (runnerAtomic (nodeAt m) && headStays (nodeAt m .queue) (nodeAt m)))
+    && (runnerAtomic (nodeAt m) && (headStays (nodeAt m .queue) (nodeAt m) && runnerInFrame paper01 (nodeAt m))))

@@ -5,21 +5,23 @@ use mathlib.Core.Path.{_≡_}
 use mathlib.Core.List.{List}
 use lib.ListN.{length, getD}
 use Rattle.rules.specs.Lists.{filter}
-use Rattle.rules.specs.Build.{paper01, groupCount, wordLimit}
+use Rattle.rules.specs.Build.{paper01, pageCount, groupCount, wordLimit}
 use Rattle.rules.specs.Node.{isOf}
 use Rattle.rules.specs.Frames.{ceilDiv}
-use Rattle.rules.specs.Memory.{runningAt, queuedAt, freeCountAt, queueAt, queueStride, listOffset, usedOffset, countOffset, heldOffset, describedOffset, size, word, messagesAt, groupAddress}
+use Rattle.rules.specs.Memory.{runningAt, queuedAt, freeCountAt, queueAt, queueStride, listOffset, usedOffset, countOffset, heldOffset, describedOffset, swapCountAt, enteredCountAt, size, word, messagesAt, groupAddress}
 
 -- what the size and the first clause establish, so that every count can be followed within the memory
 pub record Counted (m : List ℕ) : Type 0 where
   pub long : size ≤ length m
   pub queued : word m queuedAt ≤ paper01 .places
   pub free : word m freeCountAt ≤ paper01 .frames
-  pub held : (g : ℕ) → 1 ≤ g → g ≤ groupCount → word m (groupAddress g + heldOffset) ≤ paper01 .frames
+  pub swap : word m swapCountAt ≤ paper01 .swap
+  pub entered : word m enteredCountAt ≤ paper01 .frames
+  pub held : (g : ℕ) → 1 ≤ g → g ≤ groupCount → word m (groupAddress g + heldOffset) ≤ pageCount paper01
   pub described : (g : ℕ) → 1 ≤ g → g ≤ groupCount → word m (groupAddress g + describedOffset) ≤ wordLimit
   pub lengths : (i : ℕ) → i < word m queuedAt → word m (queueAt + queueStride * i + 1) ≤ wordLimit
 
--- what the clauses on its numbers and on the frames establish of group g: its list has its length, and names frames
+-- what the clauses on its numbers and on the frames establish of group g: its list has its length, and names frames and swap pages
 pub record Framed (m : List ℕ) (g : ℕ) : Type 0 where
   pub long : size ≤ length m
   pub low : 1 ≤ g
@@ -27,8 +29,8 @@ pub record Framed (m : List ℕ) (g : ℕ) : Type 0 where
   pub used : word m (groupAddress g + usedOffset) < paper01 .perFrame
   pub held : word m (groupAddress g + heldOffset)
       ≡ ceilDiv (word m (groupAddress g + usedOffset) + word m (groupAddress g + countOffset)) (paper01 .perFrame)
-  pub few : word m (groupAddress g + heldOffset) ≤ paper01 .frames
-  pub numbers : (i : ℕ) → i < word m (groupAddress g + heldOffset) → word m (groupAddress g + listOffset + i) < paper01 .frames
+  pub few : word m (groupAddress g + heldOffset) ≤ pageCount paper01
+  pub numbers : (i : ℕ) → i < word m (groupAddress g + heldOffset) → word m (groupAddress g + listOffset + i) < pageCount paper01
 
 -- how many messages of group g are in the first i places of the queue
 unfoldable pub queuedOf : List ℕ → ℕ → ℕ → ℕ

@@ -1,10 +1,17 @@
-// The clauses on the frames, and on the messages that wait in them.
+// The clauses on the frames and swap pages, and on the messages that wait in them.
+use crate::PAGE_COUNT;
 use memory::Node;
 use memory::map::COUNT;
+use memory::map::ENTERED_AT;
+use memory::map::ENTERED_COUNT;
 use memory::map::FREE_AT;
 use memory::map::FREE_COUNT;
 use memory::map::HELD;
+use memory::map::LINE;
 use memory::map::LIST;
+use memory::map::PAGES;
+use memory::map::SWAP_AT;
+use memory::map::SWAP_COUNT;
 use memory::map::USED;
 use memory::map::WORDS;
 use memory::map::group_at;
@@ -16,74 +23,95 @@ ghost use Prim.Native.Nat.{ℕ, _+_, _-_, _≤_, _<_};
 ghost use lib.Dec.{eqb};
 ghost use lib.ListN.{length};
 ghost use Rattle.rules.specs.Lists.{all, upFrom};
-ghost use Rattle.rules.specs.Build.{paper01, groupCount};
-ghost use Rattle.rules.specs.Memory.{size, placeStride, placeAt, nodeAt};
+ghost use Rattle.rules.specs.Build.{paper01, pageCount, groupCount};
+ghost use Rattle.rules.specs.Memory.{size, swapCountAt, placeStride, word, placeAt, nodeAt};
 ghost use Rattle.rules.specs.MemoryTest.{zeroAt};
-ghost use Rattle.rules.specs.Valid.{isWaiting, frameNumbers};
-ghost use Rattle.validate.specs.Clauses.{listStart, listCount, framesOnce, waitingIn, waitingGood, numbersGood, framesGood};
+ghost use Rattle.rules.specs.Valid.{isWaiting, frameNumbers, frameOrder, standsOnce};
+ghost use Rattle.validate.specs.Clauses.{listStart, listCount, listed, pagesOnce, enteredOnce, swapPage, waitingIn, waitingGood, numbersGood, framesGood};
 ghost use Rattle.validate.specs.Known.{Counted, Framed};
 ghost use Rattle.validate.specs.Masks.{pastMasks};
-
-// How many frames there are, for an array of them.
-const FRAMES: usize = 32;
 
 // How many masks there are: twice a message's words.
 const MASKS: usize = 16;
 
-// Where list g of frame numbers begins: the free line for 0, else the list of group g.
-fn list_at(g: u32) -> usize
-    requires { ⌜ g ≤ groupCount ⌝ }
-    ensures { λ a. ⌜ a ≡ listStart g ⌝ }
+// The lists of page numbers: the order of entry, the free line, the swap line, then the groups', that of group g being list g + SWAP_LIST.
+const ENTERED_LIST: u32 = 0;
+
+const FREE_LIST: u32 = 1;
+
+const SWAP_LIST: u32 = 2;
+
+// How many they are.
+const LISTS: u32 = 11;
+
+// Where list l begins.
+fn list_at(l: u32) -> usize
+    requires { ⌜ l < 11 ⌝ }
+    ensures { λ a. ⌜ a ≡ listStart l ⌝ }
 {
-    if g == 0 {
+    if l == ENTERED_LIST {
+        return ENTERED_AT;
+    }
+    if l == FREE_LIST {
         return FREE_AT;
     }
-    group_at(g) + LIST
+    if l == SWAP_LIST {
+        return SWAP_AT;
+    }
+    group_at(l - SWAP_LIST) + LIST
 }
 
-// How many frames list g has.
-fn list_count(m: &[u32], g: u32) -> u32
+// How many numbers list l has.
+fn list_count(m: &[u32], l: u32) -> u32
     requires { ⌜ size ≤ length (now m) ⌝ }
-    requires { ⌜ g ≤ groupCount ⌝ }
-    ensures { λ k. ⌜ k ≡ listCount (now (m .entry)) g ⌝ }
+    requires { ⌜ l < 11 ⌝ }
+    ensures { λ k. ⌜ k ≡ listCount (now (m .entry)) l ⌝ }
 {
-    if g == 0 {
+    if l == ENTERED_LIST {
+        return m[ENTERED_COUNT];
+    }
+    if l == FREE_LIST {
         return m[FREE_COUNT];
     }
-    group_word(m, g, HELD)
+    if l == SWAP_LIST {
+        return m[SWAP_COUNT];
+    }
+    group_word(m, l - SWAP_LIST, HELD)
 }
 
-// The free line and the lists have 32 frames in all.
-fn frames_all(m: &[u32]) -> bool
+// How many numbers the lists from one up to another, which is not looked at, have in all.
+fn count_all(m: &[u32], from: u32, to: u32) -> u32
     requires { ⌜ Counted (now m) ⌝ }
-    ensures { λ t. ⌜ eqb (length (frameNumbers (nodeAt (now (m .entry))))) 32 ≡ t ⌝ }
+    requires { ⌜ (from ≤ to) × (to ≤ 11) ⌝ }
+    ensures { λ k. ⌜ k ≡ length (listed (now (m .entry)) from (to - from)) ⌝ }
 {
     let mut total: u32 = 0;
-    let mut g: u32 = 0;
-    while g <= Node::GROUPS {
-        total += list_count(m, g);
-        g += 1;
+    let mut l = from;
+    while l < to {
+        total += list_count(m, l);
+        l += 1;
     }
-    total == Node::FRAMES
+    total
 }
 
-// "each frame stands once, in the free line or in one list": the walk over the lists and their frames is left at the first number that
-// is no frame's or was met before.
-fn frames_once(m: &[u32]) -> bool
+// Each number below the limit stands once in the lists from one up to another, which have as many numbers as the limit says: the walk over
+// the lists and their numbers is left at the first that is not below the limit or was met before.
+fn frames_once(m: &[u32], from: u32, to: u32, limit: usize) -> bool
     requires { ⌜ Counted (now m) ⌝ }
-    requires { ⌜ length (frameNumbers (nodeAt (now m))) ≡ 32 ⌝ }
-    ensures { λ t. ⌜ framesOnce (now (m .entry)) ≡ t ⌝ }
+    requires { ⌜ (from ≤ to) × ((to ≤ 11) × (limit ≤ 96)) ⌝ }
+    requires { ⌜ length (listed (now m) from (to - from)) ≡ limit ⌝ }
+    ensures { λ t. ⌜ all (standsOnce (listed (now (m .entry)) from (to - from))) (upFrom 0 limit) ≡ t ⌝ }
 {
-    let mut seen = [0u32; FRAMES];
+    let mut seen = [0u32; PAGES];
     let mut once = true;
-    let mut g: u32 = 0;
-    'lists: while g <= Node::GROUPS {
-        let at = list_at(g);
-        let held = list_count(m, g) as usize;
+    let mut l = from;
+    'lists: while l < to {
+        let at = list_at(l);
+        let count = list_count(m, l) as usize;
         let mut i: usize = 0;
-        while i < held {
+        while i < count {
             let f = m[at + i] as usize;
-            if f >= FRAMES {
+            if f >= limit {
                 once = false;
                 break 'lists;
             }
@@ -94,9 +122,61 @@ fn frames_once(m: &[u32]) -> bool
             seen[f] = 1;
             i += 1;
         }
-        g += 1;
+        l += 1;
     }
     once
+}
+
+// The free line, the swap line and the groups' lists have 96 pages in all.
+fn pages_all(m: &[u32]) -> bool
+    requires { ⌜ Counted (now m) ⌝ }
+    ensures { λ t. ⌜ eqb (length (frameNumbers (nodeAt (now (m .entry))))) 96 ≡ t ⌝ }
+{
+    count_all(m, FREE_LIST, LISTS) == PAGE_COUNT
+}
+
+// "each frame stands once, in the free line or in one list", and so each swap page, in its line or in one list
+fn pages_once(m: &[u32]) -> bool
+    requires { ⌜ Counted (now m) ⌝ }
+    requires { ⌜ length (frameNumbers (nodeAt (now m))) ≡ 96 ⌝ }
+    ensures { λ t. ⌜ pagesOnce (now (m .entry)) ≡ t ⌝ }
+{
+    frames_once(m, FREE_LIST, LISTS, PAGES)
+}
+
+// The swap line holds swap pages: the least of its numbers, found with no branch that depends on one, is no frame's.
+fn swap_pages(m: &[u32]) -> bool
+    requires { ⌜ Counted (now m) ⌝ }
+    ensures { λ t. ⌜ all (swapPage (now (m .entry))) (upFrom 0 (word (now (m .entry)) swapCountAt)) ≡ t ⌝ }
+{
+    let count = m[SWAP_COUNT] as usize;
+    let mut least = Node::FRAMES;
+    let mut i: usize = 0;
+    while i < count {
+        let s = m[SWAP_AT + i];
+        if s < least {
+            least = s;
+        }
+        i += 1;
+    }
+    least >= Node::FRAMES
+}
+
+// The order of entry and the free line have 32 frames in all.
+fn entered_all(m: &[u32]) -> bool
+    requires { ⌜ Counted (now m) ⌝ }
+    ensures { λ t. ⌜ eqb (length (frameOrder (nodeAt (now (m .entry))))) 32 ≡ t ⌝ }
+{
+    count_all(m, ENTERED_LIST, SWAP_LIST) == Node::FRAMES
+}
+
+// "this order holds each frame in use once": each frame stands once, in it or in the free line
+fn entered_once(m: &[u32]) -> bool
+    requires { ⌜ Counted (now m) ⌝ }
+    requires { ⌜ length (frameOrder (nodeAt (now m))) ≡ 32 ⌝ }
+    ensures { λ t. ⌜ enteredOnce (now (m .entry)) ≡ t ⌝ }
+{
+    frames_once(m, ENTERED_LIST, SWAP_LIST, LINE)
 }
 
 // Masks: eight that leave nothing of a word, then eight that leave all of it. The eight from WORDS - len on hide the first len words of a message.
@@ -156,9 +236,9 @@ fn place_waiting(m: &[u32], a: usize, masks: &[u32; MASKS]) -> bool
     past_zero(m, a + 1, len as usize, masks)
 }
 
-// The same of a frame's places from one up to another, which is not looked at.
+// The same of a page's places from one up to another, which is not looked at.
 fn places_waiting(m: &[u32], f: u32, from: u32, to: u32, masks: &[u32; MASKS]) -> bool
-    requires { ⌜ (size ≤ length (now m)) × ((f < paper01 .frames) × ((from ≤ to) × (to ≤ paper01 .perFrame))) ⌝ }
+    requires { ⌜ (size ≤ length (now m)) × ((f < pageCount paper01) × ((from ≤ to) × (to ≤ paper01 .perFrame))) ⌝ }
     requires { ⌜ now masks ≡ pastMasks ⌝ }
     ensures { λ t. ⌜ all (waitingIn (now (m .entry)) f) (upFrom from (to - from)) ≡ t ⌝ }
 {
@@ -172,7 +252,7 @@ fn places_waiting(m: &[u32], f: u32, from: u32, to: u32, masks: &[u32; MASKS]) -
     true
 }
 
-// Of so many places from a frame's first on, how many are the frame's.
+// Of so many places from a page's first on, how many are the page's.
 fn in_frame(places: u32) -> u32
     ensures { λ k. ⌜ (k ≤ places) × ((k ≤ paper01 .perFrame) × (places ≤ k + (places - paper01 .perFrame))) ⌝ }
 {
@@ -182,7 +262,7 @@ fn in_frame(places: u32) -> u32
     places
 }
 
-// "waiting messages' lengths"; "a waiting message's words past its length are 0": of those in the buffer of group g, frame by frame
+// "waiting messages' lengths"; "a waiting message's words past its length are 0": of those in the buffer of group g, page by page
 fn waiting_good(m: &[u32], g: u32, masks: &[u32; MASKS]) -> bool
     requires { ⌜ Framed (now m) g ⌝ }
     requires { ⌜ now masks ≡ pastMasks ⌝ }
@@ -220,16 +300,25 @@ fn waitings_good(m: &[u32]) -> bool
     true
 }
 
-// The clauses on the frames and on what waits in them.
+// The clauses on the frames and swap pages and on what waits in them.
 pub fn frames_good(m: &[u32]) -> bool
     requires { ⌜ Counted (now m) ⌝ }
     requires { ⌜ numbersGood (now m) ≡ true ⌝ }
     ensures { λ t. ⌜ framesGood (now (m .entry)) ≡ t ⌝ }
 {
-    if !frames_all(m) {
+    if !pages_all(m) {
         return false;
     }
-    if !frames_once(m) {
+    if !pages_once(m) {
+        return false;
+    }
+    if !swap_pages(m) {
+        return false;
+    }
+    if !entered_all(m) {
+        return false;
+    }
+    if !entered_once(m) {
         return false;
     }
     waitings_good(m)

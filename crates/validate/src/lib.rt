@@ -11,6 +11,7 @@ use crate::numbers::numbers_good;
 use crate::words::counts_in_bounds;
 use crate::words::flags_are_flags;
 use crate::words::unused_are_zero;
+use memory::Node;
 use memory::map::SIZE;
 ghost use mathlib.Core.Path.{_≡_};
 ghost use Rattle.rules.specs.Build.{paper01};
@@ -18,6 +19,9 @@ ghost use Rattle.rules.specs.Memory.{nodeAt};
 ghost use Rattle.rules.specs.Valid.{isNode};
 ghost use Rattle.rules.specs.MemoryTest.{isMemory};
 ghost use Rattle.validate.specs.Known.{Counted};
+
+// Frames and swap pages together.
+const PAGE_COUNT: u32 = Node::FRAMES + Node::SWAP;
 
 // The words hold a node.
 fn holds_node(m: &[u32]) -> bool

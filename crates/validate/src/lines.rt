@@ -1,8 +1,11 @@
-// The clauses on the groups' lines: pledges, flags, the running group and the head of the queue.
+// The clauses on the groups' lines: pledges, flags, the running group and its first page, and the head of the queue.
+use crate::PAGE_COUNT;
 use memory::Node;
 use memory::map::ATOMIC;
 use memory::map::COUNT;
 use memory::map::GROUP;
+use memory::map::HELD;
+use memory::map::LIST;
 use memory::map::PENDING;
 use memory::map::QUEUE_AT;
 use memory::map::QUEUED;
@@ -21,7 +24,7 @@ ghost use Rattle.rules.specs.Build.{paper01, groupCount};
 ghost use Rattle.rules.specs.Node.{line};
 ghost use Rattle.rules.specs.Frames.{pledge as pledgeOf, pledges};
 ghost use Rattle.rules.specs.Memory.{word, queuedAt, nodeAt};
-ghost use Rattle.rules.specs.Valid.{pendingHasLine, runnerAtomic, headStays};
+ghost use Rattle.rules.specs.Valid.{pendingHasLine, runnerAtomic, headStays, runnerInFrame};
 ghost use Rattle.validate.specs.Clauses.{linesGood};
 ghost use Rattle.validate.specs.Known.{Framed, QueueCounts, Lined};
 
@@ -41,21 +44,21 @@ fn queue_counts(m: &[u32]) -> [u32; 9]
     counts
 }
 
-// The pledge of group g: at most that of 256 places and 16 messages.
+// The pledge of group g: at most that of 768 places and 16 messages.
 fn pledge(m: &[u32], queued: [u32; 9], g: u32) -> u32
     requires { ⌜ Framed (now m) g ⌝ }
     requires { ⌜ (word (now m) queuedAt ≤ 16) × QueueCounts (now m) (word (now m) queuedAt) queued ⌝ }
-    ensures { λ p. ⌜ (p ≡ pledgeOf paper01 (nodeAt (now (m .entry))) g) × (p ≤ 34) ⌝ }
+    ensures { λ p. ⌜ (p ≡ pledgeOf paper01 (nodeAt (now (m .entry))) g) × (p ≤ 98) ⌝ }
 {
     let places = group_word(m, g, USED) + group_word(m, g, COUNT);
     frames_for(places + queued[g as usize])
 }
 
-// "pledges sum to at most 32"
+// "pledges sum to at most 32", which now reads 96
 fn pledges_fit(m: &[u32], queued: [u32; 9]) -> bool
     requires { ⌜ Lined (now m) ⌝ }
     requires { ⌜ QueueCounts (now m) (word (now m) queuedAt) queued ⌝ }
-    ensures { λ t. ⌜ leb (pledges paper01 (nodeAt (now (m .entry)))) 32 ≡ t ⌝ }
+    ensures { λ t. ⌜ leb (pledges paper01 (nodeAt (now (m .entry)))) 96 ≡ t ⌝ }
 {
     let mut sum: u32 = 0;
     let mut g: u32 = 1;
@@ -63,7 +66,7 @@ fn pledges_fit(m: &[u32], queued: [u32; 9]) -> bool
         sum += pledge(m, queued, g);
         g += 1;
     }
-    sum <= Node::FRAMES
+    sum <= PAGE_COUNT
 }
 
 // Whether the line of group g is not empty.
@@ -137,7 +140,22 @@ fn head_stays(m: &[u32]) -> bool
     group_word(m, g, COUNT) == 0
 }
 
-// The clauses on the groups' lines.
+// "a running group's first page is in a frame"
+fn runner_in_frame(m: &[u32]) -> bool
+    requires { ⌜ Lined (now m) ⌝ }
+    ensures { λ t. ⌜ runnerInFrame paper01 (nodeAt (now (m .entry))) ≡ t ⌝ }
+{
+    let runner = m[RUNNING];
+    if runner == 0 {
+        return true;
+    }
+    if group_word(m, runner, HELD) == 0 {
+        return true;
+    }
+    group_word(m, runner, LIST) < Node::FRAMES
+}
+
+// The clauses on the groups' lines, and on the running group.
 pub fn lines_good(m: &[u32]) -> bool
     requires { ⌜ Lined (now m) ⌝ }
     ensures { λ t. ⌜ linesGood (now (m .entry)) ≡ t ⌝ }
@@ -152,5 +170,8 @@ pub fn lines_good(m: &[u32]) -> bool
     if !runner_atomic(m, queued) {
         return false;
     }
-    head_stays(m)
+    if !head_stays(m) {
+        return false;
+    }
+    runner_in_frame(m)
 }

@@ -22,8 +22,8 @@ ghost use Rattle.rules.specs.Memory.{size, word, queuedAt};
 ghost use Rattle.validate.specs.Clauses.{messageGood, bufferGood, pendingAtomic, numbersGood};
 ghost use Rattle.validate.specs.Known.{Counted};
 
-// The messages that all frames hold.
-const ROOM: u32 = 256;
+// The messages that all frames and swap pages hold.
+const ROOM: u32 = 768;
 
 // "groups, waiting messages' lengths .. are within the bounds above": those of the i-th in the queue
 fn message_good(m: &[u32], i: u32) -> bool

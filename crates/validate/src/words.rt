@@ -1,8 +1,11 @@
 // The clauses of "Memory is a node when" on words alone: counts, flags and unused words.
+use crate::PAGE_COUNT;
 use memory::Node;
 use memory::map::ATOMIC;
 use memory::map::DESCRIBED;
 use memory::map::DESCRIPTOR;
+use memory::map::ENTERED_AT;
+use memory::map::ENTERED_COUNT;
 use memory::map::FREE_AT;
 use memory::map::FREE_COUNT;
 use memory::map::HELD;
@@ -10,23 +13,29 @@ use memory::map::LENGTH;
 use memory::map::LINE;
 use memory::map::LIST;
 use memory::map::MESSAGE;
+use memory::map::PAGES;
 use memory::map::PENDING;
 use memory::map::PLACES;
 use memory::map::QUEUE_AT;
 use memory::map::QUEUE_STRIDE;
 use memory::map::QUEUED;
+use memory::map::SWAP_AT;
+use memory::map::SWAP_COUNT;
+use memory::map::SWAP_LINE;
 use memory::map::WORDS;
 use memory::map::group_at;
 use memory::map::group_word;
 use memory::map::queue_word;
 use memory::words::zeros;
 ghost use mathlib.Core.Path.{_≡_};
+ghost use mathlib.Core.Bool.{_&&_};
 ghost use Prim.Native.Nat.{_≤_, _<_};
+ghost use lib.Dec.{leb};
 ghost use lib.ListN.{length};
 ghost use Rattle.rules.specs.Lists.{all, upFrom};
 ghost use Rattle.rules.specs.Build.{groupCount};
-ghost use Rattle.rules.specs.Memory.{size, word, queuedAt};
-ghost use Rattle.rules.specs.MemoryTest.{groupCounts, lengthInBounds, countsInBounds, groupFlags, flagsAreFlags, queueUnused, freeUnused, groupUnused, messageUnused, unusedAreZero};
+ghost use Rattle.rules.specs.Memory.{size, word, queuedAt, swapCountAt, enteredCountAt};
+ghost use Rattle.rules.specs.MemoryTest.{groupCounts, lengthInBounds, countsInBounds, groupFlags, flagsAreFlags, queueUnused, freeUnused, swapUnused, enteredUnused, groupUnused, messageUnused, unusedAreZero};
 ghost use Rattle.validate.specs.Known.{Counted};
 
 // "counts .. are within the bounds above": those of the list and the descriptor of group g
@@ -35,7 +44,7 @@ fn group_counts(m: &[u32], g: u32) -> bool
     requires { ⌜ (1 ≤ g) × (g ≤ groupCount) ⌝ }
     ensures { λ t. ⌜ groupCounts (now (m .entry)) g ≡ t ⌝ }
 {
-    if group_word(m, g, HELD) > Node::FRAMES {
+    if group_word(m, g, HELD) > PAGE_COUNT {
         return false;
     }
     group_word(m, g, DESCRIBED) <= Node::WORDS
@@ -73,6 +82,17 @@ fn lengths_in_bounds(m: &[u32]) -> bool
     true
 }
 
+// "counts .. are within the bounds above": those of the swap line and the order of entry
+fn paging_counted(m: &[u32]) -> bool
+    requires { ⌜ size ≤ length (now m) ⌝ }
+    ensures { λ t. ⌜ leb (word (now (m .entry)) swapCountAt) 64 && leb (word (now (m .entry)) enteredCountAt) 32 ≡ t ⌝ }
+{
+    if m[SWAP_COUNT] > Node::SWAP {
+        return false;
+    }
+    m[ENTERED_COUNT] <= Node::FRAMES
+}
+
 // "counts .. [and] waiting messages' lengths .. are within the bounds above", as far as words alone tell
 pub fn counts_in_bounds(m: &[u32]) -> bool
     requires { ⌜ size ≤ length (now m) ⌝ }
@@ -82,6 +102,9 @@ pub fn counts_in_bounds(m: &[u32]) -> bool
         return false;
     }
     if m[FREE_COUNT] > Node::FRAMES {
+        return false;
+    }
+    if !paging_counted(m) {
         return false;
     }
     if !groups_counted(m) {
@@ -139,6 +162,24 @@ fn free_unused(m: &[u32]) -> bool
     zeros(m, FREE_AT + free, LINE - free)
 }
 
+// The same of the swap line.
+fn swap_unused(m: &[u32]) -> bool
+    requires { ⌜ Counted (now m) ⌝ }
+    ensures { λ t. ⌜ swapUnused (now (m .entry)) ≡ t ⌝ }
+{
+    let swap = m[SWAP_COUNT] as usize;
+    zeros(m, SWAP_AT + swap, SWAP_LINE - swap)
+}
+
+// The order of entry has "its unused places 0".
+fn entered_unused(m: &[u32]) -> bool
+    requires { ⌜ Counted (now m) ⌝ }
+    ensures { λ t. ⌜ enteredUnused (now (m .entry)) ≡ t ⌝ }
+{
+    let entered = m[ENTERED_COUNT] as usize;
+    zeros(m, ENTERED_AT + entered, LINE - entered)
+}
+
 // "unused places of the .. lists, unused descriptor words .. are 0": those of group g
 fn group_unused(m: &[u32], g: u32) -> bool
     requires { ⌜ Counted (now m) ⌝ }
@@ -148,7 +189,7 @@ fn group_unused(m: &[u32], g: u32) -> bool
     let held = group_word(m, g, HELD) as usize;
     let described = group_word(m, g, DESCRIBED) as usize;
     let at = group_at(g);
-    if !zeros(m, at + LIST + held, LINE - held) {
+    if !zeros(m, at + LIST + held, PAGES - held) {
         return false;
     }
     zeros(m, at + DESCRIPTOR + described, WORDS - described)
@@ -208,6 +249,12 @@ pub fn unused_are_zero(m: &[u32]) -> bool
         return false;
     }
     if !free_unused(m) {
+        return false;
+    }
+    if !swap_unused(m) {
+        return false;
+    }
+    if !entered_unused(m) {
         return false;
     }
     if !groups_unused(m) {

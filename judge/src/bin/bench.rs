@@ -8,8 +8,8 @@ use std::process::{Command, ExitCode, Stdio};
 use std::time::{Duration, Instant};
 
 use judge::program::{
-    arguments, failed, finish, fugu, measured_script, misused, print, tested_lines, JUDGE_ROUNDS,
-    ROUNDS, TESTED_TIMES,
+    arguments, failed, finish, fugu, misused, print, tested_lines, Measured, JUDGE_ROUNDS, ROUNDS,
+    TESTED_TIMES,
 };
 use judge::script::write_listing;
 
@@ -18,11 +18,12 @@ const USAGE: &str = "\
 usage: bin/bench [--script FILE] [PROGRAM]
        bin/bench --help
 
-Plays a script, a random one of a million lines if none is named, by target/bin/fugu, by the judge
-and by PROGRAM, which takes it on standard input and writes the listing to standard output. Then
-plays the lines of the script's first 64 KiB, 64 times over, by target/bin/tested, which tests the
-memory before every step, by the judge, which keeps no memory to test, and by `PROGRAM --test`,
-which is to test its own.
+Plays a script by target/bin/fugu, by the judge and by PROGRAM, which takes it on standard input and
+writes the listing to standard output. If none is named, these are two random ones of a million lines:
+one of the flavour mixed, and one of the flavour swap, which keeps the frames full. Then plays the
+lines of the script's first 64 KiB, 64 times over, by target/bin/tested, which tests the memory before
+every step, by the judge, which keeps no memory to test, and by `PROGRAM --test`, which is to test its
+own.
 
 The listings must be the judge's, else the exit status is 1. The programs then run by turns, their
 standard output to /dev/null; the time told is the best of fifteen runs, of five for the judge.
@@ -64,14 +65,27 @@ fn understand<'a>(arguments: &[&'a str]) -> Result<Call<'a>, String> {
     Ok(Call { script, program })
 }
 
-/// Both parts: the program, and the calls that test the memory.
 fn bench(project: &Path, call: &Call) -> Result<ExitCode, String> {
-    let script = measured_script(call.script)?;
-    let whole = Scratch::holding("whole", &script).map_err(told)?;
+    let program = fugu(project)?;
+    for measured in Measured::scripts(call.script)? {
+        bench_one(project, &program, call.program, &measured)?;
+    }
+    Ok(ExitCode::SUCCESS)
+}
+
+/// Both parts: the program, and the calls that test the memory.
+fn bench_one(
+    project: &Path,
+    fugu: &Path,
+    other: Option<&str>,
+    Measured { name, script }: &Measured,
+) -> Result<ExitCode, String> {
+    let whole = Scratch::holding("whole", script).map_err(told)?;
     race(
-        Runner::new("fugu", &fugu(project)?, &whole),
-        call.program.map(|program| Runner::named(program, &whole)),
-        &script,
+        name,
+        Runner::new("fugu", fugu, &whole),
+        other.map(|program| Runner::named(program, &whole)),
+        script,
         &whole,
     )?;
 
@@ -81,14 +95,14 @@ fn bench(project: &Path, call: &Call) -> Result<ExitCode, String> {
             "target/bin/tested is not there, so the tested calls are left out: rt check builds it";
         return print(absent).map_err(told);
     }
-    let first = tested_lines(&script);
+    let first = tested_lines(script);
     let repeated = first.repeat(TESTED_TIMES);
     let first = Scratch::holding("first", first).map_err(told)?;
     let whole = Scratch::holding("repeated", &repeated).map_err(told)?;
     race(
+        name,
         Runner::new("tested", &tested, &first),
-        call.program
-            .map(|program| Runner::named(program, &whole).testing()),
+        other.map(|program| Runner::named(program, &whole).testing()),
         &repeated,
         &whole,
     )
@@ -100,6 +114,7 @@ fn told(error: io::Error) -> String {
 
 /// Runs the project's program, the judge's and another by turns, and tells their best times.
 fn race(
+    name: &str,
     own: Runner,
     other: Option<Runner>,
     script: &[u8],
@@ -118,7 +133,7 @@ fn race(
         }
     }
     let lines = listing.iter().filter(|&&byte| byte == b'\n').count() - 1;
-    let mut text = format!("{lines} lines, {} bytes", script.len());
+    let mut text = format!("{name}: {lines} lines, {} bytes", script.len());
     for runner in &runners {
         text += &format!("\n{}", runner.time(lines));
     }

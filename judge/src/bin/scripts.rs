@@ -11,11 +11,12 @@ const NAME: &str = "scripts";
 const USAGE: &str = "\
 usage: bin/scripts SEED LINES FLAVOUR             writes a random script
        bin/scripts --list                         lists the flavours
-       bin/scripts --counts SEED LINES [FLAVOUR]  counts the answers and traps that a script meets
+       bin/scripts --counts SEED LINES [FLAVOUR]  counts what a script meets
        bin/scripts --help
 
-SEED and LINES are decimal numbers; a seed fixes every byte. Without a FLAVOUR, --counts runs one
-script of each flavour, and fails if some answer 2 to 15 or some trap 0 to 3 was met by none.";
+SEED and LINES are decimal numbers; a seed fixes every byte. Counted are answers, traps, and pages
+sent out and brought in, these by their causes. Without a FLAVOUR, --counts runs one script of each
+flavour, and fails if some answer 2 to 15, some trap 0 to 3 or one of these was met by none.";
 
 enum Call {
     Help,

@@ -4,22 +4,22 @@ use std::fmt::{self, Display, Formatter};
 use std::ops::RangeInclusive;
 
 use super::map::{
-    group_at, what_stands_at, Words, ATOMIC, DESCRIPTOR_COUNT, FREE_COUNT, LIST_COUNT, MESSAGES,
-    PENDING, QUEUE_COUNT, RUNNING, SIZE, TIMER, USED_UP,
+    group_at, what_stands_at, Words, ATOMIC, DESCRIPTOR_COUNT, ENTRY_COUNT, FREE_COUNT, LIST_AT,
+    LIST_COUNT, MESSAGES, PENDING, QUEUE_COUNT, RUNNING, SIZE, SWAP_COUNT, TIMER, USED_UP,
 };
 use crate::node::{
-    frames_for, DESCRIPTOR_WORDS, FRAMES, FRAME_PLACES, GROUPS, MESSAGE_WORDS, QUEUE_PLACES,
-    TIMEOUT,
+    pages_for, DESCRIPTOR_WORDS, FRAMES, GROUPS, MESSAGE_WORDS, PAGES, PAGE_PLACES, QUEUE_PLACES,
+    SWAP_PAGES, TIMEOUT,
 };
 
 /// A clause in the paper's words, and how it is asked: the addresses of the words that break it,
 /// none if it holds.
 type Clause = (&'static str, fn(&Words) -> Vec<usize>);
 
-/// "Memory is a node when": the sentence clause by clause, in its order. Lengths come before the
-/// clauses that see to it that all waiting messages are found; a message that is not found breaks
-/// one of these.
-const CLAUSES: [Clause; 21] = [
+/// "Memory is a node when": the sentence clause by clause, in its order, and order 1's clauses each
+/// behind the one that it is like, the first page's last. Lengths come before the clauses that see to
+/// it that all waiting messages are found; a message that is not found breaks one of these.
+const CLAUSES: [Clause; 26] = [
     ("running is 0 to 8", running_in_bounds),
     ("counts are within the bounds", counts_in_bounds),
     ("groups are within the bounds", groups_in_bounds),
@@ -30,17 +30,24 @@ const CLAUSES: [Clause; 21] = [
     ("h is within the bounds", used_up_in_bounds),
     ("timer is within the bounds", timer_in_bounds),
     ("each frame stands once", frames_stand_once),
+    ("each swap page stands once", swap_pages_stand_once),
+    (
+        "the order of entry holds each frame in use once",
+        entry_holds_frames_in_use,
+    ),
     ("each list has its rounded-up length", lists_rounded_up),
     ("flags are 0 or 1", flags_are_bits),
     ("unused places of the queue are 0", queue_rest_zero),
     ("unused places of the free line are 0", free_rest_zero),
+    ("unused places of the swap line are 0", swap_rest_zero),
+    ("unused places of the order of entry are 0", entry_rest_zero),
     ("unused places of the lists are 0", list_rest_zero),
     ("unused descriptor words are 0", descriptor_rest_zero),
     (
         "a waiting message's words past its length are 0",
         message_rest_zero,
     ),
-    ("pledges sum to at most 32", pledges_fit),
+    ("pledges sum to at most 96", pledges_fit),
     ("h is 0 where n is 0", empty_buffer_unused),
     (
         "pending only with atomic and a line not empty",
@@ -53,6 +60,10 @@ const CLAUSES: [Clause; 21] = [
     ("the queue's head is the running group's", head_is_runners),
     ("the group of the queue's head is direct", head_is_direct),
     ("if the queue is empty the timer is 0", idle_timer_zero),
+    (
+        "a running group's first page is in a frame",
+        first_page_in_frame,
+    ),
 ];
 
 /// The clauses, in the paper's order.
@@ -119,10 +130,15 @@ fn running_in_bounds(words: &Words) -> Vec<usize> {
 }
 
 fn counts_in_bounds(words: &Words) -> Vec<usize> {
-    let lines = [(QUEUE_COUNT, QUEUE_PLACES), (FREE_COUNT, FRAMES)];
+    let lines = [
+        (QUEUE_COUNT, QUEUE_PLACES),
+        (FREE_COUNT, FRAMES),
+        (SWAP_COUNT, SWAP_PAGES),
+        (ENTRY_COUNT, FRAMES),
+    ];
     let records = records().flat_map(|at| {
         [
-            (at + LIST_COUNT, FRAMES),
+            (at + LIST_COUNT, PAGES),
             (at + DESCRIPTOR_COUNT, DESCRIPTOR_WORDS),
         ]
     });
@@ -140,40 +156,78 @@ fn lengths_in_bounds(words: &Words) -> Vec<usize> {
 }
 
 fn used_up_in_bounds(words: &Words) -> Vec<usize> {
-    outside(
-        words,
-        0..=FRAME_PLACES - 1,
-        records().map(|at| at + USED_UP),
-    )
+    outside(words, 0..=PAGE_PLACES - 1, records().map(|at| at + USED_UP))
 }
 
 fn timer_in_bounds(words: &Words) -> Vec<usize> {
     outside(words, 0..=TIMEOUT as usize - 1, [TIMER])
 }
 
-/// Broken by a number that is no frame's, by two that are the same, or by counts that leave a
-/// frame out.
+/// "each frame stands once, in the free line or in one list"
 fn frames_stand_once(words: &Words) -> Vec<usize> {
-    let mut stands = [None; FRAMES];
-    for at in words.free_line().chain(words.listed()) {
-        match stands.get_mut(words.0[at] as usize) {
-            None => return vec![at],
-            Some(Some(before)) => return vec![*before, at],
-            Some(stands) => *stands = Some(at),
+    let standing = words.free_line().chain(listed_frames(words));
+    once_each(words, 0..FRAMES, standing, with_lists(FREE_COUNT))
+}
+
+/// Swap pages "meet what 01 asks of frames". A number of a list that is no page's is found here.
+fn swap_pages_stand_once(words: &Words) -> Vec<usize> {
+    let listed = words.listed().filter(|&at| words.0[at] as usize >= FRAMES);
+    let standing = words.swap_line().chain(listed);
+    once_each(words, FRAMES..PAGES, standing, with_lists(SWAP_COUNT))
+}
+
+/// "this order holds each frame in use once"
+fn entry_holds_frames_in_use(words: &Words) -> Vec<usize> {
+    let in_use = listed_frames(words).map(|at| words.0[at] as usize);
+    once_each(words, in_use, words.entry_order(), [ENTRY_COUNT])
+}
+
+/// Where the frames of the lists stand.
+fn listed_frames<'a>(words: &Words<'a>) -> impl Iterator<Item = usize> + 'a {
+    let words = *words;
+    words
+        .listed()
+        .filter(move |&at| (words.0[at] as usize) < FRAMES)
+}
+
+/// Where a line's count and those of the lists stand.
+fn with_lists(count: usize) -> impl Iterator<Item = usize> {
+    std::iter::once(count).chain(records().map(|at| at + LIST_COUNT))
+}
+
+/// Whether each of these pages stands once at the addresses, and no other number does. Broken by a
+/// number that is none of them, by two that are the same, or by counts that leave one out.
+fn once_each(
+    words: &Words,
+    pages: impl IntoIterator<Item = usize>,
+    at: impl Iterator<Item = usize>,
+    counts: impl IntoIterator<Item = usize>,
+) -> Vec<usize> {
+    let mut missing = [false; PAGES];
+    pages.into_iter().for_each(|page| missing[page] = true);
+    let mut stands = [None; PAGES];
+    for at in at {
+        let page = words.0[at] as usize;
+        if let Some(before) = stands.get(page).copied().flatten() {
+            return vec![before, at];
         }
+        if !missing.get(page).is_some_and(|missing| *missing) {
+            return vec![at];
+        }
+        missing[page] = false;
+        stands[page] = Some(at);
     }
-    if stands.iter().all(Option::is_some) {
-        return Vec::new();
+    if missing.contains(&true) {
+        return counts.into_iter().collect();
     }
-    let lists = records().map(|at| at + LIST_COUNT);
-    std::iter::once(FREE_COUNT).chain(lists).collect()
+    Vec::new()
 }
 
 fn lists_rounded_up(words: &Words) -> Vec<usize> {
     first_group(|group| {
         let record = words.group(group);
-        let frames = frames_for(record.used_up() + record.messages());
-        let broken = frames != record.list_count() as u64;
+        let pages = pages_for(record.used_up() + record.messages());
+        let broken = pages != record.list_count() as u64;
         broken.then_some([USED_UP, MESSAGES, LIST_COUNT])
     })
 }
@@ -191,6 +245,14 @@ fn free_rest_zero(words: &Words) -> Vec<usize> {
     outside(words, 0..=0, words.free_rest())
 }
 
+fn swap_rest_zero(words: &Words) -> Vec<usize> {
+    outside(words, 0..=0, words.swap_rest())
+}
+
+fn entry_rest_zero(words: &Words) -> Vec<usize> {
+    outside(words, 0..=0, words.entry_rest())
+}
+
 fn list_rest_zero(words: &Words) -> Vec<usize> {
     outside(words, 0..=0, words.list_rest())
 }
@@ -206,7 +268,7 @@ fn message_rest_zero(words: &Words) -> Vec<usize> {
 /// Broken by all that is counted in a pledge.
 fn pledges_fit(words: &Words) -> Vec<usize> {
     let sum: u64 = (1..=GROUPS).map(|group| words.pledge(group)).sum();
-    if sum <= FRAMES as u64 {
+    if sum <= PAGES as u64 {
         return Vec::new();
     }
     let buffers = records().flat_map(|at| [at + USED_UP, at + MESSAGES]);
@@ -261,6 +323,15 @@ fn idle_timer_zero(words: &Words) -> Vec<usize> {
         return Vec::new();
     }
     vec![TIMER, QUEUE_COUNT]
+}
+
+fn first_page_in_frame(words: &Words) -> Vec<usize> {
+    let running = words.running();
+    let first = (running > 0).then(|| words.group(running).list().first());
+    match first.flatten() {
+        Some(&page) if page as usize >= FRAMES => vec![RUNNING, group_at(running) + LIST_AT],
+        _ => Vec::new(),
+    }
 }
 
 /// Where the groups' records begin.

@@ -3,11 +3,12 @@
 use std::ops::Range;
 
 use crate::node::{
-    frames_for, DESCRIPTOR_WORDS, FRAMES, FRAME_PLACES, GROUPS, MESSAGE_WORDS, QUEUE_PLACES,
+    pages_for, DESCRIPTOR_WORDS, FRAMES, GROUPS, MESSAGE_WORDS, PAGES, PAGE_PLACES, QUEUE_PLACES,
+    SWAP_PAGES,
 };
 
 /// The words of a node. "Memory past the node's size is never touched."
-pub const SIZE: usize = FRAMES_AT + FRAMES * FRAME_PLACES * PLACE_WORDS;
+pub const SIZE: usize = ENTRY_AT + FRAMES;
 
 pub const RUNNING: usize = 0;
 pub const TIMER: usize = 1;
@@ -16,7 +17,13 @@ pub const FREE_COUNT: usize = 3;
 pub const QUEUE_AT: usize = 4;
 pub const FREE_AT: usize = QUEUE_AT + QUEUE_PLACES * QUEUED_WORDS;
 pub const GROUPS_AT: usize = FREE_AT + FRAMES;
-pub const FRAMES_AT: usize = GROUPS_AT + GROUPS * GROUP_WORDS;
+pub const PAGES_AT: usize = GROUPS_AT + GROUPS * GROUP_WORDS;
+pub const SWAP_COUNT: usize = PAGES_AT + PAGES * PAGE_PLACES * PLACE_WORDS;
+pub const ENTRY_COUNT: usize = SWAP_COUNT + 1;
+pub const SENT_OUT: usize = SWAP_COUNT + 2;
+pub const BROUGHT_IN: usize = SWAP_COUNT + 3;
+pub const SWAP_AT: usize = SWAP_COUNT + 4;
+pub const ENTRY_AT: usize = SWAP_AT + SWAP_PAGES;
 
 /// A kept message: its length, then its words.
 pub const PLACE_WORDS: usize = 1 + MESSAGE_WORDS;
@@ -31,7 +38,7 @@ pub const LIST_COUNT: usize = 4;
 pub const DESCRIPTOR_COUNT: usize = 5;
 pub const DESCRIPTOR_AT: usize = 6;
 pub const LIST_AT: usize = DESCRIPTOR_AT + DESCRIPTOR_WORDS;
-pub const GROUP_WORDS: usize = LIST_AT + FRAMES;
+pub const GROUP_WORDS: usize = LIST_AT + PAGES;
 
 /// Where a place of the hardware queue begins.
 pub fn queued_at(place: usize) -> usize {
@@ -43,9 +50,9 @@ pub fn group_at(group: usize) -> usize {
     GROUPS_AT + GROUP_WORDS * (group - 1)
 }
 
-/// Where a place of a frame begins.
-pub fn place_at(frame: usize, place: usize) -> usize {
-    FRAMES_AT + PLACE_WORDS * (FRAME_PLACES * frame + place)
+/// Where a place of a page begins.
+pub fn place_at(page: usize, place: usize) -> usize {
+    PAGES_AT + PLACE_WORDS * (PAGE_PLACES * page + place)
 }
 
 /// The message in a length and the eight words that follow it.
@@ -66,15 +73,22 @@ pub fn what_stands_at(at: usize) -> String {
             format!("{what} at place {place} of the hardware queue")
         }
         FREE_AT..GROUPS_AT => format!("place {} of the free line", at - FREE_AT),
-        GROUPS_AT..FRAMES_AT => {
+        GROUPS_AT..PAGES_AT => {
             let (group, word) = part(at - GROUPS_AT, GROUP_WORDS);
             format!("{} of group {}", record_word(word), group + 1)
         }
-        FRAMES_AT..SIZE => {
-            let (place, word) = part(at - FRAMES_AT, PLACE_WORDS);
-            let (frame, place) = part(place, FRAME_PLACES);
-            format!("{} at place {place} of frame {frame}", kept_word(word))
+        PAGES_AT..SWAP_COUNT => {
+            let (place, word) = part(at - PAGES_AT, PLACE_WORDS);
+            let (page, place) = part(place, PAGE_PLACES);
+            let page = page_name(page);
+            format!("{} at place {place} of {page}", kept_word(word))
         }
+        SWAP_COUNT => "swap pages in the swap line".to_string(),
+        ENTRY_COUNT => "frames in the order of entry".to_string(),
+        SENT_OUT => "pages sent out".to_string(),
+        BROUGHT_IN => "pages brought in".to_string(),
+        SWAP_AT..ENTRY_AT => format!("place {} of the swap line", at - SWAP_AT),
+        ENTRY_AT..SIZE => format!("place {} of the order of entry", at - ENTRY_AT),
         _ => "past the node".to_string(),
     }
 }
@@ -82,6 +96,13 @@ pub fn what_stands_at(at: usize) -> String {
 /// Which of the parts of so many words, and which word of it.
 fn part(word: usize, words: usize) -> (usize, usize) {
     (word / words, word % words)
+}
+
+fn page_name(page: usize) -> String {
+    match page.checked_sub(FRAMES) {
+        None => format!("frame {page}"),
+        Some(swap) => format!("swap page {swap}"),
+    }
 }
 
 fn kept_word(word: usize) -> String {
@@ -97,7 +118,7 @@ fn record_word(word: usize) -> String {
         PENDING => "pending".to_string(),
         USED_UP => "h".to_string(),
         MESSAGES => "n".to_string(),
-        LIST_COUNT => "frames in the list".to_string(),
+        LIST_COUNT => "pages in the list".to_string(),
         DESCRIPTOR_COUNT => "words in the descriptor".to_string(),
         DESCRIPTOR_AT..LIST_AT => format!("descriptor word {}", word - DESCRIPTOR_AT),
         _ => format!("place {} of the list", word - LIST_AT),
@@ -105,7 +126,7 @@ fn record_word(word: usize) -> String {
 }
 
 /// The words of a node's size, seen by the map. They need be no node: what a count reaches ends
-/// with the room there is, and a message is found only where its frame is one. A node has neither.
+/// with the room there is, and a message is found only where its page is one. A node has neither.
 #[derive(Clone, Copy)]
 pub struct Words<'a>(pub &'a [u32]);
 
@@ -118,6 +139,14 @@ impl<'a> Words<'a> {
         self.0[TIMER]
     }
 
+    pub fn sent_out(&self) -> u32 {
+        self.0[SENT_OUT]
+    }
+
+    pub fn brought_in(&self) -> u32 {
+        self.0[BROUGHT_IN]
+    }
+
     /// The used places of the hardware queue.
     pub fn queue_count(&self) -> usize {
         QUEUE_PLACES.min(self.0[QUEUE_COUNT] as usize)
@@ -126,6 +155,16 @@ impl<'a> Words<'a> {
     /// The used places of the free line.
     pub fn free_count(&self) -> usize {
         FRAMES.min(self.0[FREE_COUNT] as usize)
+    }
+
+    /// The used places of the swap line.
+    pub fn swap_count(&self) -> usize {
+        SWAP_PAGES.min(self.0[SWAP_COUNT] as usize)
+    }
+
+    /// The used places of the order of entry.
+    pub fn entry_count(&self) -> usize {
+        FRAMES.min(self.0[ENTRY_COUNT] as usize)
     }
 
     /// Where the hardware queue's messages begin, each with its group.
@@ -139,10 +178,6 @@ impl<'a> Words<'a> {
         self.queued().filter(move |&at| words[at] == group as u32)
     }
 
-    pub fn free(&self) -> &'a [u32] {
-        &self.0[self.free_line()]
-    }
-
     pub fn group(&self, group: usize) -> Record<'a> {
         Record(&self.0[group_at(group)..][..GROUP_WORDS])
     }
@@ -153,15 +188,15 @@ impl<'a> Words<'a> {
     }
 
     /// Where the messages of a group's buffer are kept: place p of the buffer is "place p mod 8 of
-    /// the list's frame number p / 8".
+    /// the list's page number p / 8".
     pub fn buffered(&self, group: usize) -> impl Iterator<Item = usize> + 'a {
         let record = self.group(group);
-        let room = (record.list_count() * FRAME_PLACES) as u64;
+        let room = (record.list_count() * PAGE_PLACES) as u64;
         let end = room.min(record.used_up() + record.messages());
         (record.used_up()..end).filter_map(move |at| {
-            let (number, place) = part(at as usize, FRAME_PLACES);
-            let frame = record.list()[number] as usize;
-            (frame < FRAMES).then(|| place_at(frame, place))
+            let (number, place) = part(at as usize, PAGE_PLACES);
+            let page = record.list()[number] as usize;
+            (page < PAGES).then(|| place_at(page, place))
         })
     }
 
@@ -182,7 +217,17 @@ impl<'a> Words<'a> {
         FREE_AT..FREE_AT + self.free_count()
     }
 
-    /// Where those of the lists do.
+    /// Where the page numbers of the swap line do.
+    pub fn swap_line(&self) -> Range<usize> {
+        SWAP_AT..SWAP_AT + self.swap_count()
+    }
+
+    /// Where the frame numbers of the order of entry do.
+    pub fn entry_order(&self) -> Range<usize> {
+        ENTRY_AT..ENTRY_AT + self.entry_count()
+    }
+
+    /// Where the page numbers of the lists do.
     pub fn listed(&self) -> impl Iterator<Item = usize> + 'a {
         self.each_group(|at, record| at + LIST_AT..at + LIST_AT + record.list_count())
     }
@@ -195,6 +240,16 @@ impl<'a> Words<'a> {
     /// The unused places of the free line.
     pub fn free_rest(&self) -> Range<usize> {
         self.free_line().end..GROUPS_AT
+    }
+
+    /// The unused places of the swap line.
+    pub fn swap_rest(&self) -> Range<usize> {
+        self.swap_line().end..ENTRY_AT
+    }
+
+    /// The unused places of the order of entry.
+    pub fn entry_rest(&self) -> Range<usize> {
+        self.entry_order().end..SIZE
     }
 
     /// The unused places of the lists.
@@ -232,7 +287,7 @@ impl<'a> Words<'a> {
     pub fn pledge(&self, group: usize) -> u64 {
         let record = self.group(group);
         let queued = self.queued_of(group).count();
-        frames_for(record.used_up() + record.messages() + queued as u64)
+        pages_for(record.used_up() + record.messages() + queued as u64)
     }
 }
 
@@ -259,7 +314,7 @@ impl<'a> Record<'a> {
 
     /// The used places of the list.
     pub fn list_count(&self) -> usize {
-        FRAMES.min(self.0[LIST_COUNT] as usize)
+        PAGES.min(self.0[LIST_COUNT] as usize)
     }
 
     /// The used words of the descriptor.

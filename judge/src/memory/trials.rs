@@ -3,50 +3,55 @@
 //! test to say.
 
 use super::map::{
-    group_at, place_at, queued_at, Words, ATOMIC, DESCRIPTOR_COUNT, FRAMES_AT, FREE_AT, FREE_COUNT,
-    LIST_AT, LIST_COUNT, MESSAGES, PENDING, PLACE_WORDS, QUEUE_COUNT, RUNNING, SIZE, TIMER,
-    USED_UP,
+    group_at, place_at, queued_at, Words, ATOMIC, BROUGHT_IN, DESCRIPTOR_COUNT, ENTRY_AT,
+    ENTRY_COUNT, FREE_AT, FREE_COUNT, LIST_AT, LIST_COUNT, MESSAGES, PAGES_AT, PENDING,
+    PLACE_WORDS, QUEUE_COUNT, RUNNING, SENT_OUT, SIZE, SWAP_AT, SWAP_COUNT, TIMER, USED_UP,
 };
 use super::words_of;
 use crate::generator::{Flavour, FLAVOURS};
 use crate::node::{
-    Operation, DESCRIPTOR_WORDS, FRAMES, FRAME_PLACES, GROUPS, MESSAGE_WORDS, QUEUE_PLACES, TIMEOUT,
+    Operation, DESCRIPTOR_WORDS, FRAMES, GROUPS, MESSAGE_WORDS, PAGES, PAGE_PLACES, QUEUE_PLACES,
+    SWAP_PAGES, TIMEOUT,
 };
 use crate::random::Random;
 use crate::script;
 
-/// A script that leads to a node has at most 2 to one of these powers lines: enough to fill all
-/// frames.
+/// A script that leads to a node has at most 2 to one of these powers lines.
 const SCRIPT_LINES: [u64; 2] = [5, 11];
+/// One of a flavour that fills the frames has so many: enough for all pages.
+const FILLING: [&str; 3] = ["arrivals", "swap", "swaptime"];
+const FILLING_LINES: [u64; 2] = [300, 1500];
 /// At most so many words are changed at random.
 const MOST_WORDS: u64 = 8;
 /// A longer memory has at most so many words past the node.
 const MOST_PAST: u64 = 100;
 
-/// A node that a script of some flavour leads to, after few lines as often as after many.
+/// A node that a script of some flavour leads to, after few lines as often as after many; often of one
+/// that leaves pages in swap.
 pub fn reachable(random: &mut Random) -> Vec<u32> {
-    let flavour = &FLAVOURS[below(random, FLAVOURS.len())];
-    let power = random.between(SCRIPT_LINES[0], SCRIPT_LINES[1]);
-    let lines = random.between(0, 1 << power);
+    let (flavour, lines) = if random.one_in(3) {
+        let lines = random.between(FILLING_LINES[0], FILLING_LINES[1]);
+        (named(random.pick(&FILLING)), lines)
+    } else {
+        let power = random.between(SCRIPT_LINES[0], SCRIPT_LINES[1]);
+        let flavour = &FLAVOURS[below(random, FLAVOURS.len())];
+        (flavour, random.between(0, 1 << power))
+    };
     words_of(&script::node_after(&flavour.script(random.draw(), lines)))
+}
+
+fn named(name: &str) -> &'static Flavour {
+    Flavour::named(name).expect("a flavour of this name")
 }
 
 /// Any operation, an unknown one too.
 pub fn operation(random: &mut Random) -> Operation {
     let name = if random.one_in(20) { "bad" } else { "uniform" };
-    let flavour = Flavour::named(name).expect("a flavour of this name");
-    let line = flavour.script(random.draw(), 1);
+    let line = named(name).script(random.draw(), 1);
     script::read(line.strip_suffix(b"\n").unwrap_or(&line))
 }
 
-/// Any memory: a node or a changed one, most often of the node's size.
-pub fn any_memory(random: &mut Random) -> Vec<u32> {
-    let mut memory = reachable(random);
-    vary(&mut memory, random);
-    memory
-}
-
-/// Makes any memory of a node's.
+/// Makes any memory of a node's: the node or a changed one, most often of the node's size.
 pub fn vary(memory: &mut Vec<u32>, random: &mut Random) {
     match random.between(1, 8) {
         1 | 2 => (),
@@ -83,16 +88,17 @@ impl Length {
     }
 }
 
-/// Changes one to eight words of the node, most often among the numbers before the frames.
+/// Changes one to eight words of the node, most often among the numbers around the pages.
 pub fn change_words(memory: &mut [u32], random: &mut Random) {
     let words = random.between(1, MOST_WORDS) as usize;
     let mut changed = Vec::new();
     while changed.len() < words {
-        let end = random.pick(&[FRAMES_AT, FRAMES_AT, SIZE]);
-        let at = below(random, end);
+        let parts = [(0, PAGES_AT), (0, PAGES_AT), (SWAP_COUNT, SIZE), (0, SIZE)];
+        let (start, end) = random.pick(&parts);
+        let at = start + below(random, end - start);
         if !changed.contains(&at) {
             changed.push(at);
-            change(memory, random, at, FRAMES);
+            change(memory, random, at, PAGES);
         }
     }
 }
@@ -104,7 +110,7 @@ pub struct Change {
     make: fn(&mut [u32], &mut Random),
 }
 
-pub static CHANGES: [Change; 16] = [
+pub static CHANGES: [Change; 23] = [
     Change {
         name: "the running group",
         make: |memory, random| change(memory, random, RUNNING, GROUPS),
@@ -126,6 +132,10 @@ pub static CHANGES: [Change; 16] = [
         make: change_messages,
     },
     Change {
+        name: "used-up places and no message",
+        make: use_up_all,
+    },
+    Change {
         name: "flags",
         make: change_flag,
     },
@@ -139,15 +149,43 @@ pub static CHANGES: [Change; 16] = [
     },
     Change {
         name: "the free line",
-        make: change_free,
+        make: |memory, random| change_in(memory, random, FREE_AT, FRAMES),
+    },
+    Change {
+        name: "the swap line",
+        make: |memory, random| change_in(memory, random, SWAP_AT, SWAP_PAGES),
+    },
+    Change {
+        name: "the order of entry",
+        make: |memory, random| change_in(memory, random, ENTRY_AT, FRAMES),
+    },
+    Change {
+        name: "frames that entered in another order",
+        make: |memory, random| {
+            let entered = words(memory).entry_order().collect();
+            exchange(memory, random, entered);
+        },
+    },
+    Change {
+        name: "pages sent out and brought in",
+        make: change_paging,
     },
     Change {
         name: "lists",
         make: change_list,
     },
     Change {
-        name: "frames exchanged",
-        make: exchange_frames,
+        name: "pages exchanged",
+        make: |memory, random| {
+            let words = words(memory);
+            let lines = words.free_line().chain(words.swap_line());
+            let standing = lines.chain(words.listed()).collect();
+            exchange(memory, random, standing);
+        },
+    },
+    Change {
+        name: "a first page sent out",
+        make: exchange_first,
     },
     Change {
         name: "unused words",
@@ -170,7 +208,15 @@ pub static CHANGES: [Change; 16] = [
     },
     Change {
         name: "all frames filled",
-        make: fill_frames,
+        make: |memory, random| fill_until(memory, random, |words| words.free_count() == 0),
+    },
+    Change {
+        name: "all pages filled",
+        make: |memory, random| {
+            fill_until(memory, random, |words| {
+                words.free_count() + words.swap_count() == 0
+            });
+        },
     },
 ];
 
@@ -189,7 +235,9 @@ fn change_count(memory: &mut [u32], random: &mut Random) {
     let (at, most) = random.pick(&[
         (QUEUE_COUNT, QUEUE_PLACES),
         (FREE_COUNT, FRAMES),
-        (record + LIST_COUNT, FRAMES),
+        (SWAP_COUNT, SWAP_PAGES),
+        (ENTRY_COUNT, FRAMES),
+        (record + LIST_COUNT, PAGES),
         (record + DESCRIPTOR_COUNT, DESCRIPTOR_WORDS),
     ]);
     change(memory, random, at, most);
@@ -197,25 +245,33 @@ fn change_count(memory: &mut [u32], random: &mut Random) {
 
 fn change_used_up(memory: &mut [u32], random: &mut Random) {
     let record = group_at(a_buffered(memory, random));
-    change(memory, random, record + USED_UP, FRAME_PLACES - 1);
+    change(memory, random, record + USED_UP, PAGE_PLACES - 1);
 }
 
-/// To an edge, to about what the list has room for, so that h + n is small only in 32 bits, or to 0,
-/// which leaves h alone.
+/// To an edge, or to about what the list has room for, so that h + n is small only in 32 bits.
 fn change_messages(memory: &mut [u32], random: &mut Random) {
     let group = a_buffered(memory, random);
     let (at, used_up) = (
         group_at(group) + MESSAGES,
         memory[group_at(group) + USED_UP],
     );
-    let places = words(memory).group(group).list_count() * FRAME_PLACES;
-    let sum = match random.between(1, 6) {
+    let places = words(memory).group(group).list_count() * PAGE_PLACES;
+    let sum = match random.between(1, 5) {
         1 => below(random, places + 2),
         2 => below(random, used_up.max(1) as usize),
-        3 => used_up as usize,
         _ => return change(memory, random, at, places),
     };
     memory[at] = (sum as u32).wrapping_sub(used_up);
+}
+
+/// A buffer of one page that holds no message has its rounded-up length all the same.
+fn use_up_all(memory: &mut [u32], random: &mut Random) {
+    let of_one_page = (1..=GROUPS).filter(|&group| words(memory).group(group).list_count() == 1);
+    let of_one_page = of_one_page.collect();
+    let any = 1 + below(random, GROUPS);
+    let record = group_at(one_of(random, of_one_page, any));
+    memory[record + USED_UP] = random.between(1, PAGE_PLACES as u64 - 1) as u32;
+    memory[record + MESSAGES] = 0;
 }
 
 fn change_flag(memory: &mut [u32], random: &mut Random) {
@@ -239,46 +295,70 @@ fn change_length(memory: &mut [u32], random: &mut Random) {
     change(memory, random, at, MESSAGE_WORDS);
 }
 
-fn change_free(memory: &mut [u32], random: &mut Random) {
-    let at = FREE_AT + below(random, FRAMES);
-    change(memory, random, at, FRAMES - 1);
+/// A number of a line that begins at an address and has so many places.
+fn change_in(memory: &mut [u32], random: &mut Random, at: usize, places: usize) {
+    let at = at + below(random, places);
+    let most = random.pick(&[FRAMES - 1, PAGES - 1]);
+    change(memory, random, at, most);
 }
 
 fn change_list(memory: &mut [u32], random: &mut Random) {
-    let unused = any_record(random) + LIST_AT + below(random, FRAMES);
+    let unused = any_record(random) + LIST_AT + below(random, PAGES);
     let at = one_of(random, words(memory).listed().collect(), unused);
-    change(memory, random, at, FRAMES - 1);
+    change(memory, random, at, PAGES - 1);
 }
 
-fn exchange_frames(memory: &mut [u32], random: &mut Random) {
-    let words = words(memory);
-    let standing: Vec<usize> = words.free_line().chain(words.listed()).collect();
+/// To any number, often to one where the count stays or is about to.
+fn change_paging(memory: &mut [u32], random: &mut Random) {
+    for at in [SENT_OUT, BROUGHT_IN] {
+        memory[at] = match random.between(1, 3) {
+            1 => random.draw() as u32,
+            _ => u32::MAX - random.between(0, 2) as u32,
+        };
+    }
+}
+
+/// Two of the numbers at these addresses change places.
+fn exchange(memory: &mut [u32], random: &mut Random, standing: Vec<usize>) {
     let one = one_of(random, standing.clone(), FREE_AT);
     let other = one_of(random, standing, FREE_AT);
     memory.swap(one, other);
 }
 
+/// A group's first page, often the runner's, with a page that is out.
+fn exchange_first(memory: &mut [u32], random: &mut Random) {
+    let first = group_at(runner_or_any(memory, random)) + LIST_AT;
+    let listed = words(memory).listed();
+    let out = listed.filter(|&at| memory[at] as usize >= FRAMES).collect();
+    let other = one_of(random, out, first);
+    memory.swap(first, other);
+}
+
 /// What is asked to be 0.
 fn change_unused(memory: &mut [u32], random: &mut Random) {
     let words = words(memory);
-    let unused: Vec<usize> = match random.between(1, 5) {
+    let unused: Vec<usize> = match random.between(1, 7) {
         1 => words.queue_rest().collect(),
         2 => words.free_rest().collect(),
-        3 => words.list_rest().collect(),
-        4 => words.descriptor_rest().collect(),
+        3 => words.swap_rest().collect(),
+        4 => words.entry_rest().collect(),
+        5 => words.list_rest().collect(),
+        6 => words.descriptor_rest().collect(),
         _ => words.message_rest().collect(),
     };
     let at = one_of(random, unused, FREE_AT - 1);
     change(memory, random, at, 1);
 }
 
-/// What a frame keeps where no message waits may be anything.
+/// What a page keeps where no message waits may be anything.
 fn change_unread(memory: &mut [u32], random: &mut Random) {
     let waiting: Vec<usize> = words(memory).waiting().collect();
-    let places = (FRAMES_AT..SIZE).step_by(PLACE_WORDS);
-    let unread = places.filter(|at| !waiting.contains(at)).collect();
-    let at = one_of(random, unread, FRAMES_AT) + below(random, PLACE_WORDS);
-    change(memory, random, at, MESSAGE_WORDS);
+    let places = (PAGES_AT..SWAP_COUNT).step_by(PLACE_WORDS);
+    let unread: Vec<usize> = places.filter(|at| !waiting.contains(at)).collect();
+    if !unread.is_empty() {
+        let at = random.pick(&unread) + below(random, PLACE_WORDS);
+        change(memory, random, at, MESSAGE_WORDS);
+    }
 }
 
 /// A message at the end of the hardware queue, often the running group's. In a full queue it takes
@@ -291,34 +371,49 @@ fn forge_queued(memory: &mut [u32], random: &mut Random) {
     forge(memory, random, queued_at(place) + 1);
 }
 
-/// Messages in the buffer of a group that does not run, until no frame is free: what is in the
-/// queue finds none then.
-fn fill_frames(memory: &mut [u32], random: &mut Random) {
+/// Messages in the buffer of a group that does not run, until enough are there: what is in the queue
+/// may find no frame then, or no page at all.
+fn fill_until(memory: &mut [u32], random: &mut Random, enough: fn(&Words) -> bool) {
     let group = 1 + (words(memory).running() + below(random, GROUPS - 1)) % GROUPS;
-    for _ in 0..FRAMES * FRAME_PLACES {
-        if words(memory).free_count() == 0 {
+    for _ in 0..PAGES * PAGE_PLACES {
+        if enough(&words(memory)) {
             break;
         }
         forge_buffered(memory, random, group);
     }
 }
 
-/// A message at the end of a group's buffer. If the list needs another frame, it gets the last of
-/// the free line; if none is left, n grows all the same.
+/// A message at the end of a group's buffer. If the list needs another page, it gets the last of the
+/// free line or else of the swap line; if none is left, n grows all the same.
 fn forge_buffered(memory: &mut [u32], random: &mut Random, group: usize) {
     let at = group_at(group);
     let record = words(memory).group(group);
     let (place, listed) = (record.used_up() + record.messages(), record.list_count());
-    let is_full = place == (listed * FRAME_PLACES) as u64;
-    if let Some(last) = words(memory).free_line().last().filter(|_| is_full) {
-        memory[FREE_COUNT] = (last - FREE_AT) as u32;
-        memory[at + LIST_COUNT] = listed as u32 + 1;
-        memory[at + LIST_AT + listed % FRAMES] = std::mem::take(&mut memory[last]);
+    if place == (listed * PAGE_PLACES) as u64 {
+        if let Some(page) = taken_page(memory) {
+            memory[at + LIST_COUNT] = listed as u32 + 1;
+            memory[at + LIST_AT + listed % PAGES] = page;
+        }
     }
     memory[at + MESSAGES] = memory[at + MESSAGES].wrapping_add(1);
     if let Some(kept) = words(memory).buffered(group).last() {
         forge(memory, random, kept);
     }
+}
+
+/// The last page of the free line, which then is the last to have entered, or else of the swap line.
+fn taken_page(memory: &mut [u32]) -> Option<u32> {
+    let entered = words(memory).entry_count();
+    if let Some(last) = words(memory).free_line().last() {
+        let frame = std::mem::take(&mut memory[last]);
+        memory[FREE_COUNT] = (last - FREE_AT) as u32;
+        memory[ENTRY_AT + entered % FRAMES] = frame;
+        memory[ENTRY_COUNT] = entered as u32 + 1;
+        return Some(frame);
+    }
+    let last = words(memory).swap_line().last()?;
+    memory[SWAP_COUNT] = (last - SWAP_AT) as u32;
+    Some(std::mem::take(&mut memory[last]))
 }
 
 /// A message of any length: its words, and 0 past them.

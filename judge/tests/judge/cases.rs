@@ -1,4 +1,4 @@
-//! The cases of the paper: the whole case, K1 to K8, and the edges after them.
+//! The cases of paper 01: the whole case, K1 to K8, and the edges after them.
 
 use crate::support::{listing, Case, ACCEPTED};
 
@@ -100,9 +100,9 @@ fn k8_dispose_with_nobody_and_with_nothing() {
 }
 
 #[test]
-fn frames_are_full_after_256_arrivals() {
+fn pages_are_full_after_768_arrivals() {
     Case::new()
-        .times(256, "A,1,7", "0,0,0,0,1")
+        .times(768, "A,1,7", "0,0,0,0,1")
         .line("A,1,7", "6,0,0,0,0")
         .line("S,1", "0,0,0,1,0")
         .line("D", "0,0,1,0,0")
@@ -200,7 +200,7 @@ fn misreading_timer_set_back_by_the_section() {
 #[test]
 fn misreading_frames_counted_too_late() {
     Case::new()
-        .times(248, "A,1,7", "0,0,0,0,1")
+        .times(760, "A,1,7", "0,0,0,0,1")
         .quiet("S,2 B")
         .times(8, "A,2,7", ACCEPTED)
         .line("A,2,7", "6,0,0,0,0")

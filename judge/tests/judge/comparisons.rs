@@ -177,8 +177,8 @@ fn compare_tells_what_was_met() {
     assert!(output.status.success(), "{}", text(&output.stderr));
     let told = text(&output.stdout);
     assert!(told.starts_with("answer"));
-    assert!(told.ends_with("\n40000 lines compared\n"));
-    assert_eq!(told.lines().count(), 1 + 11 + 1 + 1);
+    assert!(told.ends_with("\n48000 lines compared\n"));
+    assert_eq!(told.lines().count(), 1 + 11 + 1 + 5 + 1);
     assert!(text(&output.stderr).contains("mixed: 4000 of 4000 lines"));
 }
 
@@ -259,7 +259,7 @@ fn bench_tells_times_and_ratios() {
     let output = benched(&project, &["--script", &short_script(&project), JUDGE]);
     assert!(output.status.success(), "{}", text(&output.stderr));
     let told = text(&output.stdout);
-    assert!(told.starts_with("4 lines, 13 bytes\n"), "{told}");
+    assert!(told.contains(": 4 lines, 13 bytes\n"), "{told}");
     for other in ["judge", JUDGE] {
         let ratio = format!(" times the time of {other}\n");
         assert!(told.contains(&ratio), "{told}");
@@ -286,7 +286,7 @@ fn bench_measures_the_calls_that_test_the_memory() {
     assert!(output.status.success(), "{}", text(&output.stderr));
     let told = text(&output.stdout);
     // The three lines that end with a newline.
-    assert!(told.contains("\n192 lines, 768 bytes\n"), "{told}");
+    assert!(told.contains(": 192 lines, 768 bytes\n"), "{told}");
     assert!(told.contains("tested takes "));
 }
 

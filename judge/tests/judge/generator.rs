@@ -62,17 +62,26 @@ fn named(name: &str) -> &'static Flavour {
 }
 
 #[test]
-fn all_flavours_together_meet_every_answer_and_trap() {
+fn all_flavours_together_meet_everything() {
     assert_eq!(counts(&FLAVOURS).missing(), Vec::<String>::new());
 }
 
-/// Each flavour is there for some answers and traps; it meets them alone.
+/// Each flavour is there for some answers, traps and moves of pages; it meets them alone.
 #[test]
 fn each_flavour_meets_what_it_is_for() {
     let purposes = [
         ("uniform", "trap 1, trap 2, trap 3, answer 7"),
         ("direct", "trap 0, answer 8"),
         ("arrivals", "answer 3, answer 4, answer 5, answer 6"),
+        (
+            "swap",
+            "pages sent out, pages brought in to be written, pages exchanged to be written, first \
+             pages brought in, first pages exchanged",
+        ),
+        (
+            "swaptime",
+            "trap 3, pages sent out, pages exchanged to be written, first pages exchanged",
+        ),
         ("switches", "answer 14"),
         ("ticks", "answer 15, trap 3"),
         ("bad", "answer 2"),
@@ -81,7 +90,7 @@ fn each_flavour_meets_what_it_is_for() {
         ("launches", "answer 11, answer 12, answer 13"),
         (
             "mixed",
-            "answer 2, answer 5, answer 6, trap 1, trap 2, trap 3",
+            "answer 2, answer 5, trap 1, trap 2, trap 3, pages sent out, first pages brought in",
         ),
     ];
     assert_eq!(purposes.len(), FLAVOURS.len());
@@ -96,9 +105,10 @@ fn each_flavour_meets_what_it_is_for() {
 #[test]
 fn nothing_met_is_all_missing() {
     let missing = Counts::default().missing();
-    assert_eq!(missing.len(), 14 + 4);
+    assert_eq!(missing.len(), 14 + 4 + 5);
     assert_eq!(missing[0], "answer 2");
     assert_eq!(missing[17], "trap 3");
+    assert_eq!(missing[18], "pages sent out");
 }
 
 #[test]

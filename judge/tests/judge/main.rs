@@ -10,4 +10,5 @@ mod programs;
 mod readings;
 mod state;
 mod support;
+mod swap;
 mod trials;

@@ -1,7 +1,7 @@
 //! The node in lent memory: where each number stands, the memory test, and what a step leaves
 //! alone. The numbers of the map stand here a second time, as docs/MEMORY.md has them.
 
-use judge::memory::{self, broken_clause, clauses, head, head_part, power_on, step};
+use judge::memory::{self, broken_clause, clauses, head, head_part, paging, power_on, step};
 use judge::node::{Node, Operation, Refusal, Report};
 use judge::script;
 
@@ -13,6 +13,12 @@ const TIMER: usize = 1;
 const QUEUE_COUNT: usize = 2;
 const FREE_COUNT: usize = 3;
 const FREE: usize = 164;
+const SWAP_COUNT: usize = 7988;
+const ENTRY_COUNT: usize = 7989;
+const SENT_OUT: usize = 7990;
+const BROUGHT_IN: usize = 7991;
+const SWAP: usize = 7992;
+const ENTRY: usize = 8056;
 
 const ATOMIC: usize = 0;
 const PENDING: usize = 1;
@@ -28,11 +34,11 @@ fn queue(place: usize) -> usize {
 }
 
 fn record(group: usize) -> usize {
-    196 + 46 * (group - 1)
+    196 + 110 * (group - 1)
 }
 
-fn frame(frame: usize, place: usize) -> usize {
-    564 + 72 * frame + 9 * place
+fn page(page: usize, place: usize) -> usize {
+    1076 + 72 * page + 9 * place
 }
 
 /// Running group 1 is direct with two messages in the queue and one of group 2 between them, the
@@ -45,36 +51,60 @@ fn busy() -> Vec<u32> {
     )
 }
 
-/// The same with a length in all places of the frames, as if each had held a message once: whatever
+/// The same with a length in all places of the pages, as if each had held a message once: whatever
 /// h, n and the lists are changed to, the lengths that they lead to are within the bounds.
 fn busy_and_used() -> Vec<u32> {
     let mut memory = busy();
-    for place in (10..256).map(|place| frame(place / 8, place % 8)) {
+    for place in (10..768).map(|place| page(place / 8, place % 8)) {
         memory[place] = 1;
     }
     assert_eq!(broken_clause(&memory), None);
     memory
 }
 
+/// A number at the end of a line that stands behind its count.
+fn join(memory: &mut [u32], (count, line): (usize, usize), number: u32) {
+    memory[line + memory[count] as usize] = number;
+    memory[count] += 1;
+}
+
+/// The last number of a line, taken from it.
+fn take_last(memory: &mut [u32], (count, line): (usize, usize)) -> u32 {
+    memory[count] -= 1;
+    std::mem::take(&mut memory[line + memory[count] as usize])
+}
+
+fn list(group: usize) -> (usize, usize) {
+    (record(group) + LIST_COUNT, record(group) + LIST)
+}
+
 /// Takes the last frame of the free line for a group's list.
 fn take_last_free(memory: &mut [u32], group: usize) -> usize {
-    memory[FREE_COUNT] -= 1;
-    let last = FREE + memory[FREE_COUNT] as usize;
-    let taken = std::mem::take(&mut memory[last]);
-    let end = record(group) + LIST + memory[record(group) + LIST_COUNT] as usize;
-    memory[end] = taken;
-    memory[record(group) + LIST_COUNT] += 1;
-    taken as usize
+    let frame = take_last(memory, (FREE_COUNT, FREE));
+    join(memory, list(group), frame);
+    join(memory, (ENTRY_COUNT, ENTRY), frame);
+    frame as usize
+}
+
+/// Takes the last swap page of the swap line for a group's list.
+fn take_last_swap(memory: &mut [u32], group: usize) -> usize {
+    let page = take_last(memory, (SWAP_COUNT, SWAP));
+    join(memory, list(group), page);
+    page as usize
 }
 
 #[test]
-fn power_on_is_0_but_for_the_free_line() {
-    let mut memory = vec![0xdead_beef; 2868];
+fn power_on_is_0_but_for_the_free_line_and_the_swap_line() {
+    let mut memory = vec![0xdead_beef; 8088];
     assert_eq!(power_on(&mut memory), 0);
-    let mut expected = vec![0; 2868];
+    let mut expected = vec![0; 8088];
     expected[FREE_COUNT] = 32;
     for place in 0..32 {
         expected[FREE + place] = place as u32;
+    }
+    expected[SWAP_COUNT] = 64;
+    for place in 0..64 {
+        expected[SWAP + place] = 32 + place as u32;
     }
     assert_eq!(memory, expected);
     assert_eq!(broken_clause(&memory), None);
@@ -83,7 +113,7 @@ fn power_on_is_0_but_for_the_free_line() {
 
 #[test]
 fn each_number_stands_where_the_map_says() {
-    let mut expected = vec![0; 2868];
+    let mut expected = vec![0; 8088];
     let mut put = |at: usize, words: &[u32]| expected[at..at + words.len()].copy_from_slice(words);
     put(0, &[1, 5, 3, 30]);
     put(queue(0), &[1, 1, 7]);
@@ -93,28 +123,47 @@ fn each_number_stands_where_the_map_says() {
     put(record(1), &[1, 1, 0, 0, 0, 2, 9, 8]);
     put(record(3), &[1, 0, 2, 8, 2, 0]);
     put(record(3) + LIST, &[0, 1]);
-    put(frame(0, 0), &[2, 10, 11]);
-    put(frame(0, 1), &[2, 20, 21]);
-    put(frame(0, 2), &[2, 30, 31]);
+    put(page(0, 0), &[2, 10, 11]);
+    put(page(0, 1), &[2, 20, 21]);
+    put(page(0, 2), &[2, 30, 31]);
     for place in 3..10 {
-        put(frame(place / 8, place % 8), &[1, 10 * (place as u32 + 1)]);
+        put(page(place / 8, place % 8), &[1, 10 * (place as u32 + 1)]);
     }
+    put(SWAP_COUNT, &[64, 2, 0, 0]);
+    put(SWAP, &(32..96).collect::<Vec<u32>>());
+    put(ENTRY, &[0, 1]);
     assert_eq!(busy(), expected);
 }
 
 #[test]
 fn the_last_words_of_the_map_are_met() {
-    let memory = memory_after(&"A,8,1,2,3,4,5,6,7,8 ".repeat(256));
-    assert_eq!(memory[record(8) + MESSAGES], 256);
-    assert_eq!(memory[record(8) + LIST + 31], 31);
-    assert_eq!(memory[frame(31, 7)..], [8, 1, 2, 3, 4, 5, 6, 7, 8]);
-    assert_eq!(memory.len(), frame(31, 7) + 9);
+    let memory = memory_after(&"A,8,1,2,3,4,5,6,7,8 ".repeat(768));
+    assert_eq!(memory[record(8) + MESSAGES], 768);
+    let list: Vec<u32> = (32..96).chain(0..32).collect();
+    assert_eq!(memory[record(8) + LIST..][..96], list);
+    assert_eq!(memory[page(95, 7)..][..9], [8, 1, 2, 3, 4, 5, 6, 7, 8]);
+    assert_eq!(memory[SWAP_COUNT..SWAP], [0, 32, 64, 0]);
+    assert_eq!(memory[SWAP..ENTRY], [0; 64]);
+    assert_eq!(memory[ENTRY..], (0..32).collect::<Vec<u32>>());
+    assert_eq!(memory.len(), ENTRY + 32);
+}
+
+/// An exchange: the pages trade places, and the frame is the last to have entered.
+#[test]
+fn pages_in_swap_stand_where_the_map_says() {
+    let memory = memory_after(&format!("{}S,2", "A,2,7 ".repeat(257)));
+    let list: Vec<u32> = [1, 32].into_iter().chain(2..32).chain([0, 0]).collect();
+    assert_eq!(memory[record(2) + LIST..][..34], list);
+    let entry: Vec<u32> = (2..32).chain([0, 1]).collect();
+    assert_eq!(memory[ENTRY..], entry);
+    assert_eq!(memory[SWAP_COUNT..][..5], [63, 32, 2, 1, 33]);
+    assert_eq!(memory[SWAP + 62..ENTRY], [95, 0]);
 }
 
 #[test]
 fn freed_words_and_kept_lengths_stay() {
     let memory = memory_after("A,1,7,8,9 S,1 D");
-    assert_eq!(memory[frame(0, 0)..][..9], [3, 7, 8, 9, 0, 0, 0, 0, 0]);
+    assert_eq!(memory[page(0, 0)..][..9], [3, 7, 8, 9, 0, 0, 0, 0, 0]);
     assert_eq!(memory[record(1)..][..6], [1, 0, 0, 0, 0, 0]);
 }
 
@@ -123,7 +172,7 @@ fn a_written_message_clears_the_words_past_its_length() {
     let script = format!("A,1,7,8,9 S,1 D N S,0 {}", "A,2,1 ".repeat(249));
     let memory = memory_after(&script);
     assert_eq!(memory[record(2) + LIST + 31], 0);
-    assert_eq!(memory[frame(0, 0)..][..9], [1, 1, 0, 0, 0, 0, 0, 0, 0]);
+    assert_eq!(memory[page(0, 0)..][..9], [1, 1, 0, 0, 0, 0, 0, 0, 0]);
 }
 
 #[test]
@@ -160,8 +209,10 @@ const BREAKS: &[Break] = &[
     ("running is 0 to 8", |m| m[RUNNING] = u32::MAX),
     ("counts are within the bounds", |m| m[QUEUE_COUNT] = 17),
     ("counts are within the bounds", |m| m[FREE_COUNT] = 33),
+    ("counts are within the bounds", |m| m[SWAP_COUNT] = 65),
+    ("counts are within the bounds", |m| m[ENTRY_COUNT] = 33),
     ("counts are within the bounds", |m| {
-        m[record(8) + LIST_COUNT] = 33
+        m[record(8) + LIST_COUNT] = 97
     }),
     ("counts are within the bounds", |m| {
         m[record(8) + DESCRIPTOR_COUNT] = 9
@@ -181,8 +232,38 @@ const BREAKS: &[Break] = &[
         m[FREE_COUNT] = 29;
         m[FREE + 29] = 0;
     }),
+    ("each swap page stands once", |m| m[SWAP] = 33),
+    ("each swap page stands once", |m| m[SWAP] = 31),
+    ("each swap page stands once", |m| m[SWAP + 63] = 96),
+    ("each swap page stands once", |m| m[SWAP_COUNT] = 63),
+    ("each swap page stands once", |m| {
+        take_last_swap(m, 3);
+        m[record(3) + LIST + 2] = 96;
+    }),
+    ("each swap page stands once", |m| {
+        take_last_swap(m, 3);
+        m[record(3) + LIST + 2] = 32;
+    }),
+    ("the order of entry holds each frame in use once", |m| {
+        m[ENTRY] = 1
+    }),
+    ("the order of entry holds each frame in use once", |m| {
+        m[ENTRY + 1] = 2
+    }),
+    ("the order of entry holds each frame in use once", |m| {
+        m[ENTRY + 1] = 33
+    }),
+    ("the order of entry holds each frame in use once", |m| {
+        m[ENTRY_COUNT] = 1
+    }),
+    ("the order of entry holds each frame in use once", |m| {
+        m[ENTRY_COUNT] = 3
+    }),
     ("each list has its rounded-up length", |m| {
         take_last_free(m, 2);
+    }),
+    ("each list has its rounded-up length", |m| {
+        take_last_swap(m, 3);
     }),
     ("each list has its rounded-up length", |m| {
         m[record(3) + MESSAGES] = 15
@@ -200,10 +281,10 @@ const BREAKS: &[Break] = &[
         m[queue(2) + 1] = 9
     }),
     ("waiting messages' lengths are within the bounds", |m| {
-        m[frame(0, 2)] = 0
+        m[page(0, 2)] = 0
     }),
     ("waiting messages' lengths are within the bounds", |m| {
-        m[frame(1, 1)] = 9
+        m[page(1, 1)] = 9
     }),
     ("flags are 0 or 1", |m| m[record(1) + ATOMIC] = 2),
     ("flags are 0 or 1", |m| m[record(8) + PENDING] = 2),
@@ -212,11 +293,22 @@ const BREAKS: &[Break] = &[
     ("unused places of the queue are 0", |m| m[queue(15) + 9] = 1),
     ("unused places of the free line are 0", |m| m[FREE + 30] = 1),
     ("unused places of the free line are 0", |m| m[FREE + 31] = 1),
+    ("unused places of the swap line are 0", |m| {
+        take_last_swap(m, 3);
+        m[record(3) + MESSAGES] = 15;
+        m[SWAP + 63] = 95;
+    }),
+    ("unused places of the order of entry are 0", |m| {
+        m[ENTRY + 2] = 1
+    }),
+    ("unused places of the order of entry are 0", |m| {
+        m[ENTRY + 31] = 1
+    }),
     ("unused places of the lists are 0", |m| {
         m[record(3) + LIST + 2] = 1
     }),
     ("unused places of the lists are 0", |m| {
-        m[record(8) + LIST + 31] = 1
+        m[record(8) + LIST + 95] = 1
     }),
     ("unused descriptor words are 0", |m| {
         m[record(1) + DESCRIPTOR + 2] = 1
@@ -228,10 +320,10 @@ const BREAKS: &[Break] = &[
         m[queue(0) + 3] = 1
     }),
     ("a waiting message's words past its length are 0", |m| {
-        m[frame(0, 2) + 3] = 1
+        m[page(0, 2) + 3] = 1
     }),
     ("a waiting message's words past its length are 0", |m| {
-        m[frame(1, 1) + 8] = 1
+        m[page(1, 1) + 8] = 1
     }),
     ("h is 0 where n is 0", |m| {
         take_last_free(m, 5);
@@ -258,7 +350,7 @@ const BREAKS: &[Break] = &[
     ("the group of the queue's head is direct", |m| {
         let taken = take_last_free(m, 1);
         m[record(1) + MESSAGES] = 1;
-        m[frame(taken, 0)] = 1;
+        m[page(taken, 0)] = 1;
     }),
     ("if the queue is empty the timer is 0", |m| {
         m[QUEUE_COUNT] = 0;
@@ -276,15 +368,19 @@ fn each_clause_broken_is_answered_1_and_memory_untouched() {
     }
 }
 
-/// The paper's sentence, with its "within the bounds above" and its "0" said of each part.
+/// The paper's sentence, with its "within the bounds above" and its "0" said of each part, and order
+/// 1's clauses behind those that they are like.
 const SENTENCE: &str = "running is 0 to 8; counts are within the bounds; groups are within the \
     bounds; waiting messages' lengths are within the bounds; h is within the bounds; timer is \
-    within the bounds; each frame stands once; each list has its rounded-up length; flags are 0 \
-    or 1; unused places of the queue are 0; unused places of the free line are 0; unused places \
-    of the lists are 0; unused descriptor words are 0; a waiting message's words past its length \
-    are 0; pledges sum to at most 32; h is 0 where n is 0; pending only with atomic and a line \
-    not empty; a running group with a line not empty is atomic; the queue's head is the running \
-    group's; the group of the queue's head is direct; if the queue is empty the timer is 0";
+    within the bounds; each frame stands once; each swap page stands once; the order of entry \
+    holds each frame in use once; each list has its rounded-up length; flags are 0 or 1; unused \
+    places of the queue are 0; unused places of the free line are 0; unused places of the swap \
+    line are 0; unused places of the order of entry are 0; unused places of the lists are 0; \
+    unused descriptor words are 0; a waiting message's words past its length are 0; pledges sum \
+    to at most 96; h is 0 where n is 0; pending only with atomic and a line not empty; a running \
+    group with a line not empty is atomic; the queue's head is the running group's; the group of \
+    the queue's head is direct; if the queue is empty the timer is 0; a running group's first \
+    page is in a frame";
 
 #[test]
 fn clauses_stand_in_the_papers_order() {
@@ -294,7 +390,7 @@ fn clauses_stand_in_the_papers_order() {
 /// Changes from the paper's last clause to its first, each told although all before it stand.
 #[test]
 fn of_broken_clauses_the_papers_first_is_told() {
-    let later_and_later: [Break; 17] = [
+    let later_and_later: [Break; 21] = [
         ("the group of the queue's head is direct", |m| {
             take_last_free(m, 1);
             m[record(1) + MESSAGES] = 1;
@@ -313,13 +409,21 @@ fn of_broken_clauses_the_papers_first_is_told() {
             m[record(5) + USED_UP] = 1;
         }),
         ("a waiting message's words past its length are 0", |m| {
-            m[frame(1, 1) + 8] = 1
+            m[page(1, 1) + 8] = 1
         }),
         ("unused descriptor words are 0", |m| {
             m[record(1) + DESCRIPTOR + 2] = 1
         }),
         ("unused places of the lists are 0", |m| {
-            m[record(8) + LIST + 31] = 1
+            m[record(8) + LIST + 95] = 1
+        }),
+        ("unused places of the order of entry are 0", |m| {
+            m[ENTRY + 31] = 1
+        }),
+        ("unused places of the swap line are 0", |m| {
+            take_last_swap(m, 3);
+            m[record(3) + MESSAGES] = 15;
+            m[SWAP + 63] = 95;
         }),
         ("unused places of the free line are 0", |m| m[FREE + 31] = 1),
         ("unused places of the queue are 0", |m| m[queue(3)] = 1),
@@ -327,11 +431,15 @@ fn of_broken_clauses_the_papers_first_is_told() {
         ("each list has its rounded-up length", |m| {
             take_last_free(m, 2);
         }),
+        ("the order of entry holds each frame in use once", |m| {
+            m[ENTRY] = 5
+        }),
+        ("each swap page stands once", |m| m[SWAP] = 40),
         ("each frame stands once", |m| m[FREE] = 3),
         ("timer is within the bounds", |m| m[TIMER] = 256),
         ("h is within the bounds", |m| m[record(8) + USED_UP] = 8),
         ("waiting messages' lengths are within the bounds", |m| {
-            m[frame(1, 1)] = 9
+            m[page(1, 1)] = 9
         }),
         ("groups are within the bounds", |m| m[queue(1)] = 0),
     ];
@@ -354,12 +462,12 @@ fn a_broken_clause_is_told_with_addresses_and_values() {
         change(&mut memory);
         memory::read(&memory).expect_err("no node").to_string()
     };
-    let cases: [Break; 12] = [
+    let cases: [Break; 17] = [
         ("running is 0 to 8\n  word 0, the running group: 9", |m| {
             m[RUNNING] = 9
         }),
         (
-            "counts are within the bounds\n  word 523, words in the descriptor of group 8: 9",
+            "counts are within the bounds\n  word 971, words in the descriptor of group 8: 9",
             |m| m[record(8) + DESCRIPTOR_COUNT] = 9,
         ),
         (
@@ -367,12 +475,12 @@ fn a_broken_clause_is_told_with_addresses_and_values() {
             |m| m[queue(2)] = 9,
         ),
         (
-            "waiting messages' lengths are within the bounds\n  word 645, length at place 1 of \
+            "waiting messages' lengths are within the bounds\n  word 1157, length at place 1 of \
              frame 1: 9",
-            |m| m[frame(1, 1)] = 9,
+            |m| m[page(1, 1)] = 9,
         ),
         (
-            "each frame stands once\n  word 302, place 0 of the list of group 3: 1\n  word 303, \
+            "each frame stands once\n  word 430, place 0 of the list of group 3: 1\n  word 431, \
              place 1 of the list of group 3: 1",
             |m| m[record(3) + LIST] = 1,
         ),
@@ -381,17 +489,48 @@ fn a_broken_clause_is_told_with_addresses_and_values() {
             |m| m[FREE] = 32,
         ),
         (
-            "each frame stands once\n  word 3, frames in the free line: 29\n  word 200, frames in \
-             the list of group 1: 0\n  word 246, frames in the list of group 2: 0\n  word 292, \
-             frames in the list of group 3: 2\n  word 338, frames in the list of group 4: 0\n  \
-             word 384, frames in the list of group 5: 0\n  word 430, frames in the list of group \
-             6: 0\n  word 476, frames in the list of group 7: 0\n  word 522, frames in the list \
+            "each frame stands once\n  word 3, frames in the free line: 29\n  word 200, pages in \
+             the list of group 1: 0\n  word 310, pages in the list of group 2: 0\n  word 420, \
+             pages in the list of group 3: 2\n  word 530, pages in the list of group 4: 0\n  \
+             word 640, pages in the list of group 5: 0\n  word 750, pages in the list of group \
+             6: 0\n  word 860, pages in the list of group 7: 0\n  word 970, pages in the list \
              of group 8: 0",
             |m| m[FREE_COUNT] = 29,
         ),
         (
-            "each list has its rounded-up length\n  word 290, h of group 3: 2\n  word 291, n of \
-             group 3: 15\n  word 292, frames in the list of group 3: 2",
+            "each swap page stands once\n  word 7992, place 0 of the swap line: 31",
+            |m| m[SWAP] = 31,
+        ),
+        (
+            "each swap page stands once\n  word 7996, place 4 of the swap line: 36\n  word 432, \
+             place 2 of the list of group 3: 36",
+            |m| {
+                take_last_swap(m, 3);
+                m[record(3) + LIST + 2] = 36;
+            },
+        ),
+        (
+            "the order of entry holds each frame in use once\n  word 8057, place 1 of the order \
+             of entry: 2",
+            |m| m[ENTRY + 1] = 2,
+        ),
+        (
+            "the order of entry holds each frame in use once\n  word 7989, frames in the order of \
+             entry: 1",
+            |m| m[ENTRY_COUNT] = 1,
+        ),
+        (
+            "waiting messages' lengths are within the bounds\n  word 7916, length at place 0 of \
+             swap page 63: 9",
+            |m| {
+                take_last_swap(m, 3);
+                m[record(3) + MESSAGES] = 15;
+                m[page(95, 0)] = 9;
+            },
+        ),
+        (
+            "each list has its rounded-up length\n  word 418, h of group 3: 2\n  word 419, n of \
+             group 3: 15\n  word 420, pages in the list of group 3: 2",
             |m| m[record(3) + MESSAGES] = 15,
         ),
         (
@@ -399,8 +538,8 @@ fn a_broken_clause_is_told_with_addresses_and_values() {
             |m| m[record(1) + DESCRIPTOR + 2] = 1,
         ),
         (
-            "pending only with atomic and a line not empty\n  word 288, atomic of group 3: 0\n  \
-             word 289, pending of group 3: 1\n  word 291, n of group 3: 8",
+            "pending only with atomic and a line not empty\n  word 416, atomic of group 3: 0\n  \
+             word 417, pending of group 3: 1\n  word 419, n of group 3: 8",
             |m| m[record(3)..][..2].copy_from_slice(&[0, 1]),
         ),
         (
@@ -419,16 +558,49 @@ fn a_broken_clause_is_told_with_addresses_and_values() {
     }
 }
 
-const PLEDGES: &str = "pledges sum to at most 32";
+const PLEDGES: &str = "pledges sum to at most 96";
 
 #[test]
-fn pledges_above_the_frames_are_answered_1() {
-    let mut memory = memory_after(&format!("{}S,1 A,1,7", "A,2,7 ".repeat(248)));
+fn pledges_above_the_pages_are_answered_1() {
+    let mut memory = memory_after(&format!("{}S,1 A,1,7", "A,2,7 ".repeat(760)));
     assert_eq!(broken_clause(&memory), None);
-    let taken = take_last_free(&mut memory, 2);
-    memory[record(2) + MESSAGES] = 249;
-    memory[frame(taken, 0)] = 1;
+    let taken = take_last_swap(&mut memory, 2);
+    memory[record(2) + MESSAGES] = 761;
+    memory[page(taken, 0)] = 1;
     expect_no_node(&memory, PLEDGES);
+}
+
+const FIRST_PAGE: &str = "a running group's first page is in a frame";
+
+#[test]
+fn a_running_group_whose_first_page_is_out_is_answered_1() {
+    let mut memory = memory_after(&format!("{}S,2", "A,2,7 ".repeat(264)));
+    let list = record(2) + LIST;
+    assert_eq!(memory[list..][..3], [1, 32, 2]);
+    memory.swap(list, list + 1);
+    expect_no_node(&memory, FIRST_PAGE);
+    let told = memory::read(&memory).expect_err("no node").to_string();
+    assert!(
+        told.ends_with(
+            "word 0, the running group: 2\n  word 320, place 0 of the list of group 2: 32"
+        ),
+        "{told}"
+    );
+    memory[RUNNING] = 0;
+    assert_eq!(broken_clause(&memory), None);
+}
+
+/// The counts of pages may be anything.
+#[test]
+fn pages_sent_out_and_brought_in_are_told() {
+    let mut memory = memory_after(&format!("{}S,2", "A,2,7 ".repeat(257)));
+    assert_eq!(paging(&memory), [2, 1]);
+    memory[SENT_OUT..=BROUGHT_IN].copy_from_slice(&[u32::MAX, 5]);
+    assert_eq!(paging(&memory), [u32::MAX, 5]);
+    assert_eq!(broken_clause(&memory), None);
+    memory[TIMER] = 1;
+    assert_eq!(paging(&memory), [0, 0]);
+    assert_eq!(paging(&[]), [0, 0]);
 }
 
 /// Every operation is answered 1, an unknown one too, and the head is an empty part.
@@ -436,6 +608,7 @@ fn expect_no_node(memory: &[u32], clause: &str) {
     assert_eq!(broken_clause(memory), Some(clause));
     assert!(memory::read(memory).is_err(), "{clause}");
     assert!(head(memory).is_empty(), "{clause}");
+    assert_eq!(paging(memory), [0, 0], "{clause}");
     for line in [
         "A,1,7", "S,2", "T,1", "M", "E,0", "D", "B", "N", "P,1", "L,0", "?", "S,9",
     ] {
@@ -450,11 +623,11 @@ fn expect_no_node(memory: &[u32], clause: &str) {
     }
 }
 
-/// The clause on pledges is broken by a node of its own.
+/// Two clauses are broken by nodes of their own.
 #[test]
 fn every_clause_has_its_break() {
     let broken: Vec<&str> = BREAKS.iter().map(|(clause, _)| *clause).collect();
-    for clause in clauses().filter(|clause| *clause != PLEDGES) {
+    for clause in clauses().filter(|clause| ![PLEDGES, FIRST_PAGE].contains(clause)) {
         assert!(broken.contains(&clause), "{clause}");
     }
 }
@@ -471,7 +644,7 @@ fn power_on_makes_a_node_of_what_is_none() {
 
 #[test]
 fn memory_too_short_is_answered_1_and_untouched() {
-    for size in [0, 1, 564, 2867] {
+    for size in [0, 1, 2868, 8087] {
         let mut memory = busy()[..size].to_vec();
         assert_eq!(power_on(&mut memory), 1);
         expect_no_node(&memory, "memory too short");
@@ -482,29 +655,29 @@ fn memory_too_short_is_answered_1_and_untouched() {
 #[test]
 fn memory_past_the_nodes_size_is_neither_looked_at_nor_touched() {
     let rest = [0xdead_beef, 1, 2, 3];
-    let mut memory = [vec![7; 2868], rest.to_vec()].concat();
+    let mut memory = [vec![7; 8088], rest.to_vec()].concat();
     assert_eq!(power_on(&mut memory), 0);
     let mut node = Node::power_on();
     for operation in random_runs(1, 60).flatten() {
         assert_eq!(step(&mut memory, &operation), node.step(&operation));
-        assert_eq!(memory[2868..], rest);
+        assert_eq!(memory[8088..], rest);
     }
 }
 
 #[test]
-fn an_unread_place_of_a_frame_may_hold_anything() {
+fn an_unread_place_of_a_page_may_hold_anything() {
     let mut memory = busy();
     let waiting = 2..10;
-    for place in (0..256).filter(|place| !waiting.contains(place)) {
-        memory[frame(place / 8, place % 8)..][..9].fill(u32::MAX);
+    for place in (0..768).filter(|place| !waiting.contains(place)) {
+        memory[page(place / 8, place % 8)..][..9].fill(u32::MAX);
     }
     assert_eq!(broken_clause(&memory), None);
     let report = step(&mut memory, &Operation::Dispose);
     assert!(report.accepted());
     // The message of group 2 settled into frame 2; the place after it was left alone.
-    assert_eq!(memory[frame(2, 0)..][..9], [2, 5, 6, 0, 0, 0, 0, 0, 0]);
-    assert_eq!(memory[frame(2, 1)..][..9], [u32::MAX; 9]);
-    assert_eq!(memory[frame(0, 0)..][..9], [u32::MAX; 9]);
+    assert_eq!(memory[page(2, 0)..][..9], [2, 5, 6, 0, 0, 0, 0, 0, 0]);
+    assert_eq!(memory[page(2, 1)..][..9], [u32::MAX; 9]);
+    assert_eq!(memory[page(0, 0)..][..9], [u32::MAX; 9]);
 }
 
 #[test]
@@ -577,9 +750,9 @@ fn head_is_a_part_of_the_memory() {
     assert_eq!(head(&buffered), [20, 21, 22]);
     assert_eq!(
         head(&buffered).as_ptr(),
-        buffered[frame(1, 1) + 1..].as_ptr()
+        buffered[page(1, 1) + 1..].as_ptr()
     );
-    assert_eq!(head_part(&buffered), frame(1, 1) + 1..frame(1, 1) + 4);
+    assert_eq!(head_part(&buffered), page(1, 1) + 1..page(1, 1) + 4);
 }
 
 #[test]
@@ -593,9 +766,9 @@ fn head_is_empty_without_a_message() {
 }
 
 #[test]
-fn head_crosses_to_the_second_frame() {
+fn head_crosses_to_the_second_page() {
     let script: String = (0..12).map(|word| format!("A,1,{word} ")).collect();
     let memory = memory_after(&format!("{script}S,1 {}", "D ".repeat(9)));
     assert_eq!(head(&memory), [9]);
-    assert_eq!(head(&memory).as_ptr(), memory[frame(1, 1) + 1..].as_ptr());
+    assert_eq!(head(&memory).as_ptr(), memory[page(1, 1) + 1..].as_ptr());
 }

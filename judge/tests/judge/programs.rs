@@ -22,7 +22,11 @@ fn scripts(arguments: &str) -> Output {
 
 /// Runs the judge on a script that comes through a pipe.
 fn judged(script: &[u8]) -> Output {
-    let mut child = judge()
+    fed(&mut judge(), script)
+}
+
+fn fed(program: &mut Command, script: &[u8]) -> Output {
+    let mut child = program
         .stdin(Stdio::piped())
         .stdout(Stdio::piped())
         .stderr(Stdio::piped())
@@ -106,6 +110,7 @@ fn judge_tells_how_it_is_used() {
 
     for arguments in [
         "file",
+        "--after file",
         "--state",
         "--state one two",
         "--help --state",
@@ -138,6 +143,17 @@ fn told(path: &PathBuf) -> (String, String, Option<i32>) {
 }
 
 #[test]
+fn judge_tells_the_state_after_a_script() {
+    for script in ["", "S,1\nA,1,7\nA,2,5\nD\n?\nT,9"] {
+        let output = fed(judge().arg("--after"), script.as_bytes());
+        assert!(output.status.success());
+        let node = judge::script::node_after(script.as_bytes());
+        assert_eq!(text(&output.stdout), state::text(&node));
+        assert!(output.stderr.is_empty());
+    }
+}
+
+#[test]
 fn judge_tells_the_state_of_a_node() {
     let memory = memory_after("A,2,5,6 S,1 A,1,7 T,9");
     let node = judge::memory::read(&memory).expect("a node");
@@ -155,13 +171,13 @@ fn judge_tells_why_a_file_holds_no_node() {
     memory[1] = 256;
     let ragged = [whole.as_slice(), &[0]].concat();
     let cases: [(&str, &[u8], &str); 4] = [
-        ("empty", &[], "memory too short: 0 words, a node has 2868"),
+        ("empty", &[], "memory too short: 0 words, a node has 8088"),
         (
             "short",
-            &whole[..11_471],
-            "memory too short: 2867 words, a node has 2868",
+            &whole[..32_351],
+            "memory too short: 8087 words, a node has 8088",
         ),
-        ("ragged", &ragged, "the last word is cut short: 11473 bytes"),
+        ("ragged", &ragged, "the last word is cut short: 32353 bytes"),
         (
             "damaged",
             &bytes(&memory),
@@ -206,7 +222,8 @@ fn scripts_lists_its_flavours() {
         .lines()
         .filter_map(|line| line.split(' ').next())
         .collect();
-    for name in "uniform arrivals switches ticks bad hogs disposals launches mixed".split(' ') {
+    let names = "uniform arrivals swap swaptime switches ticks bad hogs disposals launches mixed";
+    for name in names.split(' ') {
         assert!(named.contains(&name), "{name}");
     }
 }
@@ -216,7 +233,7 @@ fn scripts_counts_and_names_what_is_missing() {
     let enough = scripts("--counts 1 2000");
     assert!(enough.status.success(), "{}", text(&enough.stderr));
     assert!(text(&enough.stdout).starts_with("answer"));
-    assert_eq!(text(&enough.stdout).lines().count(), 1 + 11 + 1);
+    assert_eq!(text(&enough.stdout).lines().count(), 1 + 11 + 1 + 5);
 
     let few = scripts("--counts 1 1");
     assert_eq!(few.status.code(), Some(1));

@@ -280,11 +280,11 @@ fn dispose_needs_no_upcall() {
 
 #[test]
 fn a_pledge_counts_used_up_places_and_the_hardware_queue() {
-    // 9 - 1 messages and 1 used-up place of group 1 pledge 2 frames, 7 messages of group 2 one.
+    // 9 - 1 messages and 1 used-up place of group 1 pledge 2 pages, 7 messages of group 2 one.
     Case::new()
         .times(9, "A,1,7", "0,0,0,0,1")
         .times(7, "A,2,7", "0,0,0,0,1")
-        .times(29 * 8 - 1, "A,3,7", "0,0,0,0,1")
+        .times(93 * 8 - 1, "A,3,7", "0,0,0,0,1")
         .line("S,1", "0,0,0,1,0")
         .line("D", "0,0,1,0,0")
         .line("A,4,7", "6,0,0,0,0")
@@ -300,7 +300,7 @@ fn a_pledge_counts_used_up_places_and_the_hardware_queue() {
 #[test]
 fn a_direct_dispose_gives_its_pledge_back() {
     Case::new()
-        .times(248, "A,1,7", "0,0,0,0,1")
+        .times(760, "A,1,7", "0,0,0,0,1")
         .quiet("S,2 B A,2,7")
         .line("A,3,7", "6,0,0,0,0")
         .line("D", ACCEPTED)
@@ -309,9 +309,9 @@ fn a_direct_dispose_gives_its_pledge_back() {
 }
 
 #[test]
-fn a_full_queue_is_told_before_pledged_frames() {
+fn a_full_queue_is_told_before_pledged_pages() {
     Case::new()
-        .times(240, "A,2,7", "0,0,0,0,1")
+        .times(752, "A,2,7", "0,0,0,0,1")
         .quiet("S,1 B")
         .times(16, "A,1,7", ACCEPTED)
         .line("A,1,7", "5,0,0,0,0")

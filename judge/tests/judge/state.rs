@@ -1,7 +1,7 @@
 //! What a node holds, as text, and a node read from the bytes of its memory.
 
 use std::fs;
-use std::path::Path;
+use std::path::{Path, PathBuf};
 
 use judge::memory;
 use judge::node::Node;
@@ -26,12 +26,16 @@ fn idle(first: usize, last: usize) -> String {
     (first..=last).map(group).collect()
 }
 
+/// The numbers from one to another, each with a blank before it.
+fn numbers(first: usize, last: usize) -> String {
+    (first..=last).map(|number| format!(" {number}")).collect()
+}
+
 #[test]
-fn power_on_has_32_free_frames_and_no_more() {
-    let free =
-        "0 1 2 3 4 5 6 7 8 9 10 11 12 13 14 15 16 17 18 19 20 21 22 23 24 25 26 27 28 29 30 \
-                31";
-    let expected = format!("running 0\ntimer 0\nfree {free}\n{}", idle(1, 8));
+fn power_on_has_all_frames_and_swap_pages_free_and_no_more() {
+    let (frames, swap_pages) = (numbers(0, 31), numbers(0, 63));
+    let lines = format!("free{frames}\nentry\nswap-free{swap_pages}\nout 0 in 0\n");
+    let expected = format!("running 0\ntimer 0\n{lines}{}", idle(1, 8));
     assert_eq!(state_of(&power_on()), expected);
 }
 
@@ -55,7 +59,10 @@ timer 5
 queued 1 words 7 0 0 0 0 0 0 0
 queued 2 words 5 6 0 0 0 0 0 0
 queued 1 words 4 4 4 0 0 0 0 0
-free 3 4 5 6 7 8 9 10 11 12 13 14 15 16 17 18 19 20 21 22 23 24 25 26 27 28 29 30 31
+free{}
+entry 0 1 2
+swap-free{}
+out 0 in 0
 group 1 atomic 1 pending 1 h 0 n 0 pages descriptor 9 8
 {}group 3 atomic 1 pending 0 h 2 n 7 pages f0 f2 descriptor
 group 4 atomic 0 pending 0 h 0 n 1 pages f1 descriptor
@@ -70,6 +77,8 @@ f0 place 7 length 1 words 8 0 0 0 0 0 0 0
 f1 place 0 length 1 words 4294967295 0 0 0 0 0 0 0
 f2 place 0 length 1 words 9 0 0 0 0 0 0 0
 ",
+        numbers(3, 31),
+        numbers(0, 63),
         idle(2, 2),
         idle(5, 8)
     );
@@ -77,20 +86,39 @@ f2 place 0 length 1 words 9 0 0 0 0 0 0 0
 }
 
 #[test]
-fn no_free_frame_leaves_the_line_bare() {
-    let state = state_of(&memory_after(&"A,8,1 ".repeat(256)));
-    assert_eq!(state.lines().nth(2), Some("free"));
-    assert_eq!(state.lines().count(), 3 + 8 + 256);
+fn no_free_page_leaves_the_lines_bare() {
+    let state = state_of(&memory_after(&"A,8,1 ".repeat(768)));
+    let lines: Vec<&str> = state.lines().collect();
+    assert_eq!(lines[2], "free");
+    assert_eq!(lines[4..6], ["swap-free", "out 64 in 0"]);
+    assert_eq!(lines.len(), 6 + 8 + 768);
+}
+
+#[test]
+fn a_page_is_told_by_where_it_is() {
+    let state = state_of(&memory_after(&"A,8,1 ".repeat(257)));
+    let lines: Vec<&str> = state.lines().collect();
+    assert_eq!(lines[3], format!("entry{} 0", numbers(1, 31)));
+    assert_eq!(lines[4], format!("swap-free{}", numbers(1, 63)));
+    assert_eq!(lines[5], "out 1 in 0");
+    assert!(lines[13].starts_with("group 8 atomic 0 pending 0 h 0 n 257 pages s0 f1 f2 "));
+    assert!(lines[13].ends_with(" f30 f31 f0 descriptor"));
+    assert_eq!(
+        *lines.last().expect("a line"),
+        "s0 place 7 length 1 words 1 0 0 0 0 0 0 0"
+    );
 }
 
 /// A place that keeps words only, or a length only, is not 0 throughout.
 #[test]
 fn a_place_is_told_for_any_of_its_words() {
     let mut memory = power_on();
-    memory[564 + 72 * 5 + 9 * 3 + 8] = 1;
-    memory[564 + 72 * 31 + 9 * 7] = 77;
+    memory[1076 + 72 * 5 + 9 * 3 + 8] = 1;
+    memory[1076 + 72 * 31 + 9 * 7] = 77;
+    memory[1076 + 72 * 95 + 9 * 7 + 1] = 5;
     let expected = "f5 place 3 length 0 words 0 0 0 0 0 0 0 1\n\
-                    f31 place 7 length 77 words 0 0 0 0 0 0 0 0\n";
+                    f31 place 7 length 77 words 0 0 0 0 0 0 0 0\n\
+                    s63 place 7 length 0 words 5 0 0 0 0 0 0 0\n";
     assert!(state_of(&memory).ends_with(&format!("descriptor\n{expected}")));
 }
 
@@ -103,22 +131,34 @@ fn memory_of(script: &[u8]) -> Vec<u32> {
     memory
 }
 
+/// The scripts of vectors/.
+fn vectors() -> Vec<PathBuf> {
+    let vectors = Path::new(env!("CARGO_MANIFEST_DIR")).join("../vectors");
+    let folders = ["base", "order1"].map(|name| vectors.join(name));
+    let entries = folders.map(|folder| fs::read_dir(folder).expect("a folder"));
+    let paths = entries.into_iter().flatten();
+    let paths = paths.map(|entry| entry.expect("an entry").path());
+    paths
+        .filter(|path| path.extension().is_some_and(|end| end == "script"))
+        .collect()
+}
+
 #[test]
 fn memories_after_every_script_read_back_to_the_same_state() {
-    let base = Path::new(env!("CARGO_MANIFEST_DIR")).join("../vectors/base");
-    let mut scripts = 0;
-    for entry in fs::read_dir(base).expect("a folder") {
-        let path = entry.expect("an entry").path();
-        if path.extension().is_some_and(|end| end == "script") {
-            let script = fs::read(&path).expect("a script");
-            let (node, memory) = (script::node_after(&script), memory_of(&script));
-            assert_eq!(memory, memory::words_of(&node), "{}", path.display());
-            assert_eq!(read(&bytes(&memory)).as_ref(), Ok(&node));
-            assert_eq!(state_of(&memory), state::text(&node));
-            scripts += 1;
+    let mut states = 0;
+    for path in vectors() {
+        let script = fs::read(&path).expect("a script");
+        let (node, memory) = (script::node_after(&script), memory_of(&script));
+        assert!(memory == memory::words_of(&node), "{}", path.display());
+        assert!(read(&bytes(&memory)).as_ref() == Ok(&node));
+        let told = state_of(&memory);
+        assert_eq!(told, state::text(&node));
+        if let Ok(state) = fs::read_to_string(path.with_extension("state")) {
+            assert!(told == state, "{}", path.display());
+            states += 1;
         }
     }
-    assert!(scripts > 60, "{scripts}");
+    assert!(states >= 27, "{states}");
 }
 
 #[test]
@@ -142,10 +182,10 @@ fn a_file_shorter_than_a_node_is_told_by_its_words() {
         (1, 0),
         (3, 0),
         (4, 1),
-        (11_468, 2867),
-        (11_471, 2867),
+        (32_348, 8087),
+        (32_351, 8087),
     ] {
-        let told = format!("memory too short: {words} words, a node has 2868");
+        let told = format!("memory too short: {words} words, a node has 8088");
         assert_eq!(read(&whole[..length]), Err(told));
     }
 }
@@ -154,7 +194,7 @@ fn a_file_shorter_than_a_node_is_told_by_its_words() {
 fn a_longer_file_is_a_node_by_its_first_words() {
     let memory = memory_after("A,1,7 S,1");
     let node = read(&bytes(&memory)).expect("a node");
-    for past in [1, 2, 2868, 100_000] {
+    for past in [1, 2, 8088, 100_000] {
         let longer = [memory.clone(), vec![u32::MAX; past]].concat();
         assert_eq!(read(&bytes(&longer)).as_ref(), Ok(&node));
     }
@@ -163,7 +203,7 @@ fn a_longer_file_is_a_node_by_its_first_words() {
 #[test]
 fn a_file_with_a_ragged_end_is_no_node() {
     let memory = [power_on(), vec![7; 3]].concat();
-    for length in [11_473, 11_475, 11_477, 11_483] {
+    for length in [32_353, 32_355, 32_357, 32_363] {
         let told = format!("the last word is cut short: {length} bytes");
         assert_eq!(read(&bytes(&memory)[..length]), Err(told));
     }

@@ -2,24 +2,39 @@
 
 use std::collections::{BTreeMap, HashSet};
 
-use judge::memory::trials::{
-    any_memory, change_words, operation, reachable, Change, Length, CHANGES,
-};
+use judge::memory::trials::{change_words, operation, reachable, vary, Change, Length, CHANGES};
 use judge::memory::{self, broken_clause, clauses, head, step};
 use judge::node::{Node, Operation, Refusal, Report};
 use judge::random::Random;
 
-const SIZE: usize = 2868;
+const SIZE: usize = 8088;
 
 #[test]
 fn a_seed_fixes_memories_and_operations() {
     let drawn = |seed| {
-        let mut random = Random::new(seed);
-        let drawn = (0..20).map(|_| (any_memory(&mut random), operation(&mut random)));
-        drawn.collect::<Vec<_>>()
+        let mut drawn = Vec::new();
+        for_any_memory(seed, 40, |memory, operation| {
+            drawn.push((memory, operation))
+        });
+        drawn
     };
     assert_eq!(drawn(1), drawn(1));
     assert_ne!(drawn(1), drawn(2));
+}
+
+/// Any memory with an operation, so many times. Scripts take longer than all else, so ten memories are
+/// made of one node.
+fn for_any_memory(seed: u64, count: usize, mut each: impl FnMut(Vec<u32>, Operation)) {
+    let mut random = Random::new(seed);
+    let mut node = Vec::new();
+    for number in 0..count {
+        if number % 10 == 0 {
+            node = reachable(&mut random);
+        }
+        let mut memory = node.clone();
+        vary(&mut memory, &mut random);
+        each(memory, operation(&mut random));
+    }
 }
 
 type Kind = (&'static str, fn(&Node) -> bool);
@@ -27,9 +42,27 @@ type Kind = (&'static str, fn(&Node) -> bool);
 /// Nodes, and among them those that are hard to reach.
 #[test]
 fn reachable_memories_are_nodes_of_every_kind() {
-    let kinds: [Kind; 6] = [
+    let kinds: [Kind; 10] = [
         ("power-on", |node| *node == Node::power_on()),
         ("no frame free", |node| node.free.is_empty()),
+        ("no page free", |node| {
+            node.free.is_empty() && node.swap_free.is_empty()
+        }),
+        ("pages in swap, and frames free", |node| {
+            node.swap_free.len() < 64 && !node.free.is_empty()
+        }),
+        ("the runner's first page the oldest", |node| {
+            let runner = node.running.checked_sub(1).map(|at| &node.groups[at]);
+            let first = runner.and_then(|group| group.buffer.pages.front());
+            node.free.is_empty() && first.is_some_and(|first| node.entry.front() == Some(first))
+        }),
+        ("a last page in swap, with room", |node| {
+            node.groups.iter().any(|group| {
+                let buffer = &group.buffer;
+                let has_room = (buffer.used_up + buffer.messages) % 8 > 0;
+                has_room && buffer.pages.back().is_some_and(|&last| last >= 32)
+            })
+        }),
         ("a full queue", |node| node.queue.len() == 16),
         ("a timer that counts", |node| node.timer > 0),
         ("used-up places", |node| {
@@ -39,7 +72,7 @@ fn reachable_memories_are_nodes_of_every_kind() {
             node.groups.iter().any(|group| group.descriptor.len() == 8)
         }),
     ];
-    let mut met = [0; 6];
+    let mut met = [0; 10];
     let mut random = Random::new(1);
     for _ in 0..1000 {
         let node = memory::read(&reachable(&mut random)).expect("a node");
@@ -73,12 +106,18 @@ fn one_to_eight_words_are_changed() {
     assert!(counts[1..].iter().all(|&count| count > 20), "{counts:?}");
 }
 
-/// What a change makes of many nodes: nodes, and memories that are told by a clause.
-fn made_by(change: &Change) -> BTreeMap<&'static str, usize> {
+/// Nodes to make changes to.
+fn many_nodes() -> Vec<Vec<u32>> {
+    let mut random = Random::new(1);
+    (0..600).map(|_| reachable(&mut random)).collect()
+}
+
+/// What a change makes of nodes: nodes, and memories that are told by a clause.
+fn made_by(change: &Change, nodes: &[Vec<u32>]) -> BTreeMap<&'static str, usize> {
     let mut random = Random::new(1);
     let mut made = BTreeMap::new();
-    for _ in 0..600 {
-        let mut memory = reachable(&mut random);
+    for node in nodes {
+        let mut memory = node.clone();
         change.make(&mut memory, &mut random);
         let told = broken_clause(&memory).unwrap_or("a node");
         *made.entry(told).or_default() += 1;
@@ -87,10 +126,11 @@ fn made_by(change: &Change) -> BTreeMap<&'static str, usize> {
 }
 
 /// What each change makes of nodes, beside other things.
-const PURPOSES: [(&str, &str); 16] = [
+const PURPOSES: [(&str, &str); 23] = [
     (
         "the running group",
-        "a node; running is 0 to 8; the queue's head is the running group's",
+        "a node; running is 0 to 8; the queue's head is the running group's; a running group's \
+         first page is in a frame",
     ),
     (
         "the timer",
@@ -98,7 +138,8 @@ const PURPOSES: [(&str, &str); 16] = [
     ),
     (
         "counts",
-        "a node; counts are within the bounds; each frame stands once",
+        "a node; counts are within the bounds; each frame stands once; each swap page stands once; \
+         the order of entry holds each frame in use once",
     ),
     (
         "used-up places",
@@ -106,8 +147,9 @@ const PURPOSES: [(&str, &str); 16] = [
     ),
     (
         "messages in a buffer",
-        "a node; each list has its rounded-up length; h is 0 where n is 0",
+        "a node; each list has its rounded-up length",
     ),
+    ("used-up places and no message", "h is 0 where n is 0"),
     (
         "flags",
         "a node; flags are 0 or 1; pending only with atomic and a line not empty; a running group \
@@ -127,18 +169,34 @@ const PURPOSES: [(&str, &str); 16] = [
         "each frame stands once; unused places of the free line are 0",
     ),
     (
-        "lists",
-        "each frame stands once; unused places of the lists are 0",
+        "the swap line",
+        "each swap page stands once; unused places of the swap line are 0",
     ),
     (
-        "frames exchanged",
-        "a node; waiting messages' lengths are within the bounds",
+        "the order of entry",
+        "the order of entry holds each frame in use once; unused places of the order of entry are \
+         0",
+    ),
+    ("frames that entered in another order", "a node"),
+    ("pages sent out and brought in", "a node"),
+    (
+        "lists",
+        "each frame stands once; each swap page stands once; unused places of the lists are 0",
+    ),
+    (
+        "pages exchanged",
+        "a node; waiting messages' lengths are within the bounds; each frame stands once; the order \
+         of entry holds each frame in use once",
+    ),
+    (
+        "a first page sent out",
+        "a node; a running group's first page is in a frame",
     ),
     (
         "unused words",
         "unused places of the queue are 0; unused places of the free line are 0; unused places of \
-         the lists are 0; unused descriptor words are 0; a waiting message's words past its length \
-         are 0",
+         the swap line are 0; unused places of the order of entry are 0; unused places of the lists \
+         are 0; unused descriptor words are 0; a waiting message's words past its length are 0",
     ),
     ("places without a waiting message", "a node"),
     (
@@ -150,28 +208,35 @@ const PURPOSES: [(&str, &str); 16] = [
         "a node; a running group with a line not empty is atomic; the group of the queue's head is \
          direct",
     ),
-    ("all frames filled", "a node; pledges sum to at most 32"),
+    ("all frames filled", "a node"),
+    ("all pages filled", "a node; pledges sum to at most 96"),
 ];
 
 #[test]
 fn each_change_makes_what_it_is_for() {
     let names = CHANGES.iter().map(|change| change.name);
     assert!(names.eq(PURPOSES.map(|(name, _)| name)));
+    let nodes = many_nodes();
     for (change, (name, purpose)) in CHANGES.iter().zip(PURPOSES) {
-        let made = made_by(change);
+        let made = made_by(change, &nodes);
         for what in purpose.split("; ") {
             assert!(made.contains_key(what), "{name}: {what}: {made:?}");
         }
     }
 }
 
+/// What no clause asks about.
 #[test]
-fn places_without_a_waiting_message_may_hold_anything() {
-    let change = CHANGES
-        .iter()
-        .find(|change| change.name.starts_with("places"));
-    let made = made_by(change.expect("a change of this name"));
-    assert!(made.into_keys().eq(["a node"]));
+fn some_words_may_be_anything() {
+    let nodes = many_nodes();
+    for name in [
+        "places without a waiting message",
+        "pages sent out and brought in",
+    ] {
+        let change = CHANGES.iter().find(|change| change.name == name);
+        let made = made_by(change.expect("a change of this name"), &nodes);
+        assert!(made.into_keys().eq(["a node"]), "{name}");
+    }
 }
 
 #[test]
@@ -199,14 +264,11 @@ fn lengths_are_too_short_exact_and_longer() {
 /// it as it was, or is that of the node, and leaves a node with the words past it as they were.
 #[test]
 fn any_memory_is_met_and_stepped() {
-    let mut random = Random::new(1);
     let mut told = BTreeMap::new();
-    for _ in 0..10_000 {
-        let before = any_memory(&mut random);
-        let operation = operation(&mut random);
+    for_any_memory(1, 10_000, |before, operation| {
         expect_step(&before, &operation);
         *told.entry(broken_clause(&before)).or_insert(0) += 1;
-    }
+    });
     for clause in clauses().chain(["memory too short"]).map(Some) {
         assert!(told.contains_key(&clause), "{clause:?}: {told:?}");
     }

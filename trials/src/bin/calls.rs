@@ -9,7 +9,7 @@ use fugu::{REPORT, SIZE};
 use judge::memory;
 use judge::node::Operation;
 use judge::program::{
-    arguments, failed, finish, measured_script, misused, print, tested_lines, JUDGE_ROUNDS, ROUNDS,
+    arguments, failed, finish, misused, print, tested_lines, Measured, JUDGE_ROUNDS, ROUNDS,
     TESTED_TIMES,
 };
 use judge::script;
@@ -23,7 +23,7 @@ usage: calls [--script FILE]
 
 Plays the lines of a script's first 64 KiB, 64 times over from power-on, by fugu_step, by fugu_line
 and by the judge's step on words, each of which tests the memory first; the lines are read to
-operations before, but for fugu_line. The time of a memory test is that of as many steps with one
+operations before, but for fugu_line. If no script is named, these are those of bin/bench. The time of a memory test is that of as many steps with one
 more test after each, less that of the steps; that of a step without a test is what is left of it.
 
 The reports and the memory must be the judge's, else the exit status is 1. The time of each of the 64
@@ -39,10 +39,15 @@ fn main() -> ExitCode {
         [] => None,
         _ => return misused(NAME, "wrong arguments", USAGE),
     };
-    match measured_script(script).and_then(|script| measured(&script)) {
+    match Measured::scripts(script).and_then(|scripts| all_measured(&scripts)) {
         Ok(text) => finish(NAME, print(&text)),
         Err(reason) => failed(NAME, &reason),
     }
+}
+
+fn all_measured(scripts: &[Measured]) -> Result<String, String> {
+    let texts: Result<Vec<String>, String> = scripts.iter().map(measured).collect();
+    Ok(texts?.join("\n"))
 }
 
 /// A line, and what it asks for in every form.
@@ -91,13 +96,15 @@ fn judged_and_test(memory: &mut [u32], line: &Line, report: &mut Words) {
 }
 
 /// The times as text, once the calls are seen to do what the judge does.
-fn measured(script: &[u8]) -> Result<String, String> {
+fn measured(Measured { name, script }: &Measured) -> Result<String, String> {
     let lines: Vec<Line> = tested_lines(script)
         .split_inclusive(|&byte| byte == b'\n')
         .map(|line| Line::new(line.strip_suffix(b"\n").unwrap_or(line)))
         .collect();
     if lines.is_empty() {
-        return Ok("no line ends in the script's first 64 KiB: the calls are left out".to_string());
+        return Ok(format!(
+            "{name}: no line ends in the script's first 64 KiB: the calls are left out"
+        ));
     }
     agree(&lines)?;
 
@@ -133,7 +140,7 @@ fn measured(script: &[u8]) -> Result<String, String> {
             untested_judged,
         ),
     ];
-    let mut text = format!("{calls} calls of each, in process");
+    let mut text = format!("{name}: {calls} calls of each, in process");
     for (name, time) in own.map(|(own, _)| own).into_iter().chain(by_judge) {
         let time = time.as_secs_f64() * 1e9 / calls as f64;
         text += &format!("\n{time:>8.0} ns a call  {name}");

@@ -13,12 +13,13 @@ usage: bin/memories COUNT SEED
 
 Makes COUNT random memories: nodes that scripts lead to, the same with words changed, too short and
 longer ones. Of each, the proved calls and the judge are asked for the memory test, the head message,
-and a step by a letter or by a line, or power-on. Compared are the verdict, where the head message
-stands, all words of the report, and all words of the memory after it.
+the counts of pages, and a step by a letter or by a line, or power-on. Compared are the verdict, where
+the head message stands, the counts, all words of the report, and all words of the memory after it.
 
 At the end there is a table of what was met. The exit status is 1 at the first difference, which is
 told with the number of its memory; and if COUNT is 100000 or more and some clause of the memory
-test, some place of the head message, some operation, some answer or some trap was met by none.";
+test, some place of the head message, some operation, some answer, some trap, or some cause of a
+page's going out or coming in was met by none.";
 
 const PROGRESS: u64 = 1_000_000;
 

@@ -93,21 +93,23 @@ fn an_operation_is_asked_for_by_its_letter() {
 #[test]
 fn a_table_knows_what_it_has_not_met() {
     let mut table = Table::default();
-    let all = 22 + 3 + 23 + 16 + 4;
+    let all = 27 + 3 + 3 + 23 + 16 + 4 + 5;
     assert_eq!(table.not_met().len(), all);
     let trial = Trial {
         memory: vec![],
         asked: Asked::Step(b'M', vec![]),
         report_length: 16,
         head_length: 2,
+        paging_length: 2,
     };
     let met = compare(&Proved, &trial).expect("no difference");
     table.add(&trial, &met);
     let missing = table.not_met();
-    assert_eq!(missing.len(), all - 4);
+    assert_eq!(missing.len(), all - 5);
     for met in [
         "clause \"memory too short\"",
         "head none",
+        "pages counted none",
         "step M",
         "answer 1",
     ] {

@@ -62,7 +62,7 @@ fn calls_tells_times_and_ratios() {
     assert!(output.status.success(), "{}", text(&output.stderr));
     let told = text(&output.stdout);
     // The last line has no newline, and is left out.
-    assert!(told.starts_with("256 calls of each"), "{told}");
+    assert!(told.contains(": 256 calls of each"), "{told}");
     for name in ["fugu_step", "fugu_line", "fugu_test"] {
         assert!(told.contains(&format!(" ns a call  {name}\n")), "{told}");
         assert!(told.contains(&format!("\n{name} takes ")), "{told}");

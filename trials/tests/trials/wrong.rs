@@ -1,6 +1,6 @@
 //! Calls that are wrong in one word: each is found, and told by the word.
 
-use fugu::{HEAD, REPORT, SIZE};
+use fugu::{HEAD, PAGING, REPORT, SIZE};
 use trials::asked::Asked;
 use trials::calls::{Calls, Proved};
 use trials::comparison::compare;
@@ -18,6 +18,7 @@ type Memory = Box<dyn Fn(&Asked, &[u32], &mut [u32])>;
 struct Wrong {
     verdict: Verdict,
     head: Part,
+    paging: Part,
     report: Part,
     memory: Memory,
 }
@@ -26,6 +27,7 @@ fn right() -> Wrong {
     Wrong {
         verdict: Box::new(|_, verdict| verdict),
         head: Box::new(|_, written| written),
+        paging: Box::new(|_, written| written),
         report: Box::new(|_, written| written),
         memory: Box::new(|_, _, _| ()),
     }
@@ -39,6 +41,11 @@ impl Calls for Wrong {
     fn head(&self, memory: &[u32], part: &mut [u32]) -> u32 {
         let written = Proved.head(memory, part);
         (self.head)(part, written)
+    }
+
+    fn paging(&self, memory: &[u32], part: &mut [u32]) -> u32 {
+        let written = Proved.paging(memory, part);
+        (self.paging)(part, written)
     }
 
     fn ask(&self, asked: &Asked, memory: &mut [u32], part: &mut [u32]) -> u32 {
@@ -89,12 +96,12 @@ fn the_proved_calls_agree() {
 #[test]
 fn a_difference_is_told_with_its_seed_and_number() {
     let wrong = memory(|asked, _, after| {
-        if let (Asked::Step(b'T', _), Some(word)) = (asked, after.get_mut(1000)) {
+        if let (Asked::Step(b'T', _), Some(word)) = (asked, after.get_mut(2000)) {
             *word ^= 1;
         }
     });
     let first = Memories::new(7)
-        .position(|trial| matches!(trial.asked, Asked::Step(b'T', _)) && trial.memory.len() > 1000)
+        .position(|trial| matches!(trial.asked, Asked::Step(b'T', _)) && trial.memory.len() > 2000)
         .expect("such a memory");
     let told = table_of(&wrong, 1000, 7, |_, _| ())
         .err()
@@ -102,7 +109,7 @@ fn a_difference_is_told_with_its_seed_and_number() {
     let start = format!("seed 7, memory {}, step 'T' [", first + 1);
     assert!(told.starts_with(&start), "{told}");
     assert!(
-        told.contains("]: the memory after it differs\n  word 1000, word "),
+        told.contains("]: the memory after it differs\n  word 2000, word "),
         "{told}"
     );
 }
@@ -129,7 +136,7 @@ fn a_word_past_the_node() {
             after[before.len() - 1] ^= 1;
         }
     });
-    found(wrong, "the memory after it differs\n  word 29");
+    found(wrong, "the memory after it differs\n  word 81");
 }
 
 /// What the test leaves open is compared too: a message disposed of stays in its frame.
@@ -138,7 +145,7 @@ fn a_frame_cleared_when_it_is_freed() {
     let wrong = memory(|_, before, after| {
         if Proved.test(before) == 1 && after[3] > before[3] {
             let frame = after[164 + before[3] as usize] as usize;
-            after[564 + 72 * frame..][..72].fill(0);
+            after[1076 + 72 * frame..][..72].fill(0);
         }
     });
     found(wrong, "the memory after it differs\n  word ");
@@ -217,6 +224,11 @@ fn a_wrong_count_of_words_written() {
         ..right()
     };
     found(head, &format!("fugu_head {written}"));
+    let paging = Wrong {
+        paging: Box::new(|_, _| 2),
+        ..right()
+    };
+    found(paging, &format!("fugu_paging {written}"));
 }
 
 #[test]
@@ -231,6 +243,52 @@ fn each_word_of_the_head() {
         };
         found(wrong, &format!("fugu_head differs\n  {name}: judge "));
     }
+}
+
+#[test]
+fn each_count_of_pages() {
+    for (at, name) in ["pages sent out", "pages brought in"].iter().enumerate() {
+        let wrong = Wrong {
+            paging: changed(at, PAGING),
+            ..right()
+        };
+        found(wrong, &format!("fugu_paging differs\n  {name}: judge "));
+    }
+}
+
+/// Whether a step changed the order of entry without a change in how many frames are in use: a page
+/// went out for another.
+fn sent_out(asked: &Asked, before: &[u32], after: &[u32]) -> bool {
+    *asked != Asked::PowerOn
+        && before.len() >= SIZE
+        && before[7989] == after[7989]
+        && before[8056..SIZE] != after[8056..SIZE]
+}
+
+#[test]
+fn a_count_that_begins_anew_behind_its_largest_number() {
+    let wrong = memory(|asked, before, after| {
+        if sent_out(asked, before, after) && before[7990] == u32::MAX {
+            after[7990] = 0;
+        }
+    });
+    found(
+        wrong,
+        "the memory after it differs\n  word 7990, pages sent out: judge 4294967295, library 0",
+    );
+}
+
+#[test]
+fn a_frame_that_does_not_enter_last() {
+    let wrong = memory(|asked, before, after| {
+        if sent_out(asked, before, after) {
+            after[8056..SIZE].copy_from_slice(&before[8056..SIZE]);
+        }
+    });
+    found(
+        wrong,
+        "the memory after it differs\n  word 8056, place 0 of",
+    );
 }
 
 #[test]

@@ -3,7 +3,7 @@
 
 use fugu::{answer, Node, SIZE};
 
-use crate::support::{after, only, started, taken_apart};
+use crate::support::{after, arrivals, only, started, taken_apart};
 
 /// The line is refused with this answer.
 fn refused(node: Node<Vec<u32>>, line: &str, answer: u32) {
@@ -15,15 +15,6 @@ fn refused(node: Node<Vec<u32>>, line: &str, answer: u32) {
     let mut by_letter = node.clone();
     assert_eq!(by_letter.step(letter, &numbers), only(answer), "{line}");
     assert_eq!(by_letter, node, "{line}");
-}
-
-/// Arrivals of one word for the groups, so many times over.
-fn arrivals<'a>(first: &[&'a str], line: &'a str, count: usize) -> Vec<&'a str> {
-    first
-        .iter()
-        .copied()
-        .chain(std::iter::repeat_n(line, count))
-        .collect()
 }
 
 #[test]
@@ -72,7 +63,7 @@ fn queue_full() {
 #[test]
 fn no_frames() {
     refused(
-        after(&arrivals(&[], "A,1,7", 256)),
+        after(&arrivals(&[], "A,1,7", 768)),
         "A,1,7",
         answer::NO_FRAMES,
     );

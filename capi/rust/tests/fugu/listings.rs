@@ -78,4 +78,5 @@ fn examples() {
 #[test]
 fn vectors() {
     play("vectors/base");
+    play("vectors/order1");
 }

@@ -5,5 +5,6 @@ mod head;
 mod letters;
 mod listings;
 mod memory;
+mod paging;
 mod parts;
 mod support;

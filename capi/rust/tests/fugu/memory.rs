@@ -17,6 +17,10 @@ fn power_on_writes_every_word_of_a_node() {
     for frame in 0..32 {
         words[164 + frame as usize] = frame;
     }
+    words[7988] = 64;
+    for page in 32..96 {
+        words[7960 + page as usize] = page;
+    }
     assert_eq!(node.memory(), words);
     assert!(node.test());
 }
@@ -55,8 +59,18 @@ fn memory_behind_a_node_is_never_touched() {
 
 #[test]
 fn damaged_memory_is_refused_and_left() {
-    // A timer with an empty queue, a ninth group, 33 free frames, a frame that stands twice.
-    for (at, word) in [(1, 1), (0, 9), (3, 33), (164, 1)] {
+    // A timer with an empty queue, a ninth group, 33 free frames, a frame that stands twice; 65 free
+    // swap pages, one that stands twice, a frame in the swap line, one that entered and is not in use.
+    for (at, word) in [
+        (1, 1),
+        (0, 9),
+        (3, 33),
+        (164, 1),
+        (7988, 65),
+        (7992, 33),
+        (7992, 0),
+        (7989, 1),
+    ] {
         let mut memory = started().into_memory();
         memory[at] = word;
         let before = memory.clone();

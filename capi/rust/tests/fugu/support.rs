@@ -16,6 +16,15 @@ pub fn after(lines: &[&str]) -> Node<Vec<u32>> {
     node
 }
 
+/// Lines, and then one so many times over.
+pub fn arrivals<'a>(first: &[&'a str], line: &'a str, count: usize) -> Vec<&'a str> {
+    first
+        .iter()
+        .copied()
+        .chain(std::iter::repeat_n(line, count))
+        .collect()
+}
+
 /// A report of nothing but its answer.
 pub fn only(answer: u32) -> Report {
     Report {

@@ -1,4 +1,4 @@
--- Storing is putting, after a frame is taken where there is no room. Assumes nothing.
+-- A message is put at the end of a buffer, after a frame is taken where there is no room. Assumes nothing.
 use Prim.Native.Nat.{_*_, _+_, _/_, _<_, _≤_, pred, ℕ}
 use native.Mathlib.Omega.{arith}
 use mathlib.Core.List.{List, [], _∷_}
@@ -6,15 +6,12 @@ use mathlib.Core.Path.{_∙_, _≡_, ap, sym}
 use lib.ListN.{getD, length, length-append, set}
 use lib.Seq.{getD-set-same, set-set}
 use borrow.Author.Tests.{le-ltb, lt-ltb}
-use Rattle.rules.specs.Build.{groupCount, paper01}
-use Rattle.rules.specs.Frames.{Stock, appended, extended, store, takeFrame, withRoom, withStock}
-use Rattle.rules.specs.Lists.{Every, all}
+use Rattle.rules.specs.Build.{groupCount, pageCount, paper01}
+use Rattle.rules.specs.Frames.{appended, extended, put, takeFrame, withRoom, withStock}
+use Rattle.rules.specs.Lists.{Every}
 use Rattle.rules.specs.Memory.{groupAddress, size, word}
-use Rattle.rules.specs.Node.{Frame, Group, Message, Node, emptyGroup, groupOf, withBuffer, withFree, withGroup}
-use Rattle.rules.specs.Private.{own}
+use Rattle.rules.specs.Node.{Frame, Message, Node, emptyGroup, groupOf, withBuffer, withEntered, withFree, withGroup, withPaging}
 use Rattle.rules.specs.Valid.{GoodFrame}
-use Rattle.rules.proofs.Steps.FrameLaws.{fits}
-use Rattle.rules.proofs.Map.MapRead.{read}
 use Rattle.rules.proofs.Steps.NodeLaws.{stock-same}
 use Rattle.rules.specs.Sound.{Mapped}
 use Rattle.memory.specs.Holds.{FrameLeft, Holds, Room, Storable, putting, taking}
@@ -25,8 +22,8 @@ use Rattle.memory.proofs.PieceLaws.{holds-pieces}
 -- the end of group g's buffer, as it is read from memory
 pub record Ends (m : List ℕ) (g : ℕ) : Type 0 where
   pub long : size ≤ length m
-  pub end : word m (groupAddress g + 2) + word m (groupAddress g + 3) ≤ 256
-  pub held : word m (groupAddress g + 4) ≤ 32
+  pub end : word m (groupAddress g + 2) + word m (groupAddress g + 3) ≤ 768
+  pub held : word m (groupAddress g + 4) ≤ 96
 
 pub ends : {m : List ℕ} {n : Node} {r : List ℕ} → Holds m n r → (g : ℕ) → 1 ≤ g → g ≤ groupCount
     → groupOf n g .buffer .used + groupOf n g .buffer .count ≤ length (groupOf n g .buffer .places) → Ends m g
@@ -38,16 +35,16 @@ ends h g low high fits =
     let short = lists-short v g low high in
     record { long = p .long; end = omega (arith, words .used, words .count, whole .whole); held = omega (arith, words .held) }
 
--- with room, it is one of 256 places
+-- with room, it is one of 768 places
 pub room-end : {m : List ℕ} {n : Node} {r : List ℕ} → Holds m n r → (g : ℕ) → 1 ≤ g → g ≤ groupCount → Room g n
-    → word m (groupAddress g + 2) + word m (groupAddress g + 3) < 256
+    → word m (groupAddress g + 2) + word m (groupAddress g + 3) < 768
 room-end h g low high room =
     let words = group-words (holds-pieces h) (h .mapped) g low high in
     omega (arith, words .used, words .count, group-whole (h .mapped) g low high .whole, lists-short (h .mapped) g low high)
 
--- the frame of the place behind the last message
+-- the page of the place behind the last message
 pub last-frame : {m : List ℕ} {n : Node} {r : List ℕ} → Holds m n r → (g : ℕ) → 1 ≤ g → g ≤ groupCount → Room g n
-    → word m (groupAddress g + (14 + (word m (groupAddress g + 2) + word m (groupAddress g + 3)) / 8)) < 32
+    → word m (groupAddress g + (14 + (word m (groupAddress g + 2) + word m (groupAddress g + 3)) / 8)) < pageCount paper01
 last-frame {m} {n} h g low high room =
     let p = holds-pieces h in
     let v = h .mapped in
@@ -67,35 +64,25 @@ full-read h g low high =
     let words = group-words (holds-pieces h) (h .mapped) g low high in
     (omega (arith, words .held, group-whole (h .mapped) g low high .whole), cc (words .used, words .count))
 
--- a stock put in over another
-stock-over : (g : ℕ) (s t : Stock) (n : Node) → pred g < length (n .groups) → withStock g t (withStock g s n) ≡ withStock g t n
-unfolding withStock withGroup withFree withBuffer groupOf
-stock-over g s t n inside =
-    let G = withBuffer (s .buffer) (groupOf n g) in
-    let H = withBuffer (t .buffer) (groupOf n g) in
-    let same : getD (set (n .groups) (pred g) G) (pred g) emptyGroup ≡ G = getD-set-same (n .groups) (pred g) G emptyGroup inside in
-    let all : set (set (n .groups) (pred g) G) (pred g) (withBuffer (t .buffer) (getD (set (n .groups) (pred g) G) (pred g) emptyGroup))
-    ≡ set (n .groups) (pred g) H =
-    ap (λ (K : Group). set (set (n .groups) (pred g) G) (pred g) (withBuffer (t .buffer) K)) same ∙ set-set (n .groups) (pred g) G H in
-    λ i. record { running = n .running; timer = n .timer; queue = n .queue; free = t .free; groups = all i }
-
 module _ {n : Node} (v : Mapped n) (x : Message) (low : 1 ≤ x .group) (high : x .group ≤ groupCount) where
   -- with room
-  pub store-room : Room (x .group) n → store x n ≡ putting x n
-  unfolding store putting withRoom
-  store-room room = rw (lt-ltb _ _ room)
+  pub put-room : Room (x .group) n → put x n ≡ putting x n
+  unfolding put putting withRoom withStock withGroup withFree withPaging withEntered groupOf
+  put-room room = rw (lt-ltb _ _ room)
 
   -- and without
-  pub store-full : length (groupOf n (x .group) .buffer .places) ≤ groupOf n (x .group) .buffer .used + groupOf n (x .group) .buffer .count
-      → store x n ≡ putting x (taking (x .group) n)
-  unfolding store putting taking withRoom withStock withGroup withFree groupOf
-  store-full full =
+  pub put-full : length (groupOf n (x .group) .buffer .places) ≤ groupOf n (x .group) .buffer .used + groupOf n (x .group) .buffer .count
+      → put x n ≡ putting x (taking (x .group) n)
+  unfolding put putting taking withRoom withStock withGroup withFree withPaging withEntered withBuffer groupOf
+  put-full full =
       let g = x .group in
-      let B = groupOf n g .buffer in
-      let s = takeFrame (n .free) B in
-      let inside : pred g < length (n .groups) = omega (arith, v .group-count) in
-      let own : groupOf (withStock g s n) g .buffer ≡ s .buffer = stock-same g s n inside in
-      rw (le-ltb _ _ full, own) (sym (stock-over g s (record { free = s .free; buffer = appended x (s .buffer) }) n inside))
+      let s = takeFrame (n .free) (n .paging .entered) (groupOf n g .buffer) in
+      let G = withBuffer (s .buffer) (groupOf n g) in
+      let same : getD (set (n .groups) (pred g) G) (pred g) emptyGroup ≡ G =
+      getD-set-same (n .groups) (pred g) G emptyGroup (omega (arith, v .group-count)) in
+      let over : set (set (n .groups) (pred g) G) (pred g) (withBuffer (appended x (s .buffer)) G) ≡ set (n .groups) (pred g) (withBuffer (appended x (s .buffer)) (groupOf n g)) =
+      set-set (n .groups) (pred g) G (withBuffer (appended x (s .buffer)) G) in
+      rw (le-ltb _ _ full, same, over)
 
 -- a frame taken makes room
 pub taking-room : {n : Node} → Mapped n → (g : ℕ) → 1 ≤ g → g ≤ groupCount → FrameLeft n
@@ -103,20 +90,20 @@ pub taking-room : {n : Node} → Mapped n → (g : ℕ) → 1 ≤ g → g ≤ gr
 unfolding taking takeFrame extended
 taking-room {n} v g low high left fits =
     let inside : pred g < length (n .groups) = omega (arith, v .group-count) in
-    rw (stock-same g (takeFrame (n .free) (groupOf n g .buffer)) n inside) (go (n .free) left (v .free-good))
+    rw (stock-same g (takeFrame (n .free) (n .paging .entered) (groupOf n g .buffer)) n inside) (go (n .free) (left .some) (v .free-good))
   where
     go : (fs : List Frame) → 1 ≤ length fs → Every (GoodFrame paper01) fs
-        → takeFrame fs (groupOf n g .buffer) .buffer .used + takeFrame fs (groupOf n g .buffer) .buffer .count
-        < length (takeFrame fs (groupOf n g .buffer) .buffer .places)
+        → takeFrame fs (n .paging .entered) (groupOf n g .buffer) .buffer .used + takeFrame fs (n .paging .entered) (groupOf n g .buffer) .buffer .count
+        < length (takeFrame fs (n .paging .entered) (groupOf n g .buffer) .buffer .places)
     go [] some good = absurd (omega arith)
     go (f ∷ fs) some good = omega (arith, length-append (groupOf n g .buffer .places) (f .places), good .0 .whole)
 
--- what stands where the frame was taken if need be: a node with room, of which putting is storing
+-- what stands where the frame was taken if need be: a node with room, of which putting is what the rules put
 pub record Ready (m : List ℕ) (g : ℕ) (n : Node) (r : List ℕ) : Type 0 where
   pub node : Node
   pub holds : Holds m node r
   pub room : Room g node
-  pub stores : (x : Message) → x .group ≡ g → putting x node ≡ store x n
+  pub stores : (x : Message) → x .group ≡ g → putting x node ≡ put x n
 
 module _ {m : List ℕ} {n : Node} {r : List ℕ} (h : Holds m n r) (g : ℕ) (low : 1 ≤ g) (high : g ≤ groupCount) (fit : Storable g n) where
   -- there was room
@@ -128,7 +115,7 @@ module _ {m : List ℕ} {n : Node} {r : List ℕ} (h : Holds m n r) (g : ℕ) (l
         node = n;
         holds = h;
         room = room;
-        stores = λ x e. sym (store-room (h .mapped) x (rw e low) (rw e high) (rw e room));
+        stores = λ x e. sym (put-room (h .mapped) x (rw e low) (rw e high) (rw e room));
       }
 
   -- a full buffer is left a frame
@@ -145,5 +132,5 @@ module _ {m : List ℕ} {n : Node} {r : List ℕ} (h : Holds m n r) (g : ℕ) (l
         node = taking g n;
         holds = h′;
         room = taking-room (h .mapped) g low high (full-left full) (fit .0);
-        stores = λ x e. sym (store-full (h .mapped) x (rw e low) (rw e high) (rw e is-full) ∙ ap (λ (k : ℕ). putting x (taking k n)) e);
+        stores = λ x e. sym (put-full (h .mapped) x (rw e low) (rw e high) (rw e is-full) ∙ ap (λ (k : ℕ). putting x (taking k n)) e);
       }

@@ -5,24 +5,24 @@ use native.Mathlib.Decide.{decLt}
 use native.Mathlib.Omega.{arith}
 use mathlib.Core.List.{List, [], _∷_, map}
 use mathlib.Core.Logic.{_≢_}
-use mathlib.Core.Path.{_≡_}
-use lib.ListN.{drop, getD, length, length-drop, set, take}
+use mathlib.Core.Path.{_≡_, ap, sym, _∙_}
+use lib.ListN.{drop, getD, length, length-drop, length-set, set, take}
 use lib.Seq.{drop-set-add, drop-set-lt, length-take-le, take-set-le, take-set-lt}
 use borrow.Author.Tests.{eq-eqb, ne-eqb}
 use Rattle.rules.specs.Build.{paper01}
 use Rattle.rules.specs.Lists.{Every, concatMap, countOf}
-use Rattle.rules.specs.Memory.{frameAddress, frameStride, framesAt, framesFrom, placeStride, placeWords}
+use Rattle.rules.specs.Memory.{frameAddress, frameStride, framesAt, placeStride, placeWords}
 use Rattle.rules.specs.Node.{Frame, Place}
-use Rattle.rules.specs.Script.{number}
+use Rattle.rules.specs.Paging.{framesFrom}
 use Rattle.rules.specs.Valid.{GoodFrame, GoodPlace, frameNumber}
-use Rattle.rules.proofs.Steps.EveryLaws.{every-at, every-drop, every-mono, every-of, every-take, every-unmap}
-use Rattle.rules.proofs.Steps.ListLaws.{length-parts}
-use Rattle.rules.proofs.Map.MapFrames.{good-from, numbers-from}
+use Rattle.rules.proofs.Steps.EveryLaws.{every-at, every-drop, every-mono, every-of, every-set, every-take, every-unmap}
+use Rattle.rules.proofs.Steps.ListLaws.{count-at, length-parts}
+use Rattle.rules.proofs.Steps.PageLaws.{good-from, numbers-from}
 use Rattle.rules.proofs.Map.MapParts.{length-place}
 use Rattle.rules.proofs.Map.MapWords.{Stands, stands-append}
 use Rattle.memory.specs.Writes.{Wrote}
-use Rattle.memory.proofs.CountLaws.{count-at, count-none}
-use Rattle.memory.proofs.PieceLaws.{FrameStands}
+use Rattle.memory.proofs.CountLaws.{count-none}
+use Rattle.memory.proofs.PieceLaws.{FrameStands, length-good}
 use Rattle.memory.proofs.WriteLaws.{kept-above, kept-below, wrote-stands}
 
 -- the words of a good frame are 72
@@ -52,6 +52,12 @@ place-in {m} {m′} a (suc q) x (p ∷ ps) good gx h w s =
       rw lp (place-in (a + 9) q x ps (good .1) gx (omega arith) w′ (rw lp at (both .1))),
     )
 
+-- and takes as many words as it took
+place-length : (q : ℕ) (x : Place) (ps : List Place) → Every GoodPlace ps → GoodPlace x
+    → length (concatMap placeWords (set ps q x)) ≡ length (concatMap placeWords ps)
+place-length q x ps good gx =
+    length-places (set ps q x) (every-set GoodPlace ps q x good gx) ∙ ap (λ (k : ℕ). placeStride * k) (length-set ps q x) ∙ sym (length-places ps good)
+
 module _ {m m′ : List ℕ} (f q : ℕ) (below : q < paper01 .perFrame) (x : Place) (gx : GoodPlace x)
     (w : Wrote m m′ (frameAddress f + placeStride * q) (placeWords x)) where
   -- a frame of another number stays
@@ -61,11 +67,15 @@ module _ {m m′ : List ℕ} (f q : ℕ) (below : q < paper01 .perFrame) (x : Pl
     where
       go : Dec (y .number < f) → FrameStands m′ y
       go (yes l) =
-          kept-below w (framesAt + frameStride * y .number) (concatMap placeWords (y .places))
-          (omega (arith, length-places (y .places) (good .places), good .whole)) s
+          record {
+            stands = kept-below w (framesAt + frameStride * y .number) (concatMap placeWords (y .places)) (omega (arith, length-good y good)) (s .stands);
+            inside = s .inside;
+          }
       go (no l) =
-          kept-above w (framesAt + frameStride * y .number) (concatMap placeWords (y .places))
-          (omega (arith, length-place x gx)) s
+          record {
+            stands = kept-above w (framesAt + frameStride * y .number) (concatMap placeWords (y .places)) (omega (arith, length-place x gx)) (s .stands);
+            inside = s .inside;
+          }
 
   -- frames among which the number does not stand stay
   pub frames-kept : (xs : List Frame) → Every (GoodFrame paper01) xs → countOf f (map frameNumber xs) ≡ 0 → Every (FrameStands m) xs → Every (FrameStands m′) xs
@@ -77,18 +87,21 @@ module _ {m m′ : List ℕ} (f q : ℕ) (below : q < paper01 .perFrame) (x : Pl
 
   -- of a buffer's frames the one of that number has the place set
   pub frames-put : (fs : List ℕ) (ps : List Place) (j : ℕ) → j < length fs → getD fs j 0 ≡ f → countOf f fs ≡ 1 → length ps ≡ length fs * paper01 .perFrame
-      → Every GoodPlace ps → Every (FrameStands m) (framesFrom fs ps) → Every (FrameStands m′) (framesFrom fs (set ps (paper01 .perFrame * j + q) x))
+      → Every GoodPlace ps → Every (FrameStands m) (framesFrom paper01 fs ps) → Every (FrameStands m′) (framesFrom paper01 fs (set ps (paper01 .perFrame * j + q) x))
   unfolding framesFrom frameNumber
   frames-put [] ps j h at once whole good s = absurd (omega arith)
   frames-put (k ∷ fs) ps zero h at once whole good s =
       let eight : 8 ≤ length ps = omega arith in
       let l : length (take 8 ps) ≡ 8 = length-take-le 8 ps eight in
       let first : FrameStands m′ (record { number = k; places = set (take 8 ps) q x }) =
-      place-in (frameAddress k) q x (take 8 ps) (every-take GoodPlace 8 ps good) gx (omega arith) (rw (← at) at w) (s .0) in
+      record {
+        stands = place-in (frameAddress k) q x (take 8 ps) (every-take GoodPlace 8 ps good) gx (omega arith) (rw (← at) at w) (s .0 .stands);
+        inside = omega (arith, s .0 .inside, place-length q x (take 8 ps) (every-take GoodPlace 8 ps good) gx);
+      } in
       let none : countOf f fs ≡ 0 = let c = rw (eq-eqb k f at) at once in omega arith in
-      let rest : Every (FrameStands m′) (framesFrom fs (drop 8 ps)) =
-      frames-kept (framesFrom fs (drop 8 ps)) (good-from fs (drop 8 ps) (rw length-drop (omega arith)) (every-drop GoodPlace 8 ps good))
-      (rw (numbers-from fs (drop 8 ps)) none) (s .1) in
+      let rest : Every (FrameStands m′) (framesFrom paper01 fs (drop 8 ps)) =
+      frames-kept (framesFrom paper01 fs (drop 8 ps)) (good-from paper01 fs (drop 8 ps) (rw length-drop (omega arith)) (every-drop GoodPlace 8 ps good))
+      (rw (numbers-from paper01 fs (drop 8 ps)) none) (s .1) in
       let e : 8 * 0 + q ≡ q = omega arith in
       rw (e, take-set-lt 8 ps q x below, drop-set-lt 8 ps q x below) (first, rest)
   frames-put (k ∷ fs) ps (suc j) h at once whole good s =

@@ -1,33 +1,32 @@
 -- A message is put behind the last of a buffer: from writes to the node that the memory then holds. Assumes nothing.
 use Prim.Native.Nat.{_%_, _*_, _+_, _/_, _<_, _≤_, pred, ℕ}
-use native.Mathlib.Nat.{add-zero}
 use native.Mathlib.Omega.{arith}
-use mathlib.Core.List.{List, [], _++_, _∷_, map}
-use mathlib.Core.Path.{_∙_, _≡_, refl, subst, sym}
+use mathlib.Core.List.{List, [], _∷_, map}
+use mathlib.Core.Path.{_∙_, _≡_, refl, subst}
 use lib.ListN.{getD, length, length-set, set}
 use lib.Seq.{getD-set-same, set-set}
-use Rattle.rules.specs.Build.{groupCount, paper01, wordLimit}
-use Rattle.rules.specs.Frames.{appended, withStock}
-use Rattle.rules.specs.Lists.{Every, pad}
-use Rattle.rules.specs.Memory.{atomicOffset, countOffset, flagWord, frameAddress, framesOf, groupAddress, groupStride, groupWords, groupsAt, lineWords, pendingOffset, placeStride, placeWords, usedOffset, word}
+use Rattle.rules.specs.Build.{groupCount, paper01}
+use Rattle.rules.specs.Frames.{appended}
+use Rattle.rules.specs.Lists.{Every}
+use Rattle.rules.specs.Memory.{atomicOffset, countOffset, frameAddress, groupAddress, groupStride, groupWords, groupsAt, pagingAt, pendingOffset, placeStride, placeWords, usedOffset, word}
 use Rattle.rules.specs.Node.{Group, Message, Node, Place, emptyGroup, groupOf, placeOf, withBuffer, withFree, withGroup}
-use Rattle.rules.specs.Refusal.{queued}
+use Rattle.rules.specs.Paging.{framesOf}
 use Rattle.rules.specs.Valid.{GoodPlace, frameNumber}
 use Rattle.rules.proofs.Steps.EveryLaws.{every-getD, every-set}
 use Rattle.rules.proofs.Steps.FrameLaws.{placeOf-good}
-use Rattle.rules.proofs.Map.MapFrames.{good-from, numbers-from}
+use Rattle.rules.proofs.Steps.PageLaws.{good-from, numbers-from}
 use Rattle.rules.proofs.Map.MapParts.{length-group, length-place}
 use Rattle.rules.proofs.Map.MapRead.{length-line, length-queue}
 use Rattle.rules.proofs.Map.MapWords.{Stands}
 use Rattle.rules.specs.Sound.{Mapped, WholeGroup}
 use Rattle.memory.specs.Holds.{Holds, Room, putting}
 use Rattle.memory.specs.Writes.{Wrote}
-use Rattle.memory.proofs.CountLaws.{its-bounded, its-free, its-once, its-other}
-use Rattle.memory.proofs.group.GroupLaws.{group-whole, group-words, listed, mapped-stock, record-stands}
+use Rattle.memory.proofs.CountLaws.{its-bounded, its-free, its-once, its-other, its-swap}
+use Rattle.memory.proofs.group.GroupLaws.{group-whole, group-words, listed, mapped-group, record-stands, record-wrote, withRecord}
 use Rattle.memory.proofs.PieceLaws.{FrameStands, Pieces, holds-pieces, pieces-hold}
 use Rattle.memory.proofs.PieceWrites.{group-put, rest-kept, set-cases}
 use Rattle.memory.proofs.buffer.PlaceLaws.{frames-kept, frames-put}
-use Rattle.memory.proofs.WriteLaws.{kept-below, widened}
+use Rattle.memory.proofs.WriteLaws.{kept-above, kept-below}
 
 -- the group with a place of its buffer set
 unfoldable pub placed : ℕ → Place → Group → Group
@@ -63,16 +62,18 @@ place-put {m} {m′} {n} p v g low high j q inside below x gx w =
           (omega (arith, length-group (getD (n .groups) i emptyGroup))) (p .groups i h) in
           set-cases (λ H. Stands m′ (groupsAt + groupStride * i) (groupWords H)) (n .groups) i (pred g) G′ (omega arith)
           (λ same. subst (λ (k : ℕ). Stands m′ (groupsAt + groupStride * i) (groupWords (getD (n .groups) k emptyGroup))) same each) (λ other. each);
+      paging = kept-above w pagingAt _ (omega arith) (p .paging);
       free-frames = frames-kept f q below x gx w (n .free) (v .free-good) (its-free v g low high j inside) (p .free-frames);
+      swap-frames = frames-kept f q below x gx w (n .paging .swap) (v .swap-good) (its-swap v g low high j inside) (p .swap-frames);
       group-frames = λ i h.
-          set-cases (λ H. Every (FrameStands m′) (framesOf H)) (n .groups) i (pred g) G′ (omega arith)
+          set-cases (λ H. Every (FrameStands m′) (framesOf paper01 H)) (n .groups) i (pred g) G′ (omega arith)
           (λ same. frames-put f q below x gx w (G .buffer .frames) (G .buffer .places) j inside refl (its-once v g low high j inside)
           (whole .whole) (whole .places) (p .group-frames (pred g) (omega arith)))
           (λ other.
           let H = getD (n .groups) i emptyGroup in
           let good = every-getD WholeGroup (n .groups) i emptyGroup (v .groups-whole) (omega arith) in
-          frames-kept f q below x gx w (framesOf H) (good-from (H .buffer .frames) (H .buffer .places) (good .whole) (good .places))
-          (rw (numbers-from (H .buffer .frames) (H .buffer .places)) (its-other v g low high j inside i h other)) (p .group-frames i h));
+          frames-kept f q below x gx w (framesOf paper01 H) (good-from paper01 (H .buffer .frames) (H .buffer .places) (good .whole) (good .places))
+          (rw (numbers-from paper01 (H .buffer .frames) (H .buffer .places)) (its-other v g low high j inside i h other)) (p .group-frames i h));
     }
 
 -- the address of the place behind the last message of group g's buffer, as it is read from memory
@@ -96,7 +97,7 @@ pub putting-held : {m m₁ m₂ : List ℕ} {n : Node} {r : List ℕ} → Holds 
     → Wrote m m₁ (endPlace m (x .group)) (placeWords (placeOf x))
     → Wrote m₁ m₂ (groupAddress (x .group)) (counted m (x .group))
     → Holds m₂ (putting x n) r
-unfolding putting withStock withFree withGroup withBuffer groupWords framesOf placed appended groupOf
+unfolding putting withFree withGroup withBuffer withRecord groupWords framesOf placed appended groupOf
 putting-held {m} {m₁} {m₂} {n} {r} h x low high room w₁ w₂ =
     let g = x .group in
     let v = h .mapped in
@@ -118,30 +119,28 @@ putting-held {m} {m₁} {m₂} {n} {r} h x low high room w₁ w₂ =
     let p₁ : Pieces m₁ n′ r = place-put p v g low high (end / 8) (end % 8) inside (omega arith) (placeOf x) good w₁′ in
     let same : getD (set (n .groups) (pred g) G′) (pred g) emptyGroup ≡ G′ = getD-set-same (n .groups) (pred g) G′ emptyGroup (omega arith) in
     let stands : Stands m₁ a (groupWords G′) = rw same at (record-stands p₁ g low high) in
-    let frames : Every (FrameStands m₁) (framesOf G′) = rw same at (p₁ .group-frames (pred g) (omega arith)) in
+    let frames : Every (FrameStands m₁) (framesOf paper01 G′) = rw same at (p₁ .group-frames (pred g) (omega arith)) in
     let e : 8 * (end / 8) + end % 8 ≡ end = omega arith in
     let G″ = withBuffer (appended x B) G in
     let w₂′ : Wrote m₁ m₂ a (groupWords G″) =
-    widened {us = flagWord (G .atomic) ∷ flagWord (G .pending) ∷ B .used ∷ (B .count + 1) ∷ []}
-    (rw (words .atomic, words .pending, words .used, words .count) at w₂) a []
-    (flagWord (G .atomic) ∷ flagWord (G .pending) ∷ B .used ∷ B .count ∷ [])
-    (length (B .frames) ∷ length (G .descriptor) ∷ pad wordLimit (G .descriptor) ++ lineWords (B .frames)) (sym (add-zero a)) refl stands in
+    record-wrote a G′ stands (G .atomic) (G .pending) (B .used) (B .count + 1) (rw (words .atomic, words .pending, words .used, words .count) at w₂) in
     let p₂ : Pieces m₂ (withGroup g G″ n′) r = group-put p₁ g low high (length-set (n .groups) (pred g) G′ ∙ count) G″ w₂′ (rw e at frames) in
     let over : withGroup g G″ n′ ≡ withGroup g G″ n = λ i. record {
       running = n .running;
       timer = n .timer;
       queue = n .queue;
       free = n .free;
+      paging = n .paging;
       groups = set-set (n .groups) (pred g) G′ G″ i;
     } in
     pieces-hold
-    (mapped-stock v g low high (record { free = n .free; buffer = appended x B })
+    (mapped-group v g low high G″ (n .free)
     (record {
       descriptor = whole .descriptor;
       whole = length-set (B .places) end (placeOf x) ∙ whole .whole;
       places = every-set GoodPlace (B .places) end (placeOf x) (whole .places) good;
     })
-    (v .free-good) (λ w. refl))
+    (v .free-good) (v .free-short) (λ w. refl))
     (subst (λ (k : Node). Pieces m₂ k r) over p₂)
 
 pub putting-kept : {m m₁ m₂ : List ℕ} {n : Node} {r : List ℕ} → Holds m n r → (x : Message) (g : ℕ) → x .group ≡ g → 1 ≤ g → g ≤ groupCount → Room g n

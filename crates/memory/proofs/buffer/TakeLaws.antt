@@ -1,32 +1,79 @@
--- A group takes the front of the free line: from writes to the node that the memory then holds. Assumes nothing.
-use Prim.Native.Nat.{_*_, _+_, _-_, _≤_, pred, suc, ℕ}
+-- A group takes the front of the free line, which enters: from writes to the node that the memory then holds. Assumes nothing.
+use Prim.Native.Nat.{_*_, _+_, _≤_, _<_, pred, suc, ℕ}
 use native.Mathlib.Omega.{arith}
 use mathlib.Core.List.{List, [], _++_, _∷_, map}
-use mathlib.Core.Path.{_∙_, _≡_, ap, refl, sym}
-use lib.ListN.{drop, length, length-append, length-drop, length-map, take}
+use mathlib.Core.Path.{_≡_, ap, refl, subst, _∙_}
+use lib.ListN.{drop, getD, length, length-append, length-drop, length-map, take}
 use lib.Seq.{drop-append-le, take-all, take-append-le}
-use Rattle.rules.specs.Build.{groupCount, paper01, wordLimit}
+use Rattle.rules.specs.Build.{groupCount, pageCount, paper01}
 use Rattle.rules.specs.Frames.{extended, takeFrame, withStock}
-use Rattle.rules.specs.Lists.{Every, all, pad}
-use Rattle.rules.specs.Memory.{flagWord, framesFrom, framesOf, freeAt, freeCountAt, groupAddress, groupWords, lineWords, word, wordsAt}
-use Rattle.rules.specs.Node.{Frame, Node, Place, groupOf, line, withBuffer, withFree, withGroup}
-use Rattle.rules.specs.Script.{number}
+use Rattle.rules.specs.Lists.{Every}
+use Rattle.rules.specs.Memory.{enteredAt, enteredCountAt, freeAt, freeCountAt, groupAddress, heldOffset, listOffset, word, wordsAt}
+use Rattle.rules.specs.Node.{Frame, Node, Place, groupOf, withBuffer, withEntered, withFree, withGroup, withPaging}
+use Rattle.rules.specs.Paging.{framesFrom, framesOf}
+use Rattle.rules.specs.Sound.{Sound}
 use Rattle.rules.specs.Valid.{GoodFrame, GoodPlace, frameNumber}
 use Rattle.rules.proofs.Steps.EveryLaws.{every-append}
 use Rattle.rules.proofs.Steps.ListLaws.{length-pad, weight, weight-append}
-use Rattle.rules.proofs.Map.MapParts.{group-stands, length-group}
-use Rattle.rules.proofs.Map.MapWords.{Stands, length-wordsAt, stands-append, stands-cons}
-use Rattle.memory.specs.Holds.{FrameLeft, Holds, taking}
-use Rattle.memory.specs.Writes.{Wrote}
+use Rattle.rules.proofs.Steps.SoundLaws.{line-lengths}
+use Rattle.memory.specs.Holds.{FrameLeft, Holds, InOrder, OrderRoom, departing, entering, granting, taking, withBoth}
+use Rattle.memory.specs.Lines.{InLine, Joined, Left, indexOf}
 use Rattle.memory.proofs.CountLaws.{lists-short}
-use Rattle.memory.proofs.group.GroupLaws.{group-whole, group-words, mapped-stock, record-stands}
+use Rattle.memory.proofs.LinePieces.{entered-held, entered-line, free-line, free-put}
+use Rattle.memory.proofs.group.GroupLaws.{group-whole, group-words, list-wrote, mapped-group, record-line, record-stands, withPages}
+use Rattle.memory.proofs.lines.LineLaws.{LineStands, LineWrote, joined-wrote, left-above, left-length, left-wrote, length-lacking, line-first, line-read, may-join, may-leave}
+use Rattle.memory.proofs.lines.IndexLaws.{index-below, without-index}
 use Rattle.memory.proofs.PieceLaws.{FrameStands, Pieces, holds-pieces, pieces-hold}
-use Rattle.memory.proofs.PieceWrites.{frames-above, group-put, line-put}
-use Rattle.memory.proofs.WriteLaws.{covered, lengthened, shifted, widened, widened-end, wrote-as, wrote-over, wrote-stands}
+use Rattle.memory.proofs.PieceWrites.{frames-above, group-put}
+
+-- The order of entry.
+
+pub order-line : {m : List ℕ} {n : Node} {r : List ℕ} → Holds m n r → LineStands m enteredCountAt enteredAt (paper01 .frames) (n .paging .entered)
+order-line h = entered-line (holds-pieces h) (h .mapped .swap-short) (h .mapped .entered-short)
+
+-- it has room for one more
+pub order-room : {m : List ℕ} {n : Node} {r : List ℕ} → Holds m n r → OrderRoom n
+    → InLine m enteredCountAt enteredAt × ((word m enteredCountAt < pageCount paper01) × (enteredAt + word m enteredCountAt < length m))
+order-room h room =
+    let long = holds-pieces h .long in
+    may-join (order-line h) (omega arith) (omega arith) (omega arith) room
+
+-- a frame has joined it
+pub entering-held : {m m′ : List ℕ} {n : Node} {r : List ℕ} → Holds m n r → OrderRoom n → (f : ℕ)
+    → Joined m m′ enteredCountAt enteredAt f → Holds m′ (entering f n) r
+unfolding entering
+entering-held {n = n} h room f came =
+    let es = n .paging .entered in
+    entered-held h (es ++ (f ∷ [])) (omega (arith, length-append es (f ∷ [])))
+    (joined-wrote (order-line h) room came)
+
+-- where a frame stands in it
+pub order-index : {m : List ℕ} {n : Node} {r : List ℕ} → Holds m n r → (f : ℕ) → indexOf f (wordsAt m enteredAt (word m enteredCountAt)) ≡ indexOf f (n .paging .entered)
+order-index h f = ap (indexOf f) (line-read (order-line h))
+
+pub order-within : {m : List ℕ} {n : Node} {r : List ℕ} → Holds m n r → (f : ℕ) → InOrder f n
+    → InLine m enteredCountAt enteredAt × (indexOf f (n .paging .entered) < word m enteredCountAt)
+order-within {n = n} h f once =
+    let long = holds-pieces h .long in
+    may-leave (order-line h) (omega arith) (omega arith) (indexOf f (n .paging .entered)) (index-below f (n .paging .entered) (omega arith))
+
+-- a frame has left it, where it stands
+pub departing-held : {m m′ : List ℕ} {n : Node} {r : List ℕ} → Holds m n r → (f : ℕ) → InOrder f n → {x : ℕ}
+    → Left m m′ enteredCountAt enteredAt (indexOf f (n .paging .entered)) x → Holds m′ (departing f n) r
+unfolding departing
+departing-held {m} {m′} {n} {r} h f once gone =
+    let es = n .paging .entered in
+    let below = index-below f es (omega arith) in
+    let w = left-wrote (order-line h) below gone .1 in
+    let few = length-lacking (indexOf f es) es below in
+    subst (λ (t : List ℕ). Holds m′ (withPaging (withEntered t (n .paging)) n) r) (without-index f es once)
+    (entered-held h _ (omega (arith, h .mapped .entered-short)) w)
+
+-- The free line and a list.
 
 -- a buffer's frames with one more
 from-append : (fs : List ℕ) (ps : List Place) (k : ℕ) (qs : List Place) → length ps ≡ length fs * paper01 .perFrame
-    → framesFrom (fs ++ (k ∷ [])) (ps ++ qs) ≡ framesFrom fs ps ++ (record { number = k; places = take (paper01 .perFrame) qs } ∷ [])
+    → framesFrom paper01 (fs ++ (k ∷ [])) (ps ++ qs) ≡ framesFrom paper01 fs ps ++ (record { number = k; places = take (paper01 .perFrame) qs } ∷ [])
 unfolding framesFrom
 from-append [] [] k qs h = refl
 from-append [] (p ∷ ps) k qs h = absurd (omega arith)
@@ -34,105 +81,107 @@ from-append (f ∷ fs) ps k qs h =
     let eight : 8 ≤ length ps = omega arith in
     rw (take-append-le 8 ps qs eight, drop-append-le 8 ps qs eight, from-append fs (drop 8 ps) k qs (rw length-drop (omega arith)))
 
--- the number of the frame at the front of the free line
-free-front : {m : List ℕ} {n : Node} {r : List ℕ} → Pieces m n r → (x : Frame) (fs : List Frame) → n .free ≡ x ∷ fs → word m freeAt ≡ x .number
-unfolding lineWords frameNumber
-free-front {m} p x fs e =
-    let line : Stands m freeAt (pad 32 (x .number ∷ map frameNumber fs)) = rw e at (p .free) in
-    stands-cons m freeAt (x .number) (pad 31 (map frameNumber fs)) .0 line .0
-
--- the front of the free line is gone from the line
-free-taken : {m m₁ m₂ : List ℕ} {n : Node} {r : List ℕ} → Pieces m n r → (x : Frame) (fs : List Frame) → n .free ≡ x ∷ fs → length (n .free) ≤ paper01 .frames
-    → Wrote m m₁ freeAt (wordsAt m (freeAt + 1) (length fs) ++ (0 ∷ [])) → Wrote m₁ m₂ freeCountAt (length fs ∷ [])
-    → Pieces m₂ (withFree fs n) r × FrameStands m₂ x
-unfolding lineWords frameNumber
-free-taken {m} {m₁} {m₂} {n} {r} p x fs e short w₁ w₂ =
-    let k : length (n .free) ≡ suc (length fs) = ap length e in
-    let l = length-map fs frameNumber in
-    let lw : length (wordsAt m (freeAt + 1) (length fs) ++ (0 ∷ [])) ≡ length fs + 1 =
-    length-append (wordsAt m (freeAt + 1) (length fs)) (0 ∷ []) ∙ ap (λ (t : ℕ). t + 1) (length-wordsAt m (freeAt + 1) (length fs)) in
-    let line : Stands m freeAt (pad 32 ((x .number ∷ []) ++ map frameNumber fs)) = rw e at (p .free) in
-    let both : Every (FrameStands m) (x ∷ fs) = rw e at (p .free-frames) in
-    let w₁′ : Wrote m m₁ freeAt (wordsAt m (freeAt + 1) (length (map frameNumber fs)) ++ (0 ∷ [])) = rw l w₁ in
-    let moved : Stands m₁ freeAt (pad 32 (map frameNumber fs)) = shifted freeAt 32 (x .number ∷ []) (map frameNumber fs) (omega arith) line w₁′ in
-    let w : Wrote m m₁ freeAt (pad 32 (map frameNumber fs)) =
-    covered w₁ freeAt (pad 32 (map frameNumber fs)) (omega arith) (omega (arith, length-pad 32 (map frameNumber fs))) moved in
-    (line-put p fs (both .1) w w₂, frames-above w₂ (omega arith) (x ∷ []) (frames-above w₁ (omega arith) (x ∷ []) (both .0, tt)) .0)
-
--- its number is written behind those of a group's list, and counted
-taken : {m m₁ m₂ m₃ m₄ : List ℕ} {n : Node} {r : List ℕ} → Holds m n r → (g : ℕ) → 1 ≤ g → g ≤ groupCount
+-- a frame goes from the front of the free line to the end of a group's list
+granted : {m m₁ m₂ : List ℕ} {n : Node} {r : List ℕ} → Holds m n r → (g : ℕ) → 1 ≤ g → g ≤ groupCount
     → (x : Frame) (fs : List Frame) → n .free ≡ x ∷ fs
-    → Wrote m m₁ freeAt (wordsAt m (freeAt + 1) (word m freeCountAt - 1) ++ (0 ∷ []))
-    → Wrote m₁ m₂ freeCountAt ((word m freeCountAt - 1) ∷ [])
-    → Wrote m₂ m₃ (groupAddress g + 14 + word m (groupAddress g + 4)) (word m freeAt ∷ [])
-    → Wrote m₃ m₄ (groupAddress g + 4) ((word m (groupAddress g + 4) + 1) ∷ [])
-    → Holds m₄ (withStock g (takeFrame (x ∷ fs) (groupOf n g .buffer)) n) r
-unfolding takeFrame extended withStock withFree withGroup withBuffer groupWords lineWords framesOf groupOf frameNumber
-taken {m} {m₁} {m₂} {m₃} {m₄} {n} {r} h g low high x fs e w₁ w₂ w₃ w₄ =
+    → LineWrote m m₁ freeCountAt freeAt (paper01 .frames) (map frameNumber fs)
+    → Joined m₁ m₂ (groupAddress g + heldOffset) (groupAddress g + listOffset) (x .number)
+    → Holds m₂ (withBoth g fs (extended x (groupOf n g .buffer)) n) r
+unfolding extended withBoth withFree withGroup withBuffer withPages framesOf groupOf frameNumber
+granted {m} {m₁} {m₂} {n} {r} h g low high x fs e w came =
     let v = h .mapped in
     let p = holds-pieces h in
     let G = groupOf n g in
     let B = G .buffer in
-    let k = length (B .frames) in
     let a = groupAddress g in
-    let words = group-words p v g low high in
     let whole = group-whole v g low high in
     let short = lists-short v g low high in
     let many : length (n .free) ≡ suc (length fs) = ap length e in
     let good : Every (GoodFrame paper01) (x ∷ fs) = rw e at (v .free-good) in
-    let fewer : word m freeCountAt - 1 ≡ length fs = omega (arith, p .free-count) in
-    let front : word m freeAt ≡ x .number = free-front p x fs e in
-    let t = free-taken p x fs e (omega arith) (rw fewer at w₁) (rw fewer at w₂) in
-    let p₂ = t .0 in
-    let w₃′ : Wrote m₂ m₃ (a + 14 + k) (x .number ∷ []) = rw (words .held, front) at w₃ in
-    let w₄′ : Wrote m₃ m₄ (a + 4) ((k + 1) ∷ []) = rw (words .held) at w₄ in
-    let words₂ = group-stands m₂ a G (whole .descriptor) (omega arith) .0 (record-stands p₂ g low high) in
-    let l14 : length (pad wordLimit (G .descriptor)) ≡ 8 = length-pad wordLimit (G .descriptor) in
-    let six : List ℕ =
-    flagWord (G .atomic) ∷ flagWord (G .pending) ∷ B .used ∷ B .count ∷ k ∷ length (G .descriptor) ∷ pad wordLimit (G .descriptor) in
+    let stand : Every (FrameStands m) (x ∷ fs) = rw e at (p .free-frames) in
+    let p₁ : Pieces m₁ (withFree fs n) r = free-put p fs (stand .1) w in
+    let lw = length-pad (paper01 .frames) (map frameNumber fs) in
+    let s₁ = frames-above (w .counted) (omega arith) (x ∷ []) (frames-above (w .numbers) (omega arith) (x ∷ []) (stand .0, tt)) in
+    let record₁ = record-stands p₁ g low high in
     let longer : List ℕ = B .frames ++ (x .number ∷ []) in
-    let l6 : a + length six ≡ a + 14 = omega arith in
-    let list : Stands m₂ (a + 14) (pad 32 (B .frames)) =
-    rw l6 at (stands-append m₂ a six (pad 32 (B .frames)) .0 (record-stands p₂ g low high) .1) in
-    let wl : Wrote m₂ m₃ (a + 14) (pad 32 longer) = lengthened (a + 14) 32 (x .number) (B .frames) (a + 14 + k) refl (omega arith) list w₃′ in
-    let wg : Wrote m₂ m₃ a (six ++ pad 32 longer) =
-    widened-end wl a six (pad 32 (B .frames)) (omega arith) (length-pad 32 (B .frames) ∙ sym (length-pad 32 longer)) (record-stands p₂ g low high) in
-    let G″ = withBuffer (extended x B) G in
-    let l : k + 1 ≡ length longer = sym (length-append (B .frames) (x .number ∷ [])) in
-    let wh : Wrote m₃ m₄ a (groupWords G″) =
-    wrote-as
-    (widened w₄′ a (flagWord (G .atomic) ∷ flagWord (G .pending) ∷ B .used ∷ B .count ∷ []) (k ∷ [])
-    (length (G .descriptor) ∷ pad wordLimit (G .descriptor) ++ pad 32 longer) refl refl (wrote-stands wg))
-    (rw l) in
-    let wa : Wrote m₂ m₄ a (groupWords G″) = wrote-over wg wh (omega (arith, length-append six (pad 32 longer), length-pad 32 longer, length-group G″)) in
+    let places : List Place = B .places ++ x .places in
+    let l : length longer ≡ length (B .frames) + 1 = length-append (B .frames) (x .number ∷ []) in
+    let list = joined-wrote (record-line m₁ a G (whole .descriptor) (omega arith) record₁) (omega arith) came in
+    let wg = list-wrote a G longer places record₁ list in
     let all : take 8 (x .places) ≡ x .places = take-all 8 (x .places) (omega (arith, good .0 .whole)) in
-    let frames : Every (FrameStands m₂) (framesFrom longer (B .places ++ x .places)) =
+    let frames : Every (FrameStands m₁) (framesFrom paper01 longer places) =
     rw (from-append (B .frames) (B .places) (x .number) (x .places) (whole .whole), all)
-    (every-append (FrameStands m₂) (framesFrom (B .frames) (B .places)) (x ∷ []) .1 (p₂ .group-frames (pred g) (omega arith), (t .1, tt))) in
+    (every-append (FrameStands m₁) (framesFrom paper01 (B .frames) (B .places)) (x ∷ []) .1 (p₁ .group-frames (pred g) (omega arith), s₁)) in
     pieces-hold
-    (mapped-stock v g low high (record { free = fs; buffer = extended x B })
+    (mapped-group v g low high (withPages longer places G) fs
     (record {
       descriptor = whole .descriptor;
       whole = omega (arith, length-append (B .places) (x .places), good .0 .whole, whole .whole, l);
       places = every-append GoodPlace (B .places) (x .places) .1 (whole .places, good .0 .places);
     })
-    (good .1) (λ w. rw e (unweighed w)))
-    (group-put p₂ g low high (v .group-count) G″ wa frames)
+    (good .1) (omega (arith, v .free-short)) (λ u. rw e (unweighed u)))
+    (group-put p₁ g low high (v .group-count) (withPages longer places G) wg frames)
   where
     unweighed : (w : ℕ → ℕ) → weight w (map frameNumber fs) + weight w (groupOf n g .buffer .frames ++ (x .number ∷ []))
         ≡ weight w (map frameNumber (x ∷ fs)) + weight w (groupOf n g .buffer .frames)
     unweighed w = omega (arith, weight-append w (groupOf n g .buffer .frames) (x .number ∷ []))
 
--- a group has taken the front of the free line
-pub taking-held : {m m₁ m₂ m₃ m₄ : List ℕ} {n : Node} {r : List ℕ} → Holds m n r → (g : ℕ) → 1 ≤ g → g ≤ groupCount → FrameLeft n
-    → Wrote m m₁ freeAt (wordsAt m (freeAt + 1) (word m freeCountAt - 1) ++ (0 ∷ []))
-    → Wrote m₁ m₂ freeCountAt ((word m freeCountAt - 1) ∷ [])
-    → Wrote m₂ m₃ (groupAddress g + 14 + word m (groupAddress g + 4)) (word m freeAt ∷ [])
-    → Wrote m₃ m₄ (groupAddress g + 4) ((word m (groupAddress g + 4) + 1) ∷ [])
-    → Holds m₄ (taking g n) r
-unfolding taking
-taking-held {m} {m₁} {m₂} {m₃} {m₄} {n} {r} h g low high left w₁ w₂ w₃ w₄ = go (n .free) refl
-  where
-    go : (fs : List Frame) → n .free ≡ fs → Holds m₄ (withStock g (takeFrame fs (groupOf n g .buffer)) n) r
-    go [] e = absurd (omega (arith, ap length e))
-    go (x ∷ fs) e = taken h g low high x fs e w₁ w₂ w₃ w₄
+module _ {m : List ℕ} {n : Node} {r : List ℕ} (h : Holds m n r) (g : ℕ) (left : FrameLeft n) where
+  some-free : 1 ≤ length (map frameNumber (n .free))
+  some-free = omega (arith, left .some, length-map (n .free) frameNumber)
+
+  -- a frame may leave the free line
+  pub free-within : InLine m freeCountAt freeAt × (0 < word m freeCountAt)
+  free-within =
+      let long = holds-pieces h .long in
+      may-leave (free-line (holds-pieces h) (h .mapped .free-short)) (omega arith) (omega arith) 0 some-free
+
+  -- and join the list
+  pub list-room : {m₁ : List ℕ} {f : ℕ} → 1 ≤ g → g ≤ groupCount → Left m m₁ freeCountAt freeAt 0 f
+      → InLine m₁ (groupAddress g + heldOffset) (groupAddress g + listOffset)
+      × ((word m₁ (groupAddress g + heldOffset) < pageCount paper01) × (groupAddress g + listOffset + word m₁ (groupAddress g + heldOffset) < length m₁))
+  unfolding groupAddress
+  list-room low high gone =
+      let long = holds-pieces h .long in
+      let few = h .mapped .free-short in
+      let same = left-above (free-within .1) gone (groupAddress g + heldOffset) (omega arith) (omega (arith, holds-pieces h .free-count)) in
+      let held = group-words (holds-pieces h) (h .mapped) g low high .held in
+      let short = lists-short (h .mapped) g low high in
+      let l = left-length gone in
+      (record { counted = omega arith; inside = omega (arith, left .some) }, (omega (arith, left .some), omega (arith, left .some)))
+
+  pub granting-held : {m₁ m₂ : List ℕ} → 1 ≤ g → g ≤ groupCount → (f : ℕ) → Left m m₁ freeCountAt freeAt 0 f
+      → Joined m₁ m₂ (groupAddress g + heldOffset) (groupAddress g + listOffset) f → Holds m₂ (granting g n) r
+  unfolding granting takeFrame frameNumber
+  granting-held {m₁} {m₂} low high f gone came = go (n .free) refl
+    where
+      go : (fs : List Frame) → n .free ≡ fs
+          → Holds m₂ (withBoth g (takeFrame fs (n .paging .entered) (groupOf n g .buffer) .free) (takeFrame fs (n .paging .entered) (groupOf n g .buffer) .buffer) n) r
+      go [] e = absurd (omega (arith, left .some, ap length e))
+      go (x ∷ fs) e =
+          let t = left-wrote (free-line (holds-pieces h) (h .mapped .free-short)) some-free gone in
+          let number : f ≡ x .number = t .0 ∙ ap (λ (ys : List Frame). getD (map frameNumber ys) 0 0) e in
+          granted h g low high x fs e (rw e at (t .1)) (rw number at came)
+
+  -- with the frame that stood in front it is all that taking does
+  pub granting-entered : entering (word m freeAt) (granting g n) ≡ taking g n
+  unfolding entering granting taking takeFrame withBoth withStock withFree withPaging withEntered withGroup groupOf frameNumber
+  granting-entered = go (n .free) refl
+    where
+      go : (fs : List Frame) → n .free ≡ fs
+          → entering (word m freeAt) (withBoth g (takeFrame fs (n .paging .entered) (groupOf n g .buffer) .free) (takeFrame fs (n .paging .entered) (groupOf n g .buffer) .buffer) n)
+          ≡ withStock g (takeFrame fs (n .paging .entered) (groupOf n g .buffer)) n
+      go [] e = absurd (omega (arith, left .some, ap length e))
+      go (x ∷ fs) e =
+          let front = line-first (free-line (holds-pieces h) (h .mapped .free-short)) some-free in
+          let number : word m freeAt ≡ x .number = front ∙ ap (λ (ys : List Frame). getD (map frameNumber ys) 0 0) e in
+          rw number
+
+  -- the order of entry has a place for it
+  pub granting-room : OrderRoom (granting g n)
+  unfolding granting withBoth withFree withGroup
+  granting-room = omega (arith, left .some, left .order)
+
+-- A sound node with a free frame has what is asked.
+pub left-sound : {n : Node} → Sound paper01 n → 1 ≤ length (n .free) → FrameLeft n
+left-sound s some = record { some = some; order = omega (arith, line-lengths s) }

@@ -6,8 +6,9 @@ use mathlib.Core.Path.{_∙_, _≡_, ap, refl, sym}
 use lib.ListN.{length, length-append, set}
 use Rattle.rules.specs.Build.{groupCount, wordLimit}
 use Rattle.rules.specs.Lists.{pad}
-use Rattle.rules.specs.Memory.{describedOffset, descriptorOffset, flagWord, framesOf, groupAddress, groupWords, lineWords, word, wordsAt}
+use Rattle.rules.specs.Memory.{describedOffset, descriptorOffset, flagWord, groupAddress, groupWords, listWords, word, wordsAt}
 use Rattle.rules.specs.Node.{Node, groupOf, withDescriptor, withFree}
+use Rattle.rules.specs.Paging.{framesOf}
 use Rattle.rules.proofs.Steps.ListLaws.{length-pad}
 use Rattle.rules.proofs.Map.MapWords.{pad-stands, wordsAt-stands}
 use Rattle.memory.specs.Descriptors.{descriptorOf, redescribed}
@@ -58,7 +59,7 @@ module _ {m : List ℕ} {n : Node} {r : List ℕ} (h : Holds m n r) (g : ℕ) (l
       let wrote : Wrote m m₂ (groupAddress g + describedOffset) (length d ∷ pad wordLimit d) = wrote-then w₁ (groupAddress g + descriptorOffset) (omega arith) w₂ in
       let all = widened wrote (groupAddress g)
       (flagWord (G .atomic) ∷ flagWord (G .pending) ∷ G .buffer .used ∷ G .buffer .count ∷ length (G .buffer .frames) ∷ [])
-      (length (G .descriptor) ∷ pad wordLimit (G .descriptor)) (lineWords (G .buffer .frames)) refl (ap suc (length-pad wordLimit (G .descriptor) ∙ sym (length-pad wordLimit d))) (record-stands pieces g low high) in
+      (length (G .descriptor) ∷ pad wordLimit (G .descriptor)) (listWords (G .buffer .frames)) refl (ap suc (length-pad wordLimit (G .descriptor) ∙ sym (length-pad wordLimit d))) (record-stands pieces g low high) in
       pieces-hold
-      (mapped-group v g low high (withDescriptor d G) (n .free) (record { descriptor = few; whole = whole .whole; places = whole .places }) (v .free-good) (λ x. refl))
+      (mapped-group v g low high (withDescriptor d G) (n .free) (record { descriptor = few; whole = whole .whole; places = whole .places }) (v .free-good) (v .free-short) (λ x. refl))
       (group-put pieces g low high (v .group-count) (withDescriptor d G) all (pieces .group-frames (pred g) (omega arith)))

@@ -1,6 +1,6 @@
--- A group of the node in memory: its record word by word, its flags and counts written, and frames exchanged between its list and the free
--- line. Assumes nothing.
-use Prim.Native.Nat.{_*_, _+_, _-_, _<_, _≤_, pred, suc, zero, ℕ}
+-- A group of the node in memory: its record word by word, its flags, counts and list written, and frames exchanged between its list and the
+-- free line. Assumes nothing.
+use Prim.Native.Nat.{_*_, _+_, _-_, _<_, _≤_, pred, ℕ}
 use native.Mathlib.Nat.{add-zero}
 use native.Mathlib.Omega.{arith}
 use mathlib.Core.Bool.{Bool}
@@ -8,25 +8,26 @@ use mathlib.Core.List.{List, [], _++_, _∷_}
 use mathlib.Core.Path.{_∙_, _≡_, refl, sym, ap}
 use lib.Dec.{ltb}
 use lib.ListN.{getD, length, length-set}
-use Rattle.rules.specs.Build.{groupCount, paper01, wordLimit}
-use Rattle.rules.specs.Frames.{Stock, withStock}
+use Rattle.rules.specs.Build.{groupCount, pageCount, paper01, wordLimit}
 use Rattle.rules.specs.Lists.{Every, pad}
-use Rattle.rules.specs.Memory.{flagWord, framesAt, framesOf, freeCountAt, groupAddress, groupStride, groupWords, groupsAt, lineWords, size, word, countOffset, usedOffset}
-use Rattle.rules.specs.Node.{Frame, Group, Node, emptyGroup, groupOf, withBuffer, withFree, withGroup, buffered, withFlags}
-use Rattle.rules.specs.Valid.{GoodFrame, frameNumbers}
+use Rattle.rules.specs.Memory.{flagWord, framesAt, groupAddress, groupStride, groupWords, groupsAt, heldOffset, listOffset, listWords, word, countOffset, usedOffset}
+use Rattle.rules.specs.Node.{Frame, Group, Node, Place, emptyGroup, groupOf, withBuffer, withFree, withPaging, withEntered, withGroup, buffered, withFlags}
+use Rattle.rules.specs.Paging.{framesOf}
+use Rattle.rules.specs.Valid.{GoodFrame, frameNumbers, idle}
 use Rattle.rules.proofs.Steps.EveryLaws.{every-getD, every-set}
 use Rattle.rules.proofs.Steps.FrameLaws.{SameFrames}
-use Rattle.rules.proofs.Steps.ListLaws.{count-weight, hit, length-weight, unit, weight}
+use Rattle.rules.proofs.Steps.ListLaws.{length-pad, weight}
 use Rattle.rules.proofs.Map.MapParts.{GroupStands, group-stands}
-use Rattle.rules.proofs.Map.MapWords.{Stands, stands-cons}
-use Rattle.rules.proofs.Steps.NodeLaws.{reweighed}
+use Rattle.rules.proofs.Map.MapWords.{Stands, stands-append}
+use Rattle.rules.proofs.Steps.NodeLaws.{reweighed, weights-count, weights-length}
 use Rattle.rules.specs.Sound.{Mapped, WholeGroup}
-use Rattle.memory.specs.Holds.{FrameLeft, Holds, flagging}
+use Rattle.memory.specs.Holds.{Holds, flagging}
 use Rattle.memory.specs.Writes.{Wrote}
 use Rattle.memory.proofs.CountLaws.{lists-short}
+use Rattle.memory.proofs.lines.LineLaws.{LineStands, LineWrote}
 use Rattle.memory.proofs.PieceLaws.{Pieces, holds-pieces, pieces-hold}
 use Rattle.memory.proofs.PieceWrites.{group-put}
-use Rattle.memory.proofs.WriteLaws.{widened}
+use Rattle.memory.proofs.WriteLaws.{stands-word, widened, widened-end, wrote-over, wrote-stands}
 
 -- Reading a group.
 
@@ -49,63 +50,82 @@ group-words {m} {n} p v g low high =
     group-stands m (groupAddress g) (groupOf n g) (group-whole v g low high .descriptor) (omega (arith, lists-short v g low high)) .0
     (record-stands p g low high)
 
--- a word of those that stand
-pub stands-word : (m : List ℕ) (a : ℕ) (ws : List ℕ) (j : ℕ) → j < length ws → Stands m a ws → word m (a + j) ≡ getD ws j 0
-stands-word m a [] j h s = absurd (omega arith)
-stands-word m a (w ∷ ws) zero h s = rw (add-zero a) (stands-cons m a w ws .0 s .0)
-stands-word m a (w ∷ ws) (suc j) h s =
-    let e : a + suc j ≡ a + 1 + j = omega arith in
-    rw e (stands-word m (a + 1) ws j (omega arith) (stands-cons m a w ws .0 s .1))
-
 -- a number of a group's list
 pub listed : (m : List ℕ) (a : ℕ) (fs : List ℕ) (j : ℕ) → j < length fs → Stands m (a + 14) fs → word m (a + (14 + j)) ≡ getD fs j 0
 listed m a fs j h s = let e : a + (14 + j) ≡ a + 14 + j = omega arith in rw e (stands-word m (a + 14) fs j h s)
-
--- the counts that are read for group g
-pub record Counts (m : List ℕ) (g : ℕ) : Type 0 where
-  pub long : size ≤ length m
-  pub free : word m freeCountAt ≤ 32
-  pub held : word m (groupAddress g + 4) + word m freeCountAt ≤ 32
-
-pub counts : {m : List ℕ} {n : Node} {r : List ℕ} → Holds m n r → (g : ℕ) → 1 ≤ g → g ≤ groupCount → Counts m g
-counts h g low high =
-    let p = holds-pieces h in
-    let short = lists-short (h .mapped) g low high in
-    let words = group-words p (h .mapped) g low high in
-    record { long = p .long; free = omega (arith, p .free-count); held = omega (arith, p .free-count, words .held) }
 
 -- the record of a group lies within the memory
 pub record-within : (g : ℕ) → g ≤ groupCount → groupAddress g + groupStride ≤ framesAt
 unfolding groupAddress
 record-within g high = omega arith
 
--- a free frame is counted
-pub some-free : {m : List ℕ} {n : Node} {r : List ℕ} → Holds m n r → FrameLeft n → 1 ≤ word m freeCountAt
-some-free h left = omega (arith, holds-pieces h .free-count)
+-- The list of a group.
+
+-- what stands in a group's record before its list
+abbrev pub beforeList : Group → List ℕ
+beforeList G =
+    flagWord (G .atomic) ∷ flagWord (G .pending) ∷ G .buffer .used ∷ G .buffer .count ∷ length (G .buffer .frames) ∷ length (G .descriptor) ∷ pad wordLimit (G .descriptor)
+
+-- it is 14 words
+length-before : (G : Group) → length (beforeList G) ≡ listOffset
+length-before G = omega (arith, length-pad wordLimit (G .descriptor))
+
+-- the list stands as a line
+pub record-line : (m : List ℕ) (a : ℕ) (G : Group) → length (G .descriptor) ≤ wordLimit → length (G .buffer .frames) ≤ pageCount paper01
+    → Stands m a (groupWords G) → LineStands m (a + heldOffset) (a + listOffset) (pageCount paper01) (G .buffer .frames)
+unfolding groupWords listWords
+record-line m a G few short s =
+    record {
+      counted = group-stands m a G few short .0 s .held;
+      numbers = rw (length-before G) at (stands-append m a (beforeList G) (pad (pageCount paper01) (G .buffer .frames)) .0 s .1);
+      few = short;
+    }
+
+pub list-line : {m : List ℕ} {n : Node} {r : List ℕ} → Pieces m n r → Mapped n → (g : ℕ) → 1 ≤ g → g ≤ groupCount
+    → LineStands m (groupAddress g + heldOffset) (groupAddress g + listOffset) (pageCount paper01) (groupOf n g .buffer .frames)
+list-line {m} {n} p v g low high =
+    record-line m (groupAddress g) (groupOf n g) (group-whole v g low high .descriptor) (omega (arith, lists-short v g low high)) (record-stands p g low high)
+
+-- a group with these pages
+unfoldable pub withPages : List ℕ → List Place → Group → Group
+withPages fs ps G = withBuffer (record { used = G .buffer .used; count = G .buffer .count; frames = fs; places = ps }) G
+
+-- its list is written, and its count
+pub list-wrote : {m m′ : List ℕ} (a : ℕ) (G : Group) (fs : List ℕ) (ps : List Place) → Stands m a (groupWords G)
+    → LineWrote m m′ (a + heldOffset) (a + listOffset) (pageCount paper01) fs → Wrote m m′ a (groupWords (withPages fs ps G))
+unfolding groupWords listWords withPages withBuffer
+list-wrote a G fs ps s w =
+    let old = pad (pageCount paper01) (G .buffer .frames) in
+    let new = pad (pageCount paper01) fs in
+    let w₁ = widened-end (w .numbers) a (beforeList G) old (ap (λ (k : ℕ). a + k) (sym (length-before G)))
+    (length-pad (pageCount paper01) (G .buffer .frames) ∙ sym (length-pad (pageCount paper01) fs)) s in
+    let w₂ = widened (w .counted) a (flagWord (G .atomic) ∷ flagWord (G .pending) ∷ G .buffer .used ∷ G .buffer .count ∷ []) (length (G .buffer .frames) ∷ [])
+    (length (G .descriptor) ∷ pad wordLimit (G .descriptor) ++ new) refl refl (wrote-stands w₁) in
+    wrote-over w₁ w₂ refl
 
 -- A node with frames exchanged between the free line and a group can be mapped.
 
 pub mapped-group : {n : Node} → Mapped n → (g : ℕ) → 1 ≤ g → g ≤ groupCount → (G : Group) (fs : List Frame) → WholeGroup G
-    → Every (GoodFrame paper01) fs → SameFrames fs (G .buffer .frames) (n .free) (groupOf n g .buffer .frames) → Mapped (withGroup g G (withFree fs n))
-unfolding withGroup withFree frameNumbers
-mapped-group {n} v g low high G fs whole free-good even =
+    → Every (GoodFrame paper01) fs → length fs ≤ paper01 .frames → SameFrames fs (G .buffer .frames) (n .free) (groupOf n g .buffer .frames)
+    → Mapped (withGroup g G (withFree fs n))
+unfolding withGroup withFree withPaging withEntered frameNumbers idle
+mapped-group {n} v g low high G fs whole free-good few even =
     let old = frameNumbers n in
     let new = frameNumbers (withGroup g G (withFree fs n)) in
-    let frames : (w : ℕ → ℕ) → weight w new ≡ weight w old = reweighed n g G fs (omega (arith, v .group-count)) even in
+    let frames : (w : ℕ → ℕ) → weight w new ≡ weight w old = reweighed n g G fs (n .paging .entered) (omega (arith, v .group-count)) even in
     record {
       queue-length = v .queue-length;
       queue-good = v .queue-good;
       group-count = length-set (n .groups) (pred g) G ∙ v .group-count;
       groups-whole = every-set WholeGroup (n .groups) (pred g) G (v .groups-whole) whole;
       free-good = free-good;
-      frames-once = λ f below. count-weight f new ∙ frames (hit f) ∙ sym (count-weight f old) ∙ v .frames-once f below;
-      frames-all = length-weight new ∙ frames unit ∙ sym (length-weight old) ∙ v .frames-all;
+      swap-good = v .swap-good;
+      frames-once = λ f below. weights-count old new frames f ∙ v .frames-once f below;
+      frames-all = weights-length old new frames ∙ v .frames-all;
+      free-short = few;
+      swap-short = v .swap-short;
+      entered-short = v .entered-short;
     }
-
-pub mapped-stock : {n : Node} → Mapped n → (g : ℕ) → 1 ≤ g → g ≤ groupCount → (t : Stock) → WholeGroup (withBuffer (t .buffer) (groupOf n g))
-    → Every (GoodFrame paper01) (t .free) → SameFrames (t .free) (t .buffer .frames) (n .free) (groupOf n g .buffer .frames) → Mapped (withStock g t n)
-unfolding withStock withBuffer
-mapped-stock {n} v g low high t = mapped-group v g low high (withBuffer (t .buffer) (groupOf n g)) (t .free)
 
 -- Flags and counts.
 
@@ -120,14 +140,13 @@ withRecord a p h k G =
     }
 
 -- they are written, and nothing else of the record
-pub record-wrote : {m m′ : List ℕ} {n : Node} {r : List ℕ} → Pieces m n r → (g : ℕ) → 1 ≤ g → g ≤ groupCount → (a p : Bool) (h k : ℕ)
-    → Wrote m m′ (groupAddress g) (flagWord a ∷ flagWord p ∷ h ∷ k ∷ []) → Wrote m m′ (groupAddress g) (groupWords (withRecord a p h k (groupOf n g)))
+pub record-wrote : {m m′ : List ℕ} (at : ℕ) (G : Group) → Stands m at (groupWords G) → (a p : Bool) (h k : ℕ)
+    → Wrote m m′ at (flagWord a ∷ flagWord p ∷ h ∷ k ∷ []) → Wrote m m′ at (groupWords (withRecord a p h k G))
 unfolding groupWords withRecord
-record-wrote {n = n} pieces g low high a p h k w =
-    let G = groupOf n g in
+record-wrote at G s a p h k w =
     let B = G .buffer in
-    widened w (groupAddress g) [] (flagWord (G .atomic) ∷ flagWord (G .pending) ∷ B .used ∷ B .count ∷ [])
-    (length (B .frames) ∷ length (G .descriptor) ∷ pad wordLimit (G .descriptor) ++ lineWords (B .frames)) (sym (add-zero (groupAddress g))) refl (record-stands pieces g low high)
+    widened w at [] (flagWord (G .atomic) ∷ flagWord (G .pending) ∷ B .used ∷ B .count ∷ [])
+    (length (B .frames) ∷ length (G .descriptor) ∷ pad wordLimit (G .descriptor) ++ listWords (B .frames)) (sym (add-zero at)) refl s
 
 -- the node has them
 pub record-held : {m m′ : List ℕ} {n : Node} {r : List ℕ} → Holds m n r → (g : ℕ) → 1 ≤ g → g ≤ groupCount → (a p : Bool) (h k : ℕ)
@@ -139,8 +158,8 @@ record-held {n = n} held g low high a p h k w =
     let whole = group-whole v g low high in
     pieces-hold
     (mapped-group v g low high (withRecord a p h k (groupOf n g)) (n .free)
-    (record { descriptor = whole .descriptor; whole = whole .whole; places = whole .places }) (v .free-good) (λ x. refl))
-    (group-put pieces g low high (v .group-count) (withRecord a p h k (groupOf n g)) (record-wrote pieces g low high a p h k w)
+    (record { descriptor = whole .descriptor; whole = whole .whole; places = whole .places }) (v .free-good) (v .free-short) (λ x. refl))
+    (group-put pieces g low high (v .group-count) (withRecord a p h k (groupOf n g)) (record-wrote (groupAddress g) (groupOf n g) (record-stands pieces g low high) a p h k w)
     (pieces .group-frames (pred g) (omega arith)))
 
 -- the flags alone, the counts as they are read

@@ -11,7 +11,7 @@ use borrow.Author.Tests.{eqb-false, ltb-false}
 use lib.Dec.{eqb, leb, ltb}
 use lib.ListN.{length, length-append}
 use Rattle.rules.specs.Lists.{filter, isEmpty}
-use Rattle.rules.specs.Build.{paper01, groupCount, wordLimit, lastNode, tickLimit}
+use Rattle.rules.specs.Build.{paper01, pageCount, groupCount, wordLimit, lastNode, tickLimit}
 use Rattle.rules.specs.Node.{Message, Node, groupOf, withQueue, isOf, inQueue, line}
 use Rattle.rules.specs.Frames.{ceilDiv, pledge, pledges}
 use Rattle.rules.specs.Operation.{Request, poll, peek, dispose, beginAtomic, endAtomic, describe, launch}
@@ -117,7 +117,7 @@ module _ (m : List ℕ) (n : Node) (node : isMemory m ≡ true) (P : ℕ → Typ
       → (¬ ((1 ≤ g) × (g ≤ 8)) → P 3)
       → ((length ws ≡ 0) ⊎ (8 < length ws) → P 4)
       → (length (n .queue) ≡ 16 → P 5)
-      → (32 < pledgesWith n g → P 6)
+      → (96 < pledgesWith n g → P 6)
       → (k : ℕ) → Due m n (arrive g ws) k → P k
   on-arrive p3 p4 p5 p6 k (not-node e) = no-node e
   on-arrive p3 p4 p5 p6 k (bad-group x) = p3 x
@@ -206,12 +206,12 @@ module _ (m : List ℕ) (n : Node) (node : isMemory m ≡ true) (v : Valid paper
       decide (leb (paper01 .places) (length (n .queue))) (full-tells 16 (length (n .queue)) (v .queue-length))
       (λ bad. refuse (queue-full bad) (on-arrive m n node (from 5) (λ x. absurd (group x)) (λ x. absurd (words x)) (λ x. omega arith) (λ x. omega arith)))
       (λ place.
-      decide (ltb (paper01 .frames) (pledges paper01 (queued (record { group = g; words = ws }) n))) (frames-tell g ws)
+      decide (ltb (pageCount paper01) (pledges paper01 (queued (record { group = g; words = ws }) n))) (frames-tell g ws)
       (λ bad. refuse (no-frames bad) (on-arrive m n node (from 6) (λ x. absurd (group x)) (λ x. absurd (words x)) (λ x. absurd (place x)) (λ x. omega arith)))
       (λ frames. accept (on-arrive m n node never group words place frames)))))
     where
-      frames-tell : (g : ℕ) (ws : List ℕ) → (ltb 32 (pledges paper01 (queued (record { group = g; words = ws }) n)) ≡ true) ↔ (32 < pledgesWith n g)
-      frames-tell g ws = rw (pledges-with n g ws) (ltb-tells 32 (pledgesWith n g))
+      frames-tell : (g : ℕ) (ws : List ℕ) → (ltb 96 (pledges paper01 (queued (record { group = g; words = ws }) n)) ≡ true) ↔ (96 < pledgesWith n g)
+      frames-tell g ws = rw (pledges-with n g ws) (ltb-tells 96 (pledgesWith n g))
 
   schedule-first : (g : ℕ) → FirstDue m n (schedule g) (refuseSchedule g)
   unfolding refuseSchedule

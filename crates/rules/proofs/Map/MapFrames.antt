@@ -1,6 +1,6 @@
--- The frames of a node, found by number. The map writes frame f by looking it up among all frames of the node. In a node that can be mapped each number
--- below 32 stands once, so the lookup finds the one frame of that number; and the frames of a buffer, cut from its places eight by eight,
--- are joined to those places again. Assumes nothing.
+-- The frames and swap pages of a node, found by number; "frame" stands for both here. The map writes frame f by looking it up among all
+-- frames of the node. In a node that can be mapped each number below 96 stands once, so the lookup finds the one frame of that number; and
+-- the frames of a buffer, cut from its places eight by eight, are joined to those places again. Assumes nothing.
 use Prim.Native.Nat.{ℕ, _*_, _≤_, _<_}
 use mathlib.Core.Path.{_≡_, refl, ap, _∙_}
 use mathlib.Core.Bool.{Bool, true, false}
@@ -11,65 +11,24 @@ use lib.ListN.{length, take, drop, length-drop, take-append-drop}
 use lib.Seq.{take-at, drop-at, length-take-le}
 use borrow.Author.Tests.{eqb-true, eq-eqb}
 use Rattle.rules.specs.Lists.{Every, concatMap, countOf}
-use Rattle.rules.specs.Build.{paper01}
+use Rattle.rules.specs.Build.{paper01, pageCount}
 use Rattle.rules.specs.Node.{Place, Frame, Group, Node}
-use Rattle.rules.specs.Valid.{GoodPlace, GoodFrame, frameNumber, frameList, frameNumbers}
-use Rattle.rules.specs.Memory.{framesFrom, framesOf, placesOf, allFrames, framePlaces, frameAt, frameWords, placeWords, frameAddress, frameStride, placeStride}
+use Rattle.rules.specs.Valid.{GoodPlace, GoodFrame, frameNumber, frameList, idle, frameNumbers}
+use Rattle.rules.specs.Paging.{framesFrom, framesOf, placesOf}
+use Rattle.rules.specs.Memory.{allFrames, framePlaces, frameAt, frameWords, placeWords, frameAddress, frameStride, placeStride}
 use Rattle.rules.proofs.Steps.EveryLaws.{every-of, every-at, every-mono, every-append, every-concat, every-unmap}
 use Rattle.rules.proofs.Steps.ListLaws.{length-parts, once-bounded}
+use Rattle.rules.proofs.Steps.PageLaws.{numbers-groups, places-here, places-there, found, good-from}
 use Rattle.rules.specs.Sound.{WholeGroup, Mapped}
 use Rattle.rules.proofs.Map.MapWords.{length-records}
 use Rattle.rules.proofs.Map.MapParts.{places, length-place}
 
--- The numbers of frames.
-
--- of the frames of a buffer: its list
-pub numbers-from : (fs : List ℕ) (ps : List Place) → map frameNumber (framesFrom fs ps) ≡ fs
-unfolding framesFrom frameNumber
-numbers-from [] ps = refl
-numbers-from (f ∷ fs) ps = ap (λ (r : List ℕ). f ∷ r) (numbers-from fs (drop (paper01 .perFrame) ps))
-
--- of the frames of all groups: their lists
-numbers-groups : (Gs : List Group) → map frameNumber (concatMap framesOf Gs) ≡ concatMap frameList Gs
-unfolding framesOf frameList
-numbers-groups [] = refl
-numbers-groups (G ∷ Gs) =
-    let r = numbers-groups Gs in
-    let e = numbers-from (G .buffer .frames) (G .buffer .places) in
-    map-append frameNumber (framesOf G) (concatMap framesOf Gs) ∙ cc (e, r)
-
--- of all frames
+-- the numbers of all frames
 pub all-numbers : (n : Node) → map frameNumber (allFrames n) ≡ frameNumbers n
 unfolding allFrames frameNumbers
-all-numbers n = map-append frameNumber (n .free) (concatMap framesOf (n .groups)) ∙ cc (numbers-groups (n .groups))
+all-numbers n = map-append frameNumber (idle n) (concatMap (framesOf paper01) (n .groups)) ∙ cc (numbers-groups paper01 (n .groups))
 
 -- A frame is found by its number.
-
--- the first frame is taken where its number fits
-places-here : (f : ℕ) (x : Frame) (xs : List Frame) → x .number ≡ f → placesOf f (x ∷ xs) ≡ x .places
-unfolding placesOf
-places-here f x xs e = rw (eq-eqb (x .number) f e, placesOf)
-
--- and is passed where it does not
-places-there : (f : ℕ) (x : Frame) (xs : List Frame) → eqb (x .number) f ≡ false → placesOf f (x ∷ xs) ≡ placesOf f xs
-unfolding placesOf
-places-there f x xs e = rw (e, placesOf)
-
--- a number that stands among frames' is that of a frame, whose places are found
-pub found : (P : Frame → Type 0) (f : ℕ) (xs : List Frame) → 1 ≤ countOf f (map frameNumber xs) → Every P xs
-    → (x : Frame) × ((x .number ≡ f) × ((placesOf f xs ≡ x .places) × P x))
-unfolding frameNumber
-found P f [] h e = absurd (omega arith)
-found P f (x ∷ xs) h e = go (eqb (x .number) f) refl (found P f xs)
-  where
-    go : (b : Bool) → eqb (x .number) f ≡ b
-        → (1 ≤ countOf f (map frameNumber xs) → Every P xs → (y : Frame) × ((y .number ≡ f) × ((placesOf f xs ≡ y .places) × P y)))
-        → (y : Frame) × ((y .number ≡ f) × ((placesOf f (x ∷ xs) ≡ y .places) × P y))
-    go true q r = let same = eqb-true (x .number) f q in (x, (same, (places-here f x xs same, e .0)))
-    go false q r =
-        let k = rw q at h in
-        let t = r (omega arith) (e .1) in
-        (t .0, (t .1 .0, (places-there f x xs q ∙ t .1 .1 .0, t .1 .1 .1)))
 
 -- a frame's number stands among the frames'
 counted : {x : Frame} {xs : List Frame} → List·Memᴰ x xs → 1 ≤ countOf (x .number) (map frameNumber xs)
@@ -91,18 +50,9 @@ found-once {x} (List·Memᴰ·tail {x = y} {xs = ys} k) h = go (eqb (y .number) 
 
 -- The frames of a buffer.
 
--- a buffer's frames are whole, and its places good, where there are places for each frame
-pub good-from : (fs : List ℕ) (ps : List Place) → length ps ≡ length fs * paper01 .perFrame → Every GoodPlace ps → Every (GoodFrame paper01) (framesFrom fs ps)
-unfolding framesFrom
-good-from [] ps h e = tt
-good-from (f ∷ fs) ps h e =
-    let both = every-append GoodPlace (take 8 ps) (drop 8 ps) .0 (rw (take-append-drop 8 ps) e) in
-    let fits : 8 ≤ length ps = omega arith in
-    (record { whole = length-take-le 8 ps fits; places = both .0 }, good-from fs (drop 8 ps) (rw length-drop (omega arith)) (both .1))
-
 -- a buffer's places are those of its frames, one frame's after the other's
 pub places-from : (g : ℕ → List Place) (fs : List ℕ) (ps : List Place) → length ps ≡ length fs * paper01 .perFrame
-    → Every (λ x. g (x .number) ≡ x .places) (framesFrom fs ps) → concatMap g fs ≡ ps
+    → Every (λ x. g (x .number) ≡ x .places) (framesFrom paper01 fs ps) → concatMap g fs ≡ ps
 unfolding framesFrom
 places-from g [] [] h e = refl
 places-from g [] (p ∷ ps) h e = absurd (omega arith)
@@ -111,7 +61,7 @@ places-from g (f ∷ fs) ps h e =
     rw (e .0, r) (take-append-drop 8 ps)
 
 -- and back: places that are read frame by frame
-pub from-places : (m : List ℕ) (fs : List ℕ) → framesFrom fs (concatMap (framePlaces m) fs) ≡ map (frameAt m) fs
+pub from-places : (m : List ℕ) (fs : List ℕ) → framesFrom paper01 fs (concatMap (framePlaces m) fs) ≡ map (frameAt m) fs
 unfolding framesFrom frameAt framePlaces
 from-places m [] = refl
 from-places m (f ∷ fs) =
@@ -140,38 +90,43 @@ places-at m (f ∷ fs) = (refl, places-at m fs)
 -- The frames of a node that can be mapped.
 
 module _ (n : Node) (v : Mapped n) where
-  -- they are whole
+  -- those that no buffer holds are whole
+  idle-good : Every (GoodFrame paper01) (idle n)
+  unfolding idle
+  idle-good = every-append (GoodFrame paper01) (n .free) (n .paging .swap) .1 (v .free-good, v .swap-good)
+
+  -- and so are all
   pub all-good : Every (GoodFrame paper01) (allFrames n)
   unfolding allFrames framesOf
   all-good =
-      every-append (GoodFrame paper01) (n .free) (concatMap framesOf (n .groups)) .1
-      (v .free-good, every-concat (GoodFrame paper01) framesOf (n .groups) .1 (every-mono WholeGroup _ group-good (n .groups) (v .groups-whole)))
+      every-append (GoodFrame paper01) (idle n) (concatMap (framesOf paper01) (n .groups)) .1
+      (idle-good, every-concat (GoodFrame paper01) (framesOf paper01) (n .groups) .1 (every-mono WholeGroup _ group-good (n .groups) (v .groups-whole)))
     where
-      group-good : (G : Group) → WholeGroup G → Every (GoodFrame paper01) (framesOf G)
-      group-good G g = good-from (G .buffer .frames) (G .buffer .places) (g .whole) (g .places)
+      group-good : (G : Group) → WholeGroup G → Every (GoodFrame paper01) (framesOf paper01 G)
+      group-good G g = good-from paper01 (G .buffer .frames) (G .buffer .places) (g .whole) (g .places)
 
-  -- their numbers are below 32
-  pub numbers-bounded : Every (λ x. x .number < paper01 .frames) (allFrames n)
+  -- their numbers are below 96
+  pub numbers-bounded : Every (λ x. x .number < pageCount paper01) (allFrames n)
   unfolding frameNumber
   numbers-bounded =
-      every-unmap (λ f. f < paper01 .frames) frameNumber (allFrames n)
-      (rw (all-numbers n) (once-bounded (paper01 .frames) (frameNumbers n) (v .frames-once) (v .frames-all)))
+      every-unmap (λ f. f < pageCount paper01) frameNumber (allFrames n)
+      (rw (all-numbers n) (once-bounded (pageCount paper01) (frameNumbers n) (v .frames-once) (v .frames-all)))
 
   -- each is found by its number
   pub each-found : Every (λ x. placesOf (x .number) (allFrames n) ≡ x .places) (allFrames n)
   each-found =
       every-of _ (allFrames n) (λ x h.
-      found-once h (rw (all-numbers n) (v .frames-once (x .number) (every-at (λ x. x .number < paper01 .frames) numbers-bounded h))))
+      found-once h (rw (all-numbers n) (v .frames-once (x .number) (every-at (λ x. x .number < pageCount paper01) numbers-bounded h))))
 
-  -- and each number below 32 finds one
-  pub found-good : (f : ℕ) → f < paper01 .frames → (length (placesOf f (allFrames n)) ≡ paper01 .perFrame) × Every GoodPlace (placesOf f (allFrames n))
+  -- and each number below 96 finds one
+  pub found-good : (f : ℕ) → f < pageCount paper01 → (length (placesOf f (allFrames n)) ≡ paper01 .perFrame) × Every GoodPlace (placesOf f (allFrames n))
   found-good f h =
       let once : countOf f (map frameNumber (allFrames n)) ≡ 1 = rw (all-numbers n) (v .frames-once f h) in
       let t = found (GoodFrame paper01) f (allFrames n) (omega arith) all-good in
       rw (t .1 .1 .0) (t .1 .1 .1 .whole, t .1 .1 .1 .places)
 
   -- so that each has its 72 words
-  pub length-frame : (f : ℕ) → f < paper01 .frames → length (frameWords (allFrames n) f) ≡ frameStride
+  pub length-frame : (f : ℕ) → f < pageCount paper01 → length (frameWords (allFrames n) f) ≡ frameStride
   unfolding frameWords
   length-frame f h =
       let g = found-good f h in

@@ -1,7 +1,7 @@
 -- The head call: the part of the memory that it names holds the words of the running group's first message. A buffered group's first
 -- message waits at the place after the used-up ones of its first frame, whose number stands first in the group's list; a direct group's is
 -- the head of the hardware queue, which may stay only if it is the running group's. Both places are within the memory, for a frame's number
--- is below 32 and a buffer's used-up places are fewer than a frame's. Assumes nothing.
+-- is below 96 and a buffer's used-up places are fewer than a frame's. Assumes nothing.
 use Prim.Native.Nat.{ℕ, zero, suc, pred, _+_, _-_, _*_, _≤_, _<_}
 use mathlib.Core.Path.{_≡_, refl, sym, ap, _∙_}
 use mathlib.Core.Bool.{Bool, true, false, true≢false, false≢true}
@@ -12,9 +12,9 @@ use lib.ListN.{length, take, drop, getD, List·getD-append}
 use lib.Seq.{drop-cons}
 use borrow.Author.Tests.{ltb-true, ne-eqb}
 use Rattle.rules.specs.Lists.{Every, isEmpty, concatMap}
-use Rattle.rules.specs.Build.{paper01, groupCount, wordLimit}
+use Rattle.rules.specs.Build.{paper01, pageCount, groupCount, wordLimit}
 use Rattle.rules.specs.Node.{Message, Place, Buffer, Group, Node, emptyGroup, emptyPlace, groupOf, buffered, messageOf, waiting, inBuffer, isOf, inQueue, line}
-use Rattle.rules.specs.Valid.{GoodBuffer, Valid, frameNumber, frameList, frameNumbers}
+use Rattle.rules.specs.Valid.{GoodBuffer, Valid, frameNumber, frameList, idle, frameNumbers}
 use Rattle.rules.specs.Memory.{queuedAt, queueAt, queueStride, groupsAt, groupStride, placeStride, listOffset, heldOffset, usedOffset}
 use Rattle.rules.specs.Memory.{word, wordsAt, frameAddress, groupAddress, messageAt, messagesAt, placeAt, framePlaces, listAt, bufferAt, groupAt, nodeAt}
 use Rattle.rules.specs.MemoryTest.{isMemory, Part, firstPlace, bufferPart, queuePart, runnerPart, headPart, headWords}
@@ -74,14 +74,14 @@ place-first m a d h l =
     (List·getD-append (framePlaces m f) _ d (word m (a + usedOffset)) (rw l8 l)
     ∙ record-at (places m) d (frameAddress f) (paper01 .perFrame) (word m (a + usedOffset)) l)
 
--- the numbers of a group's frames are below 32
-list-bounded : (n : Node) → Valid paper01 n → (g : ℕ) → 1 ≤ g → g ≤ groupCount → Every (λ f. f < paper01 .frames) (frameList (groupOf n g))
+-- the numbers of a group's frames are below 96
+list-bounded : (n : Node) → Valid paper01 n → (g : ℕ) → 1 ≤ g → g ≤ groupCount → Every (λ f. f < pageCount paper01) (frameList (groupOf n g))
 unfolding frameNumbers groupOf
 list-bounded n v g low high =
-    let all = once-bounded (paper01 .frames) (frameNumbers n) (v .frames-once) (v .frames-all) in
-    let lists = every-append (λ f. f < paper01 .frames) (map frameNumber (n .free)) (concatMap frameList (n .groups)) .0 all .1 in
-    every-getD (λ G. Every (λ f. f < paper01 .frames) (frameList G)) (n .groups) (pred g) emptyGroup
-    (every-concat (λ f. f < paper01 .frames) frameList (n .groups) .0 lists) (within (valid-sound v) g low high)
+    let all = once-bounded (pageCount paper01) (frameNumbers n) (v .frames-once) (v .frames-all) in
+    let lists = every-append (λ f. f < pageCount paper01) (map frameNumber (idle n)) (concatMap frameList (n .groups)) .0 all .1 in
+    every-getD (λ G. Every (λ f. f < pageCount paper01) (frameList G)) (n .groups) (pred g) emptyGroup
+    (every-concat (λ f. f < pageCount paper01) frameList (n .groups) .0 lists) (within (valid-sound v) g low high)
 
 -- the words of a part of the memory
 unfoldable partWords : List ℕ → Part → List ℕ
@@ -105,8 +105,8 @@ module _ (m : List ℕ) (h : isMemory m ≡ true) (g : ℕ) (low : 1 ≤ g) (hig
   unfolding bufferAt listAt
   some-held = omega (arith, held good-buffer some-count, length-wordsAt m (groupAddress g + listOffset) (word m (groupAddress g + heldOffset)))
 
-  -- the first of which is below 32
-  pub first-bounded : word m (groupAddress g + listOffset) < paper01 .frames
+  -- the first of which is below 96
+  pub first-bounded : word m (groupAddress g + listOffset) < pageCount paper01
   unfolding frameList bufferAt listAt wordsAt
   first-bounded =
       let e : word m (groupAddress g + heldOffset) ≡ suc (word m (groupAddress g + heldOffset) - 1) = omega (arith, some-held) in

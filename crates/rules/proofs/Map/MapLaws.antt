@@ -5,23 +5,26 @@
 -- Assumes nothing.
 use Prim.Native.Nat.{ℕ, _+_, _-_, _*_, _≤_, _<_}
 use mathlib.Core.Path.{_≡_, refl, sym, ap, _∙_}
-use mathlib.Core.Bool.{true}
+use mathlib.Core.Bool.{true, false}
 use mathlib.Core.List.{List, _++_, map}
 use native.Mathlib.Omega.{arith}
 use lib.ListN.{length, drop, length-append, length-map}
 use Rattle.rules.specs.Lists.{Every, concatMap, countOf}
-use Rattle.rules.specs.Build.{paper01, groupCount}
+use Rattle.rules.specs.Build.{paper01, pageCount, groupCount}
 use Rattle.rules.specs.Node.{Frame, Node}
-use Rattle.rules.specs.Valid.{Valid, frameNumber}
-use Rattle.rules.specs.Memory.{queuedAt, freeCountAt, queueAt, queueStride, freeAt, groupsAt, framesAt, frameStride, size}
-use Rattle.rules.specs.Memory.{word, wordsAt, messageWords, queueWords, lineWords, groupWords, placeWords, frameWords, words, framesOf, placesOf, allFrames, messageAt, messagesAt, placeAt, framePlaces, frameAt, frameAddress, bufferAt, listAt, groupAt, groupsFrom, nodeAt}
-use Rattle.rules.specs.MemoryTest.{isMemory}
+use Rattle.rules.specs.Valid.{Valid, frameNumber, idle}
+use Rattle.rules.specs.Paging.{framesOf, placesOf}
+use Rattle.rules.specs.Memory.{queuedAt, freeCountAt, queueAt, queueStride, freeAt, groupsAt, framesAt, frameStride, swapCountAt, swapAt, size}
+use Rattle.rules.specs.Memory.{word, wordsAt, messageWords, queueWords, lineWords, groupWords, placeWords, frameWords, words, allFrames, messageAt, messagesAt, placeAt, framePlaces, frameAt, frameAddress, bufferAt, listAt, groupAt, groupsFrom, pagingFrom, nodeAt}
+use Rattle.rules.specs.MemoryTest.{isMemory, pageCounts}
 use Rattle.rules.proofs.Steps.EveryLaws.{every-append, every-concat, every-of}
 use Rattle.rules.proofs.Steps.ListLaws.{length-parts}
 use Rattle.rules.proofs.Steps.SoundLaws.{valid-mapped}
 use Rattle.rules.proofs.Map.MapWords.{Stands, pad-stands, parts-stand, length-wordsAt, stands-wordsAt, front-stands, stands-front, records-stand, length-records, every-record}
 use Rattle.rules.proofs.Map.MapParts.{messages, places, groups, length-message, length-place, length-group, message-at-stands, good-place-at, place-at-stands, group-at-stands, MessageFits, GroupFits}
-use Rattle.rules.proofs.Map.MapFrames.{all-numbers, found, length-frame, from-places, numbers-at, places-at}
+use Rattle.rules.proofs.Steps.PageLaws.{found}
+use Rattle.rules.proofs.Map.MapFrames.{all-numbers, length-frame, from-places, numbers-at, places-at}
+use Rattle.rules.proofs.Map.MapPaging.{paging-from-stands}
 use Rattle.rules.proofs.Map.MapTest.{Fits, memory-fits}
 use Rattle.rules.proofs.Map.MapRead.{MapStands, map-stands, words-length, read}
 
@@ -30,7 +33,7 @@ use Rattle.rules.proofs.Map.MapRead.{MapStands, map-stands, words-lengt
 module _ (n : Node) (rest : List ℕ) (v : Valid paper01 n) where
   -- the map stands in the memory
   written : MapStands (words n ++ rest) n
-  written = map-stands n (v .group-count) (words n ++ rest) .0 (front-stands (words n) rest)
+  written = map-stands n (valid-mapped v) (words n ++ rest) .0 (front-stands (words n) rest)
 
   -- it is read back
   pub read-back : nodeAt (words n ++ rest) ≡ n
@@ -47,20 +50,21 @@ module _ (n : Node) (rest : List ℕ) (v : Valid paper01 n) where
 module _ (m : List ℕ) where
   -- every frame of the node has the places of its number
   places-all : Every (λ x. x .places ≡ framePlaces m (x .number)) (allFrames (nodeAt m))
-  unfolding allFrames nodeAt framesOf groupAt bufferAt
+  unfolding allFrames idle nodeAt pagingFrom framesOf groupAt bufferAt
   places-all =
       let P : Frame → Type 0 = λ x. x .places ≡ framePlaces m (x .number) in
       let line = wordsAt m freeAt (word m freeCountAt) in
-      every-append P (map (frameAt m) line) (concatMap framesOf (groupsFrom m groupsAt groupCount)) .1 (
-        places-at m line,
-        every-concat P framesOf (groupsFrom m groupsAt groupCount) .1
-            (every-record (groups m) (λ G. Every P (framesOf G))
+      let swap = wordsAt m swapAt (word m swapCountAt) in
+      every-append P (idle (nodeAt m)) (concatMap (framesOf paper01) (groupsFrom m groupsAt groupCount)) .1 (
+        every-append P (map (frameAt m) line) (map (frameAt m) swap) .1 (places-at m line, places-at m swap),
+        every-concat P (framesOf paper01) (groupsFrom m groupsAt groupCount) .1
+            (every-record (groups m) (λ G. Every P (framesOf paper01 G))
             (λ a. rw (from-places m (listAt m a)) (places-at m (listAt m a))) groupsAt groupCount),
       )
 
 module _ (m : List ℕ) (f : Fits m) (v : Valid paper01 (nodeAt m)) where
   -- so each frame's words stand where they are written
-  frame-stands : (j : ℕ) → j < paper01 .frames → Stands m (framesAt + frameStride * j) (frameWords (allFrames (nodeAt m)) j)
+  frame-stands : (j : ℕ) → j < pageCount paper01 → Stands m (framesAt + frameStride * j) (frameWords (allFrames (nodeAt m)) j)
   unfolding frameWords framePlaces frameAddress
   frame-stands j h =
       let once : countOf j (map frameNumber (allFrames (nodeAt m))) ≡ 1 = rw (all-numbers (nodeAt m)) (v .frames-once j h) in
@@ -110,8 +114,9 @@ module _ (m : List ℕ) (f : Fits m) (v : Valid paper01 (nodeAt m)) where
         free = free-stands;
         groups = stand groupsAt groupCount (f .groups);
         frames =
-            parts-stand m (frameWords (allFrames (nodeAt m))) framesAt frameStride 0 (paper01 .frames) (λ j l h. length-frame (nodeAt m) (valid-mapped v) j h) .1
+            parts-stand m (frameWords (allFrames (nodeAt m))) framesAt frameStride 0 (pageCount paper01) (λ j l h. length-frame (nodeAt m) (valid-mapped v) j h) .1
             (λ j l h. frame-stands j h);
+        paging = paging-from-stands m (f .paging);
       }
 
 module _ (m : List ℕ) (h : isMemory m ≡ true) where
@@ -127,5 +132,15 @@ module _ (m : List ℕ) (h : isMemory m ≡ true) where
   pub test-words : words (nodeAt m) ++ drop size m ≡ m
   test-words =
       let l = words-length (nodeAt m) (valid-mapped test-valid) in
-      let s = map-stands (nodeAt m) (test-valid .group-count) m .1 (holds m (memory-fits m .0 h .1 .0) test-valid) in
+      let s = map-stands (nodeAt m) (valid-mapped test-valid) m .1 (holds m (memory-fits m .0 h .1 .0) test-valid) in
       rw l at (stands-front m (words (nodeAt m)) (rw l test-size) s)
+
+  -- the counts of pages are those of that node
+  pub counts-node : pageCounts m ≡ record { out = nodeAt m .paging .out; brought = nodeAt m .paging .brought }
+  unfolding pageCounts nodeAt pagingFrom
+  counts-node = rw (h, pageCounts)
+
+-- and 0 where the memory is no node
+pub counts-none : (m : List ℕ) → isMemory m ≡ false → pageCounts m ≡ record { out = 0; brought = 0 }
+unfolding pageCounts
+counts-none m e = rw (e, pageCounts)

@@ -11,11 +11,11 @@ use native.Mathlib.Nat.{add-zero}
 use lib.Dec.{eqb}
 use lib.ListN.{length, take, length-append}
 use Rattle.rules.specs.Lists.{concatMap, pad}
-use Rattle.rules.specs.Build.{paper01, wordLimit}
+use Rattle.rules.specs.Build.{paper01, pageCount, wordLimit}
 use Rattle.rules.specs.Node.{Message, Place, Group}
 use Rattle.rules.specs.Valid.{GoodMessage, GoodPlace}
 use Rattle.rules.specs.Memory.{queueStride, groupStride, placeStride, atomicOffset, pendingOffset, usedOffset, countOffset, heldOffset, describedOffset, descriptorOffset, listOffset}
-use Rattle.rules.specs.Memory.{word, wordsAt, flagWord, messageWords, lineWords, groupWords, placeWords, messageAt, messagesAt, placeAt, placesAt, framePlaces, flagAt, listAt, bufferAt, groupAt, groupsFrom}
+use Rattle.rules.specs.Memory.{word, wordsAt, flagWord, messageWords, listWords, groupWords, placeWords, messageAt, messagesAt, placeAt, placesAt, framePlaces, flagAt, listAt, bufferAt, groupAt, groupsFrom}
 use Rattle.rules.specs.MemoryTest.{zeroAt}
 use Rattle.rules.proofs.Steps.ListLaws.{length-pad}
 use Rattle.rules.proofs.Map.MapWords.{Stands, Records, stands-cons, stands-append, stands-wordsAt, wordsAt-stands, length-wordsAt, take-wordsAt, pad-stands}
@@ -115,9 +115,9 @@ pub groups : (m : List ℕ) → Records (groupAt m) groupStride (groupsFrom m)
 unfolding groupsFrom
 groups m = record { none = λ a. refl; more = λ a k. refl }
 
--- a group takes 46 words
+-- a group takes 110 words
 pub length-group : (G : Group) → length (groupWords G) ≡ groupStride
-unfolding groupWords lineWords
+unfolding groupWords listWords
 length-group G = simp (length-append, length-pad)
 
 -- what stands at the record of a group, word by word
@@ -131,15 +131,15 @@ pub record GroupStands (m : List ℕ) (a : ℕ) (G : Group) : Type 0 where
   pub descriptor : Stands m (a + descriptorOffset) (G .descriptor)
   pub descriptor-zero : zeroAt m (a + descriptorOffset + length (G .descriptor)) (wordLimit - length (G .descriptor)) ≡ true
   pub list : Stands m (a + listOffset) (G .buffer .frames)
-  pub list-zero : zeroAt m (a + listOffset + length (G .buffer .frames)) (paper01 .frames - length (G .buffer .frames)) ≡ true
+  pub list-zero : zeroAt m (a + listOffset + length (G .buffer .frames)) (pageCount paper01 - length (G .buffer .frames)) ≡ true
 
 -- what the memory test asks of the record of a group
 pub record GroupFits (m : List ℕ) (a : ℕ) : Type 0 where
   pub atomic : word m (a + atomicOffset) ≤ 1
   pub pending : word m (a + pendingOffset) ≤ 1
-  pub held : word m (a + heldOffset) ≤ paper01 .frames
+  pub held : word m (a + heldOffset) ≤ pageCount paper01
   pub described : word m (a + describedOffset) ≤ wordLimit
-  pub list-zero : zeroAt m (a + listOffset + word m (a + heldOffset)) (paper01 .frames - word m (a + heldOffset)) ≡ true
+  pub list-zero : zeroAt m (a + listOffset + word m (a + heldOffset)) (pageCount paper01 - word m (a + heldOffset)) ≡ true
   pub descriptor-zero : zeroAt m (a + descriptorOffset + word m (a + describedOffset)) (wordLimit - word m (a + describedOffset)) ≡ true
 
 -- a flag is read from its word, and its word is at most 1
@@ -157,11 +157,11 @@ flag-word (suc (suc w)) h = absurd (omega arith)
 
 module _ (m : List ℕ) (a : ℕ) where
   -- a group whose lists fit stands word by word
-  pub group-stands : (G : Group) → length (G .descriptor) ≤ wordLimit → length (G .buffer .frames) ≤ paper01 .frames
+  pub group-stands : (G : Group) → length (G .descriptor) ≤ wordLimit → length (G .buffer .frames) ≤ pageCount paper01
       → Stands m a (groupWords G) ↔ GroupStands m a G
-  unfolding groupWords lineWords
+  unfolding groupWords listWords
   group-stands G h l =
-      let both = stands-append m (a + 6) (pad wordLimit (G .descriptor)) (lineWords (G .buffer .frames)) in
+      let both = stands-append m (a + 6) (pad wordLimit (G .descriptor)) (listWords (G .buffer .frames)) in
       let e : a + 6 + 8 ≡ a + 14 = omega arith in
       simp (stands-cons, next-address, both, length-pad, e, pad-stands) (
         λ k.
@@ -184,7 +184,7 @@ module _ (m : List ℕ) (a : ℕ) where
       )
 
   -- a group that stands at an address is read there, and its words pass the test
-  pub read-group : (G : Group) → length (G .descriptor) ≤ wordLimit → length (G .buffer .frames) ≤ paper01 .frames
+  pub read-group : (G : Group) → length (G .descriptor) ≤ wordLimit → length (G .buffer .frames) ≤ pageCount paper01
       → concatMap (framePlaces m) (G .buffer .frames) ≡ G .buffer .places → Stands m a (groupWords G) → (groupAt m a ≡ G) × GroupFits m a
   unfolding groupAt bufferAt listAt flagAt
   read-group G h l e s =

@@ -1,7 +1,7 @@
 -- What is written by the memory map is read back: where the map of a valid node stands in a memory, the memory holds that node, and its words
--- fit. The map is four numbers and four regions, each of a fixed length, so each stands at its own address; a region is records of a fixed
--- length, and each record is read back by its own law. The free line and the groups are read last, for their frames' places are read from
--- the frames' region. Assumes nothing.
+-- fit. The map is four numbers and five regions, each of a fixed length, so each stands at its own address; a region is records of a fixed
+-- length, and each record is read back by its own law. The free line, the swap line and the groups are read last, for the places of their
+-- frames and swap pages are read from the frames' region. Assumes nothing.
 use Prim.Native.Nat.{ℕ, _+_, _-_, _*_, _≤_, _<_}
 use mathlib.Core.Path.{_≡_, ap, _∙_}
 use mathlib.Core.Logic.{_↔_, Iff·rfl}
@@ -10,11 +10,12 @@ use mathlib.Core.List.{List, _∷_, _++_, map}
 use native.Mathlib.Omega.{arith}
 use lib.ListN.{length, length-append, length-map}
 use Rattle.rules.specs.Lists.{Every, concatMap, upFrom}
-use Rattle.rules.specs.Build.{paper01, groupCount, wordLimit}
-use Rattle.rules.specs.Node.{Message, Group, Node}
-use Rattle.rules.specs.Valid.{GoodMessage, GoodPlace, frameNumber, frameList, frameNumbers}
-use Rattle.rules.specs.Memory.{runningAt, timerAt, queuedAt, freeCountAt, queueAt, queueStride, freeAt, groupsAt, groupStride, framesAt, frameStride, size}
-use Rattle.rules.specs.Memory.{word, wordsAt, messageWords, queueWords, lineWords, groupWords, placeWords, frameWords, words, framesOf, placesOf, allFrames, messagesAt, framePlaces, frameAt, frameAddress, groupsFrom, nodeAt}
+use Rattle.rules.specs.Build.{paper01, pageCount, groupCount, wordLimit}
+use Rattle.rules.specs.Node.{Message, Frame, Group, Node}
+use Rattle.rules.specs.Valid.{GoodMessage, GoodPlace, frameNumber, frameList, idle, frameNumbers}
+use Rattle.rules.specs.Paging.{framesOf, placesOf}
+use Rattle.rules.specs.Memory.{runningAt, timerAt, queuedAt, freeCountAt, queueAt, queueStride, freeAt, groupsAt, groupStride, framesAt, frameStride, pagingAt, size}
+use Rattle.rules.specs.Memory.{word, wordsAt, messageWords, queueWords, lineWords, groupWords, placeWords, frameWords, pagingWords, words, allFrames, messagesAt, framePlaces, frameAt, frameAddress, groupsFrom, pagingFrom, nodeAt}
 use Rattle.rules.specs.MemoryTest.{zeroAt}
 use Rattle.rules.proofs.Steps.EveryLaws.{every-of, every-at, every-append, every-concat, every-upFrom}
 use Rattle.rules.proofs.Steps.ListLaws.{length-parts, part-short, length-pad}
@@ -22,21 +23,22 @@ use Rattle.rules.specs.Sound.{WholeGroup, Mapped}
 use Rattle.rules.proofs.Map.MapWords.{Stands, stands-cons, stands-append, pad-stands, parts-stand, wordsAt-stands, read-records}
 use Rattle.rules.proofs.Map.MapParts.{messages, places, groups, length-message, length-place, length-group, read-message, read-place, read-group, MessageFits, GroupFits}
 use Rattle.rules.proofs.Map.MapFrames.{numbers-bounded, each-found, found-good, length-frame, places-from, frames-at}
+use Rattle.rules.proofs.Map.MapPaging.{length-paging, read-paging, PagingFits}
 use Rattle.rules.proofs.Map.MapTest.{Fits}
 
--- four numbers and four lists of these lengths fill the node's size
-regions-length : (a b c d : ℕ) (q l g f : List ℕ) → length q ≡ 160 → length l ≡ 32 → length g ≡ 368 → length f ≡ 2304
-    → length (a ∷ b ∷ c ∷ d ∷ q ++ (l ++ (g ++ f))) ≡ size
-regions-length a b c d q l g f eq el eg ef = simp (length-append, eq, el, eg, ef)
+-- four numbers and five lists of these lengths fill the node's size
+regions-length : (a b c d : ℕ) (q l g f p : List ℕ) → length q ≡ 160 → length l ≡ 32 → length g ≡ 880 → length f ≡ 6912 → length p ≡ 100
+    → length (a ∷ b ∷ c ∷ d ∷ q ++ (l ++ (g ++ (f ++ p)))) ≡ size
+regions-length a b c d q l g f p eq el eg ef ep = simp (length-append, eq, el, eg, ef, ep)
 
 -- and stand each at its own address
-regions-stand : (m : List ℕ) (a b c d : ℕ) (q l g f : List ℕ) → length q ≡ 160 → length l ≡ 32 → length g ≡ 368
-    → Stands m 0 (a ∷ b ∷ c ∷ d ∷ q ++ (l ++ (g ++ f)))
+regions-stand : (m : List ℕ) (a b c d : ℕ) (q l g f p : List ℕ) → length q ≡ 160 → length l ≡ 32 → length g ≡ 880 → length f ≡ 6912
+    → Stands m 0 (a ∷ b ∷ c ∷ d ∷ q ++ (l ++ (g ++ (f ++ p))))
     ↔ ((word m 0 ≡ a) × ((word m 1 ≡ b) × ((word m 2 ≡ c) × ((word m 3 ≡ d)
-    × (Stands m 4 q × (Stands m 164 l × (Stands m 196 g × Stands m 564 f)))))))
-regions-stand m a b c d q l g f eq el eg =
-    let both = stands-append m 4 q (l ++ (g ++ f)) in
-    simp (stands-cons, both, stands-append, eq, el, eg) Iff·rfl
+    × (Stands m 4 q × (Stands m 164 l × (Stands m 196 g × (Stands m 1076 f × Stands m 7988 p))))))))
+regions-stand m a b c d q l g f p eq el eg ef =
+    let both = stands-append m 4 q (l ++ (g ++ (f ++ p))) in
+    simp (stands-cons, both, stands-append, eq, el, eg, ef) Iff·rfl
 
 -- what stands where in the map of a node
 pub record MapStands (m : List ℕ) (n : Node) : Type 0 where
@@ -47,7 +49,8 @@ pub record MapStands (m : List ℕ) (n : Node) : Type 0 where
   pub queue : Stands m queueAt (queueWords (n .queue))
   pub free : Stands m freeAt (lineWords (map frameNumber (n .free)))
   pub groups : Stands m groupsAt (concatMap groupWords (n .groups))
-  pub frames : Stands m framesAt (concatMap (frameWords (allFrames n)) (upFrom 0 (paper01 .frames)))
+  pub frames : Stands m framesAt (concatMap (frameWords (allFrames n)) (upFrom 0 (pageCount paper01)))
+  pub paging : Stands m pagingAt (pagingWords (n .paging))
 
 -- the queue has room for 16 messages
 pub length-queue : (q : List Message) → length (queueWords q) ≡ 160
@@ -59,20 +62,26 @@ pub length-line : (fs : List ℕ) → length (lineWords fs) ≡ 32
 unfolding lineWords
 length-line fs = length-pad (paper01 .frames) fs
 
--- and eight groups have 46 words each
-length-groups : (Gs : List Group) → length Gs ≡ groupCount → length (concatMap groupWords Gs) ≡ 368
+-- and eight groups have 110 words each
+length-groups : (Gs : List Group) → length Gs ≡ groupCount → length (concatMap groupWords Gs) ≡ 880
 length-groups Gs e = length-parts groupWords groupStride Gs (every-of _ Gs (λ G h. length-group G)) ∙ ap (λ (k : ℕ). groupStride * k) e
 
-module _ (n : Node) (e : length (n .groups) ≡ groupCount) where
-  -- the map of a node with eight groups stands part by part
+module _ (n : Node) (v : Mapped n) where
+  -- and 96 frames and swap pages have 72 words each
+  length-frames : length (concatMap (frameWords (allFrames n)) (upFrom 0 (pageCount paper01))) ≡ 6912
+  length-frames =
+      length-parts (frameWords (allFrames n)) frameStride (upFrom 0 (pageCount paper01))
+      (every-upFrom _ 0 (pageCount paper01) (λ f l h. length-frame n v f h))
+
+  -- the map of a node stands part by part
   pub map-stands : (m : List ℕ) → Stands m 0 (words n) ↔ MapStands m n
   unfolding words
   map-stands m =
       let r =
       regions-stand m (n .running) (n .timer) (length (n .queue)) (length (n .free)) (queueWords (n .queue))
       (lineWords (map frameNumber (n .free))) (concatMap groupWords (n .groups))
-      (concatMap (frameWords (allFrames n)) (upFrom 0 (paper01 .frames)))
-      (length-queue (n .queue)) (length-line (map frameNumber (n .free))) (length-groups (n .groups) e) in (
+      (concatMap (frameWords (allFrames n)) (upFrom 0 (pageCount paper01))) (pagingWords (n .paging))
+      (length-queue (n .queue)) (length-line (map frameNumber (n .free))) (length-groups (n .groups) (v .group-count)) length-frames in (
         λ h.
             let k = r .0 h in
             record {
@@ -83,30 +92,30 @@ module _ (n : Node) (e : length (n .groups) ≡ groupCount) where
               queue = k .1 .1 .1 .1 .0;
               free = k .1 .1 .1 .1 .1 .0;
               groups = k .1 .1 .1 .1 .1 .1 .0;
-              frames = k .1 .1 .1 .1 .1 .1 .1;
+              frames = k .1 .1 .1 .1 .1 .1 .1 .0;
+              paging = k .1 .1 .1 .1 .1 .1 .1 .1;
             },
-        λ k. r .1 (k .running, (k .timer, (k .queued, (k .free-count, (k .queue, (k .free, (k .groups, k .frames))))))),
+        λ k. r .1 (k .running, (k .timer, (k .queued, (k .free-count, (k .queue, (k .free, (k .groups, (k .frames, k .paging)))))))),
       )
 
--- the map of a valid node has the node's size
-pub words-length : (n : Node) → Mapped n → length (words n) ≡ size
-unfolding words
-words-length n v =
-    regions-length (n .running) (n .timer) (length (n .queue)) (length (n .free)) (queueWords (n .queue))
-    (lineWords (map frameNumber (n .free))) (concatMap groupWords (n .groups))
-    (concatMap (frameWords (allFrames n)) (upFrom 0 (paper01 .frames)))
-    (length-queue (n .queue)) (length-line (map frameNumber (n .free))) (length-groups (n .groups) (v .group-count))
-    (length-parts (frameWords (allFrames n)) frameStride (upFrom 0 (paper01 .frames))
-    (every-upFrom _ 0 (paper01 .frames) (λ f l h. length-frame n v f h)))
+  -- and has the node's size
+  pub words-length : length (words n) ≡ size
+  unfolding words
+  words-length =
+      regions-length (n .running) (n .timer) (length (n .queue)) (length (n .free)) (queueWords (n .queue))
+      (lineWords (map frameNumber (n .free))) (concatMap groupWords (n .groups))
+      (concatMap (frameWords (allFrames n)) (upFrom 0 (pageCount paper01))) (pagingWords (n .paging))
+      (length-queue (n .queue)) (length-line (map frameNumber (n .free))) (length-groups (n .groups) (v .group-count)) length-frames
+      (length-paging (n .paging))
 
 -- The node is read back from its map.
 
 module _ (m : List ℕ) (n : Node) (v : Mapped n) (s : MapStands m n) where
   -- the frame of each number
-  frame-read : (f : ℕ) → f < paper01 .frames → framePlaces m f ≡ placesOf f (allFrames n)
+  frame-read : (f : ℕ) → f < pageCount paper01 → framePlaces m f ≡ placesOf f (allFrames n)
   unfolding framePlaces frameAddress frameWords
   frame-read f h =
-      let parts = parts-stand m (frameWords (allFrames n)) framesAt frameStride 0 (paper01 .frames) (λ j l k. length-frame n v j k) in
+      let parts = parts-stand m (frameWords (allFrames n)) framesAt frameStride 0 (pageCount paper01) (λ j l k. length-frame n v j k) in
       let good = found-good n v f h in
       let read = read-records (places m) m placeWords (λ a. Unit {0}) GoodPlace length-place (λ a p g k. (read-place m a p g k, tt)) in
       rw (good .0) at
@@ -116,40 +125,33 @@ module _ (m : List ℕ) (n : Node) (v : Mapped n) (s : MapStands m n) where
   frames-read : Every (λ x. framePlaces m (x .number) ≡ x .places) (allFrames n)
   frames-read =
       every-of _ (allFrames n) (λ x h.
-      frame-read (x .number) (every-at (λ y. y .number < paper01 .frames) (numbers-bounded n v) h)
+      frame-read (x .number) (every-at (λ y. y .number < pageCount paper01) (numbers-bounded n v) h)
       ∙ every-at (λ y. placesOf (y .number) (allFrames n) ≡ y .places) (each-found n v) h)
 
-  -- in the free line
-  free-read : map (frameAt m) (map frameNumber (n .free)) ≡ n .free
-  unfolding allFrames
-  free-read = frames-at m (n .free) (every-append _ (n .free) (concatMap framesOf (n .groups)) .0 frames-read .0)
+  -- in the two lines
+  idle-read : Every (λ x. framePlaces m (x .number) ≡ x .places) (n .free) × Every (λ x. framePlaces m (x .number) ≡ x .places) (n .paging .swap)
+  unfolding allFrames idle
+  idle-read =
+      let P : Frame → Type 0 = λ x. framePlaces m (x .number) ≡ x .places in
+      every-append P (n .free) (n .paging .swap) .0 (every-append P (idle n) (concatMap (framesOf paper01) (n .groups)) .0 frames-read .0)
 
   -- and in each group
   groups-read : Every (λ G. concatMap (framePlaces m) (G .buffer .frames) ≡ G .buffer .places) (n .groups)
   unfolding allFrames framesOf
   groups-read =
       let each =
-      every-concat (λ x. framePlaces m (x .number) ≡ x .places) framesOf (n .groups) .0
-      (every-append _ (n .free) (concatMap framesOf (n .groups)) .0 frames-read .1) in
+      every-concat (λ x. framePlaces m (x .number) ≡ x .places) (framesOf paper01) (n .groups) .0
+      (every-append _ (idle n) (concatMap (framesOf paper01) (n .groups)) .0 frames-read .1) in
       every-of _ (n .groups) (λ G h.
       places-from (framePlaces m) (G .buffer .frames) (G .buffer .places) (every-at WholeGroup (v .groups-whole) h .whole)
-      (every-at (λ G. Every (λ x. framePlaces m (x .number) ≡ x .places) (framesOf G)) each h))
+      (every-at (λ G. Every (λ x. framePlaces m (x .number) ≡ x .places) (framesOf paper01 G)) each h))
 
-  -- the free line is no longer than the frames are many
-  free-short : length (n .free) ≤ paper01 .frames
-  unfolding frameNumbers
-  free-short =
-      let all = v .frames-all in
-      let e = length-append (map frameNumber (n .free)) (concatMap frameList (n .groups)) in
-      let l = length-map (n .free) frameNumber in
-      omega arith
-
-  -- nor is a group's list
-  lists-short : Every (λ G. length (G .buffer .frames) ≤ paper01 .frames) (n .groups)
+  -- a group's list is no longer than the frames and swap pages are many
+  lists-short : Every (λ G. length (G .buffer .frames) ≤ pageCount paper01) (n .groups)
   unfolding frameNumbers frameList
   lists-short =
       let all = v .frames-all in
-      let e = length-append (map frameNumber (n .free)) (concatMap frameList (n .groups)) in
+      let e = length-append (map frameNumber (idle n)) (concatMap frameList (n .groups)) in
       every-of _ (n .groups) (λ G h. let l = part-short frameList h in omega arith)
 
   -- the queue
@@ -174,7 +176,7 @@ module _ (m : List ℕ) (n : Node) (v : Mapped n) (s : MapStands m n) where
   unfolding lineWords
   line-read =
       let l = length-map (n .free) frameNumber in
-      let k = pad-stands m freeAt (paper01 .frames) (map frameNumber (n .free)) (rw l free-short) .0 (s .free) in
+      let k = pad-stands m freeAt (paper01 .frames) (map frameNumber (n .free)) (rw l (v .free-short)) .0 (s .free) in
       (wordsAt-stands m freeAt (length (n .free)) (map frameNumber (n .free)) l (k .0), rw l at (k .1))
 
   -- the groups
@@ -184,30 +186,37 @@ module _ (m : List ℕ) (n : Node) (v : Mapped n) (s : MapStands m n) where
       (read-records (groups m) m groupWords (GroupFits m)
       (λ G.
       (length (G .descriptor) ≤ wordLimit)
-      × ((length (G .buffer .frames) ≤ paper01 .frames) × (concatMap (framePlaces m) (G .buffer .frames) ≡ G .buffer .places)))
+      × ((length (G .buffer .frames) ≤ pageCount paper01) × (concatMap (framePlaces m) (G .buffer .frames) ≡ G .buffer .places)))
       (λ G g. length-group G) (λ a G g. read-group m a G (g .0) (g .1 .0) (g .1 .1)) (n .groups)
       (every-of _ (n .groups) (λ G h. (
         every-at WholeGroup (v .groups-whole) h .descriptor,
         (
-          every-at (λ G. length (G .buffer .frames) ≤ paper01 .frames) lists-short h,
+          every-at (λ G. length (G .buffer .frames) ≤ pageCount paper01) lists-short h,
           every-at (λ G. concatMap (framePlaces m) (G .buffer .frames) ≡ G .buffer .places) groups-read h,
         ),
       )))
       groupsAt (s .groups))
+
+  -- swap space and the order of entry
+  paging-read : (pagingFrom m ≡ n .paging) × PagingFits m
+  paging-read =
+      read-paging m (n .paging) (v .swap-short) (v .entered-short) (frames-at m (n .paging .swap) (idle-read .1)) (s .paging)
 
   -- the node, and the words pass the test
   pub read : (nodeAt m ≡ n) × Fits m
   unfolding nodeAt
   read =
       let queue : messagesAt m queueAt (word m queuedAt) ≡ n .queue = rw (s .queued) (queue-read .0 .0) in
-      let free : map (frameAt m) (wordsAt m freeAt (word m freeCountAt)) ≡ n .free = rw (s .free-count, line-read .0) free-read in (
-        λ i. record { running = s .running i; timer = s .timer i; queue = queue i; free = free i; groups = group-records .0 i },
+      let free : map (frameAt m) (wordsAt m freeAt (word m freeCountAt)) ≡ n .free =
+      rw (s .free-count, line-read .0) (frames-at m (n .free) (idle-read .0)) in (
+        λ i. record { running = s .running i; timer = s .timer i; queue = queue i; free = free i; paging = paging-read .0 i; groups = group-records .0 i },
         record {
           queued = rw (s .queued) (v .queue-length);
-          free = rw (s .free-count) free-short;
+          free = rw (s .free-count) (v .free-short);
           messages = rw (s .queued) (queue-read .0 .1);
           groups = group-records .1;
           queue-zero = rw (s .queued) (queue-read .1);
           free-zero = rw (s .free-count) (line-read .1);
+          paging = paging-read .1;
         },
       )

@@ -10,11 +10,13 @@ use lib.ListN.{length}
 use Rattle.rules.specs.Lists.{all, upFrom}
 use Rattle.rules.specs.Build.{paper01, groupCount}
 use Rattle.rules.specs.Valid.{Valid}
-use Rattle.rules.specs.Memory.{queuedAt, freeCountAt, queueAt, queueStride, freeAt, groupsAt, groupStride, size}
+use Rattle.rules.specs.Memory.{queuedAt, freeCountAt, queueAt, queueStride, freeAt, groupsAt, groupStride, swapCountAt, enteredCountAt, size}
 use Rattle.rules.specs.Memory.{word, groupAddress, nodeAt}
-use Rattle.rules.specs.MemoryTest.{zeroAt, lengthInBounds, groupCounts, countsInBounds, groupFlags, flagsAreFlags, queueUnused, freeUnused, groupUnused, messageUnused, unusedAreZero, memoryTests, isMemory}
+use Rattle.rules.specs.MemoryTest.{zeroAt, lengthInBounds, groupCounts, countsInBounds, groupFlags, flagsAreFlags, queueUnused, freeUnused, swapUnused, enteredUnused, groupUnused, messageUnused, unusedAreZero, memoryTests, isMemory}
+use Rattle.rules.proofs.Steps.SoundLaws.{paper-sensible}
 use Rattle.rules.proofs.Map.TestLaws.{leb-tells, range-tells, passes-every, isNode-valid, valid-isNode}
 use Rattle.rules.proofs.Map.MapParts.{MessageFits, GroupFits}
+use Rattle.rules.proofs.Map.MapPaging.{PagingFits}
 
 -- what the memory test asks of the words, apart from the size and the node that they hold
 pub record Fits (m : List ℕ) : Type 0 where
@@ -24,6 +26,7 @@ pub record Fits (m : List ℕ) : Type 0 where
   pub groups : (i : ℕ) → i < groupCount → GroupFits m (groupsAt + groupStride * i)
   pub queue-zero : zeroAt m (queueAt + queueStride * word m queuedAt) (queueStride * (paper01 .places - word m queuedAt)) ≡ true
   pub free-zero : zeroAt m (freeAt + word m freeCountAt) (paper01 .frames - word m freeCountAt) ≡ true
+  pub paging : PagingFits m
 
 -- two tests tell two facts
 and-tells : {a b : Bool} {P Q : Type 0} → ((a ≡ true) ↔ P) → ((b ≡ true) ↔ Q) → (a && b ≡ true) ↔ (P × Q)
@@ -92,20 +95,26 @@ module _ (m : List ℕ) where
   counts-tell : (countsInBounds m ≡ true)
       ↔ ((word m queuedAt ≤ paper01 .places)
       × ((word m freeCountAt ≤ paper01 .frames)
-      × ((all (groupCounts m) (upFrom 1 groupCount) ≡ true) × (all (lengthInBounds m) (upFrom 0 (word m queuedAt)) ≡ true))))
+      × ((word m swapCountAt ≤ paper01 .swap)
+      × ((word m enteredCountAt ≤ paper01 .frames)
+      × ((all (groupCounts m) (upFrom 1 groupCount) ≡ true) × (all (lengthInBounds m) (upFrom 0 (word m queuedAt)) ≡ true))))))
   unfolding countsInBounds
-  counts-tell = and-tells (leb-tells _ _) (and-tells (leb-tells _ _) (and-tells Iff·rfl Iff·rfl))
+  counts-tell =
+      and-tells (leb-tells _ _) (and-tells (leb-tells _ _) (and-tells (leb-tells _ _) (and-tells (leb-tells _ _) (and-tells Iff·rfl Iff·rfl))))
 
   -- the clauses on unused words
   unused-tells : (unusedAreZero m ≡ true)
       ↔ ((queueUnused m ≡ true)
-      × ((freeUnused m ≡ true) × ((all (groupUnused m) (upFrom 1 groupCount) ≡ true) × (all (messageUnused m) (upFrom 0 (word m queuedAt)) ≡ true))))
+      × ((freeUnused m ≡ true)
+      × ((swapUnused m ≡ true)
+      × ((enteredUnused m ≡ true)
+      × ((all (groupUnused m) (upFrom 1 groupCount) ≡ true) × (all (messageUnused m) (upFrom 0 (word m queuedAt)) ≡ true))))))
   unfolding unusedAreZero
-  unused-tells = and-tells Iff·rfl (and-tells Iff·rfl (and-tells Iff·rfl Iff·rfl))
+  unused-tells = and-tells Iff·rfl (and-tells Iff·rfl (and-tells Iff·rfl (and-tells Iff·rfl (and-tells Iff·rfl Iff·rfl))))
 
   -- the memory passes the test where it is large enough, fits, and holds a valid node
   pub memory-fits : (isMemory m ≡ true) ↔ ((size ≤ length m) × (Fits m × Valid paper01 (nodeAt m)))
-  unfolding isMemory memoryTests flagsAreFlags queueUnused freeUnused
+  unfolding isMemory memoryTests flagsAreFlags queueUnused freeUnused swapUnused enteredUnused
   memory-fits = (
     λ h.
         let t = passes-every memoryTests m .0 h in
@@ -116,26 +125,34 @@ module _ (m : List ℕ) where
             record {
               queued = counts .0;
               free = counts .1 .0;
-              messages = messages-fit .0 (counts .1 .1 .1, unused .1 .1 .1);
-              groups = groups-fit .0 (counts .1 .1 .0, (t .1 .1 .0, unused .1 .1 .0));
+              messages = messages-fit .0 (counts .1 .1 .1 .1 .1, unused .1 .1 .1 .1 .1);
+              groups = groups-fit .0 (counts .1 .1 .1 .1 .0, (t .1 .1 .0, unused .1 .1 .1 .1 .0));
               queue-zero = unused .0;
               free-zero = unused .1 .0;
+              paging =
+                  record {
+                    swap = counts .1 .1 .0;
+                    entered = counts .1 .1 .1 .0;
+                    swap-zero = unused .1 .1 .0;
+                    entered-zero = unused .1 .1 .1 .0;
+                  };
             },
-            isNode-valid paper01 (nodeAt m) (t .1 .1 .1 .1 .0),
+            isNode-valid paper01 (nodeAt m) paper-sensible (t .1 .1 .1 .1 .0),
           ),
         ),
     λ h.
         let f = h .1 .0 in
         let messages = messages-fit .1 (f .messages) in
         let groups = groups-fit .1 (f .groups) in
+        let p = f .paging in
         passes-every memoryTests m .1 (
           leb-tells size (length m) .1 (h .0),
           (
-            counts-tell .1 (f .queued, (f .free, (groups .0, messages .0))),
+            counts-tell .1 (f .queued, (f .free, (p .swap, (p .entered, (groups .0, messages .0))))),
             (
               groups .1 .0,
               (
-                unused-tells .1 (f .queue-zero, (f .free-zero, (groups .1 .1, messages .1))),
+                unused-tells .1 (f .queue-zero, (f .free-zero, (p .swap-zero, (p .entered-zero, (groups .1 .1, messages .1))))),
                 (valid-isNode paper01 (nodeAt m) (h .1 .1), tt),
               ),
             ),

@@ -1,7 +1,6 @@
 -- A run over memory is the run over nodes, seen through the map: each step reads the node that the last one wrote, and the words past the
 -- node's size stay. Assumes nothing.
 use Prim.Native.Nat.{ℕ, _≤_}
-use native.Mathlib.Omega.{arith}
 use mathlib.Core.Path.{_≡_, refl, ap, _∙_}
 use mathlib.Core.Bool.{true}
 use mathlib.Core.List.{List, [], _∷_, _++_}
@@ -9,7 +8,7 @@ use borrow.Author.Tests.{le-leb}
 use lib.Dec.{leb}
 use lib.ListN.{length, drop}
 use lib.Seq.{drop-at}
-use Rattle.rules.specs.Build.{Sensible, paper01}
+use Rattle.rules.specs.Build.{paper01}
 use Rattle.rules.specs.Node.{Node, powerOn}
 use Rattle.rules.specs.Operation.{Operation}
 use Rattle.rules.specs.Step.{Stepped, step}
@@ -17,14 +16,11 @@ use Rattle.rules.specs.Memory.{runningAt, size, words, word, nodeAt}
 use Rattle.rules.specs.MemoryTest.{isMemory, MemoryStep, replaced, stepMemory, powerOnMemory}
 use Rattle.rules.specs.Run.{Input, asked, play, run, PlayedMemory, playMemory, runMemory}
 use Rattle.rules.specs.Valid.{Valid}
+pub use Rattle.rules.proofs.Steps.SoundLaws.{paper-sensible}
 use Rattle.rules.proofs.Steps.SoundLaws.{valid-mapped}
 use Rattle.rules.proofs.Map.MapRead.{words-length}
 use Rattle.rules.proofs.Map.MapLaws.{read-back, test-written}
 use Rattle.rules.proofs.Steps.StepLaws.{power-on-valid, step-valid}
-
--- paper 01's build makes sense
-pub paper-sensible : Sensible paper01
-paper-sensible = record { frames = omega arith; perFrame = omega arith; places = omega arith; timeout = omega arith }
 
 -- what stands behind a node's words
 pub rest-of : (n : Node) (rest : List ℕ) → Valid paper01 n → drop size (words n ++ rest) ≡ rest

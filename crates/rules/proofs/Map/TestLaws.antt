@@ -11,11 +11,12 @@ use native.Mathlib.Nat.{eq-or-lt-of-le}
 use lib.Dec.{leb, ltb, eqb}
 use borrow.Author.Tests.{leb-true, ltb-true, eqb-true, le-leb, lt-ltb, eq-eqb, eqb-false, ne-eqb, not-true}
 use Rattle.rules.specs.Lists.{all, Every, passes, isEmpty, countOf, upFrom}
-use Rattle.rules.specs.Build.{Build, groupCount}
+use Rattle.rules.specs.Build.{Build, Sensible, groupCount}
 use Rattle.rules.specs.Node.{Message, Place, Frame, Buffer, Group, Node, groupOf, line}
+use Rattle.rules.specs.Paging.{inFrame}
 use Rattle.rules.specs.Settling.{mayStay}
-use Rattle.rules.specs.Valid.{Zero, GoodMessage, GoodPlace, GoodWaiting, GoodFrame, GoodBuffer, GoodGroup, Valid, frameNumbers}
-use Rattle.rules.specs.Valid.{isMessage, isPlace, isWaiting, isFrame, isBuffer, isGroup, pendingHasLine, runnerAtomic, headStays, standsOnce, nodeTests, isNode}
+use Rattle.rules.specs.Valid.{Zero, GoodMessage, GoodPlace, GoodWaiting, GoodFrame, GoodBuffer, GoodGroup, IsSwap, FirstInFrame, Valid}
+use Rattle.rules.specs.Valid.{isMessage, isPlace, isWaiting, isFrame, isBuffer, isGroup, pendingHasLine, runnerAtomic, headStays, isSwap, firstInFrame, runnerInFrame, standsOnce, nodeTests, isNode}
 
 -- Tests in general.
 
@@ -146,13 +147,23 @@ module _ (b : Build) where
   groups-tell : (Gs : List Group) → (all (isGroup b) Gs ≡ true) ↔ Every (GoodGroup b) Gs
   groups-tell = all-every (isGroup b) (GoodGroup b) group-tells
 
--- each frame stands once
-once-tells : (b : Build) (n : Node)
-    → (all (standsOnce (frameNumbers n)) (upFrom 0 (b .frames)) ≡ true) ↔ ((f : ℕ) → f < b .frames → countOf f (frameNumbers n) ≡ 1)
+  -- swap pages
+  swaps-tell : (ss : List Frame) → (all (isSwap b) ss ≡ true) ↔ Every (IsSwap b) ss
+  unfolding isSwap
+  swaps-tell = all-every (isSwap b) (IsSwap b) (λ s. leb-tells (b .frames) (s .number))
+
+  -- the first page of a list
+  first-tells : (ps : List ℕ) → (firstInFrame b ps ≡ true) ↔ FirstInFrame b ps
+  unfolding firstInFrame inFrame
+  first-tells [] = (λ e. tt, λ u. refl)
+  first-tells (p ∷ ps) = ltb-tells p (b .frames)
+
+-- each of the k first numbers stands once
+once-tells : (fs : List ℕ) (k : ℕ) → (all (standsOnce fs) (upFrom 0 k) ≡ true) ↔ ((f : ℕ) → f < k → countOf f fs ≡ 1)
 unfolding standsOnce
-once-tells b n =
-    let t = range-tells (standsOnce (frameNumbers n)) 0 (b .frames) in
-    (λ e f h. eqb-true _ 1 (t .0 e f (omega arith) (omega arith)), λ k. t .1 (λ f l h. eq-eqb _ 1 (k f (omega arith))))
+once-tells fs k =
+    let t = range-tells (standsOnce fs) 0 k in
+    (λ e f h. eqb-true _ 1 (t .0 e f (omega arith) (omega arith)), λ o. t .1 (λ f l h. eq-eqb _ 1 (o f (omega arith))))
 
 -- pending only with a line
 pending-tells : (n : Node)
@@ -171,6 +182,11 @@ runner-tells : (n : Node)
 unfolding runnerAtomic
 runner-tells n = simp (or-tells, zero-tells) Iff·rfl
 
+-- a running group's first page is in a frame
+resident-tells : (b : Build) (n : Node) → (runnerInFrame b n ≡ true) ↔ (1 ≤ n .running → FirstInFrame b (groupOf n (n .running) .buffer .frames))
+unfolding runnerInFrame
+resident-tells b n = simp (or-tells, zero-tells, first-tells) Iff·rfl
+
 -- the head of the queue may stay, and without one the timer is 0
 head-tells : (n : Node) (q : List Message)
     → (headStays q n ≡ true) ↔ (((m : Message) (r : List Message) → q ≡ m ∷ r → mayStay n m ≡ true) × (q ≡ [] → n .timer ≡ 0))
@@ -180,42 +196,16 @@ head-tells n (x ∷ xs) =
     (λ e. (λ m r p. rw (head-eq-of-cons-eq p) at e, λ p. absurd (nil≢cons (sym p))), λ h. h .0 x xs refl)
 
 ruleset node-facts =
-    (passes-every, pending-tells, once-tells, runner-tells, head-tells, messages-tell, groups-tell, frames-tell, leb-tells, ltb-tells, eqb-tells)
+    (passes-every, pending-tells, once-tells, runner-tells, resident-tells, head-tells, messages-tell, groups-tell, frames-tell, swaps-tell, leb-tells, ltb-tells, eqb-tells)
 
--- what passes the tests is valid
-pub isNode-valid : (b : Build) (n : Node) → isNode b n ≡ true → Valid b n
+-- what passes the tests of a build that makes sense is valid
+pub isNode-valid : (b : Build) (n : Node) → Sensible b → isNode b n ≡ true → Valid b n
 unfolding isNode nodeTests
-isNode-valid b n h = let k = simp node-facts at h in search
+isNode-valid b n s h = let k = simp node-facts at h in search
 
 -- and what is valid passes them
 pub valid-isNode : (b : Build) (n : Node) → Valid b n → isNode b n ≡ true
 unfolding isNode nodeTests
 valid-isNode b n v =
-    simp node-facts (
-      v .running-bound,
-      (
-        v .timer-bound,
-        (
-          v .queue-length,
-          (
-            v .queue-good,
-            (
-              v .group-count,
-              (
-                v .groups-good,
-                (
-                  v .free-good,
-                  (
-                    v .frames-once,
-                    (
-                      v .frames-all,
-                      (v .pledged, (v .pending-line, (v .running-atomic, ((v .head-stays, v .timer-idle), tt)))),
-                    ),
-                  ),
-                ),
-              ),
-            ),
-          ),
-        ),
-      ),
-    )
+    simp node-facts
+    (search, (search, (search, (search, (search, (search, (search, (search, (v .frames-once, (search, (search, (v .entered-once, search))))))))))))

@@ -11,6 +11,7 @@ use lib.Dec.{eqb}
 use Rattle.rules.specs.Build.{Build, groupCount}
 use Rattle.rules.specs.Node.{Message, Node, groupOf, withRunning, withTimer, withQueue, inBuffer, inQueue, isOf, line}
 use Rattle.rules.specs.Operation.{Request, Operation, arrive, schedule, tick, user, unknown, Report, accepted, nobodyRuns, refused}
+use Rattle.rules.specs.Paging.{runnerResident}
 use Rattle.rules.specs.Refusal.{refusal, refuseRequest, queued}
 use Rattle.rules.specs.Settling.{settle, drain, upcall}
 use Rattle.rules.specs.Step.{Effect, Stepped, valued, scheduled, timedOut, ticks, serve, act, finish, step}
@@ -19,6 +20,7 @@ use Rattle.rules.specs.Run.{answerOf, answerTo}
 use Rattle.rules.specs.Valid.{Valid}
 use Rattle.rules.specs.Sound.{Sound}
 use Rattle.rules.proofs.Steps.SoundLaws.{flags-refl, valid-sound}
+use Rattle.rules.proofs.Steps.PagingLaws.{runner-repaged, runner-sound}
 use Rattle.rules.proofs.Steps.SettlingLaws.{settle-sound, drain-line, drain-flags, drain-running}
 use Rattle.rules.proofs.Steps.LineLaws.{arrive-line}
 use Rattle.rules.proofs.Steps.TickLaws.{Ticked, idle, counting, timeout, ticked-by}
@@ -27,7 +29,7 @@ use Rattle.rules.proofs.Steps.NodeLaws.{is-of, not-of}
 use Rattle.rules.proofs.Steps.ActLaws.{scheduled-cases, user-accepted}
 use Rattle.rules.proofs.Steps.StepLaws.{act-sound, step-cases}
 use Rattle.rules.proofs.Private.EventLaws.{refusal-answer}
-use Rattle.rules.proofs.Private.ViewLaws.{timer-view, nobody, called-quiet, view, view-same, settle-view, valid-quiet, upcall-named, upcall-view}
+use Rattle.rules.proofs.Private.ViewLaws.{timer-view, nobody, called-quiet, view, view-same, settle-view, repaged-view, valid-quiet, upcall-named, upcall-view}
 use Rattle.rules.proofs.Private.RequestLaws.{suc-zero}
 use Rattle.rules.proofs.Private.ServeLaws.{own-refused, serve-own, serve-other}
 
@@ -40,34 +42,40 @@ abbrev pub Agrees : ℕ → Node → Operation → Stepped → Type 0
 Agrees g n op s = hear g (view g n) (told g op (eqb (s .report .answer) accepted)) ≡ heardAs g n op (s .report) (s .node)
 
 -- settling and the upcall, as the group sees them
-pub finish-view : {b : Build} (e : Effect) → Sound b (e .node) → (g : ℕ) → 1 ≤ g → g ≤ groupCount → view g (finish e .node) ≡ called (view g (e .node))
+pub finish-view : {b : Build} (e : Effect) → Sound b (e .node) → (g : ℕ) → 1 ≤ g → g ≤ groupCount → view g (finish b e .node) ≡ called (view g (e .node))
 unfolding finish
-finish-view e s g lo hi = upcall-view (settle-sound s) g lo hi ∙ ap called (settle-view s g lo hi)
+finish-view {b} e s g lo hi =
+    let k = settle b (e .node) .node in
+    let paged = repaged-view (runner-repaged b k) g in
+    upcall-view (runner-sound (settle-sound s)) g lo hi ∙ ap called (paged ∙ settle-view s g lo hi)
 
 finish-named : {b : Build} (e : Effect) → Sound b (e .node) → (g : ℕ) → 1 ≤ g → g ≤ groupCount
-    → eqb (finish e .report .upcall) g ≡ isCalled (view g (e .node))
+    → eqb (finish b e .report .upcall) g ≡ isCalled (view g (e .node))
 unfolding finish
-finish-named e s g lo hi = upcall-named (settle (e .node) .node) g lo ∙ ap isCalled (settle-view s g lo hi)
+finish-named {b} e s g lo hi =
+    let k = settle b (e .node) .node in
+    let paged = repaged-view (runner-repaged b k) g in
+    upcall-named (runnerResident b k) g lo ∙ ap isCalled (paged ∙ settle-view s g lo hi)
 
 -- an accepted step that the group does not see leaves its view, and names it for no upcall
 unseen : {b : Build} {n : Node} → Valid b n → (e : Effect) → Sound b (e .node) → (g : ℕ) → 1 ≤ g → g ≤ groupCount
     → view g (e .node) ≡ view g n
-    → unheard (view g n) ≡ record { answers = []; upcall = eqb (finish e .report .upcall) g; line = view g (finish e .node) }
+    → unheard (view g n) ≡ record { answers = []; upcall = eqb (finish b e .report .upcall) g; line = view g (finish b e .node) }
 unfolding unheard
-unseen {n = n} v e s g lo hi same =
+unseen {b} {n} v e s g lo hi same =
     let quiet : isCalled (view g n) ≡ false = valid-quiet v g lo in
-    let up : false ≡ eqb (finish e .report .upcall) g = sym (finish-named e s g lo hi ∙ ap isCalled same ∙ quiet) in
-    let l : view g n ≡ view g (finish e .node) = sym (finish-view e s g lo hi ∙ ap called same ∙ called-quiet (view g n) quiet) in
+    let up : false ≡ eqb (finish b e .report .upcall) g = sym (finish-named e s g lo hi ∙ ap isCalled same ∙ quiet) in
+    let l : view g n ≡ view g (finish b e .node) = sym (finish-view e s g lo hi ∙ ap called same ∙ called-quiet (view g n) quiet) in
     λ i. record { answers = []; upcall = up i; line = l i }
 
 -- an accepted step that the group sees, and is not answered by
 seen : {b : Build} (e : Effect) → Sound b (e .node) → (g : ℕ) → 1 ≤ g → g ≤ groupCount → (xs : List Answer) (p : PrivateLine)
     → p ≡ view g (e .node)
-    → afterwards xs p ≡ record { answers = xs; upcall = eqb (finish e .report .upcall) g; line = view g (finish e .node) }
+    → afterwards xs p ≡ record { answers = xs; upcall = eqb (finish b e .report .upcall) g; line = view g (finish b e .node) }
 unfolding afterwards
-seen e s g lo hi xs p same =
-    let up : isCalled p ≡ eqb (finish e .report .upcall) g = ap isCalled same ∙ sym (finish-named e s g lo hi) in
-    let l : called p ≡ view g (finish e .node) = ap called same ∙ sym (finish-view e s g lo hi) in
+seen {b} e s g lo hi xs p same =
+    let up : isCalled p ≡ eqb (finish b e .report .upcall) g = ap isCalled same ∙ sym (finish-named e s g lo hi) in
+    let l : called p ≡ view g (finish b e .node) = ap called same ∙ sym (finish-view e s g lo hi) in
     λ i. record { answers = xs; upcall = up i; line = l i }
 
 -- A refused step.
@@ -155,18 +163,18 @@ pub tick-view : {b : Build} {n : Node} → Valid b n → (k g : ℕ) → 1 ≤ g
 unfolding valued timedOut withQueue
 tick-view {b} {n} v k g lo hi = go (ticked-by v k)
   where
-    drained : view g (drain (n .queue) n) ≡ view g n
-    drained = view-same g (drain (n .queue) n) n (drain-running (n .queue) n) (drain-flags (n .queue) n g) (drain-line (n .queue) n (valid-sound v) g lo hi)
+    drained : view g (drain b (n .queue) n) ≡ view g n
+    drained = view-same g (drain b (n .queue) n) n (drain-running b (n .queue) n) (drain-flags b (n .queue) n g) (drain-line (n .queue) n (valid-sound v) g lo hi)
 
     go : Ticked b k n → view g (ticks b k (valued 0 n) .node) ≡ view g n
     go (idle q e) = ap (λ (x : Effect). view g (x .node)) e
     go (counting q h e) = ap (λ (x : Effect). view g (x .node)) e ∙ timer-view g (n .timer + k) n
-    go (timeout q e) = ap (λ (x : Effect). view g (x .node)) e ∙ timer-view g 0 (drain (n .queue) n) ∙ drained
+    go (timeout q e) = ap (λ (x : Effect). view g (x .node)) e ∙ timer-view g 0 (drain b (n .queue) n) ∙ drained
 
 -- an accepted request: to the runner its answer and its effect, to the others nothing
 request-accepted : {b : Build} {n : Node} → Valid b n → (q : Request) → Sound b (serve b n q .node) → 1 ≤ n .running → refuseRequest n q ≡ 0
     → (g : ℕ) → 1 ≤ g → g ≤ groupCount
-    → hear g (view g n) (request q) ≡ heardAs g n (user q) (finish (serve b n q) .report) (finish (serve b n q) .node)
+    → hear g (view g n) (request q) ≡ heardAs g n (user q) (finish b (serve b n q) .report) (finish b (serve b n q) .node)
 unfolding hear answerTo view answered finish answerOf
 request-accepted {b} {n} v q s run e g lo hi = go (eqb (n .running) g) refl
   where
@@ -174,9 +182,9 @@ request-accepted {b} {n} v q s run e g lo hi = go (eqb (n .running) g) refl
     e′ = serve b n q
 
     after : List Answer → Heard
-    after xs = record { answers = xs; upcall = eqb (finish e′ .report .upcall) g; line = view g (finish e′ .node) }
+    after xs = record { answers = xs; upcall = eqb (finish b e′ .report .upcall) g; line = view g (finish b e′ .node) }
 
-    mine : n .running ≡ g → answered (own g (view g n) q) ≡ after (answerOf (finish e′ .report) ∷ [])
+    mine : n .running ≡ g → answered (own g (view g n) q) ≡ after (answerOf (finish b e′ .report) ∷ [])
     mine same =
         let mine-at : own g (view g n) q
         ≡ record { answer = record { number = accepted; value = e′ .value; sent = e′ .sent }; line = view g (e′ .node) } =
@@ -184,17 +192,17 @@ request-accepted {b} {n} v q s run e g lo hi = go (eqb (n .running) g) refl
         (λ (x : ℕ).
         own x (view x n) q ≡ record { answer = record { number = accepted; value = e′ .value; sent = e′ .sent }; line = view x (e′ .node) })
         same (serve-own v run q e) in
-        ap answered mine-at ∙ seen e′ s g lo hi (answerOf (finish e′ .report) ∷ []) (view g (e′ .node)) refl
+        ap answered mine-at ∙ seen e′ s g lo hi (answerOf (finish b e′ .report) ∷ []) (view g (e′ .node)) refl
 
     go : (t : Bool)
         → eqb (n .running) g ≡ t
-        → cond t (answered (own g (view g n) q)) (unheard (view g n)) ≡ after (cond t (answerOf (finish e′ .report) ∷ []) [])
+        → cond t (answered (own g (view g n) q)) (unheard (view g n)) ≡ after (cond t (answerOf (finish b e′ .report) ∷ []) [])
     go false t = unseen v e′ s g lo hi (serve-other b n run g lo (λ h. eqb-false _ _ t (sym h)) q)
     go true t = mine (eqb-true _ _ t)
 
 -- an accepted step of any kind
 accepted-agrees : {b : Build} {n : Node} → Valid b n → (op : Operation) → refusal b n op ≡ 0 → (g : ℕ) → 1 ≤ g → g ≤ groupCount
-    → Agrees g n op (finish (act b n op))
+    → Agrees g n op (finish b (act b n op))
 unfolding told hear answerTo refusal act valued finish
 accepted-agrees {b} {n} v (arrive h ws) e g lo hi = go (eqb h g) refl
   where
@@ -207,7 +215,7 @@ accepted-agrees {b} {n} v (arrive h ws) e g lo hi = go (eqb h g) refl
     go : (t : Bool)
         → eqb h g ≡ t
         → hear g (view g n) (cond t (message ws) nothing)
-        ≡ record { answers = []; upcall = eqb (finish arrival .report .upcall) g; line = view g (finish arrival .node) }
+        ≡ record { answers = []; upcall = eqb (finish b arrival .report .upcall) g; line = view g (finish b arrival .node) }
     go true t =
         seen arrival (act-sound v (arrive h ws) e) g lo hi [] (joined g ws (view g n))
         (arrive-same n g ws ∙ ap (λ (x : ℕ). view g (queued (record { group = x; words = ws }) n)) (sym (eqb-true _ _ t)))

@@ -18,6 +18,7 @@ use Rattle.rules.specs.Sound.{Sound}
 use Rattle.rules.proofs.Steps.SoundLaws.{SameFlags}
 use Rattle.rules.proofs.Steps.NodeLaws.{group-same, group-other, line-same, reflagged-line}
 use Rattle.rules.proofs.Steps.StepLaws.{calls-group, power-on-group}
+use Rattle.rules.proofs.Steps.PagingLaws.{Repaged, repaged-line}
 use Rattle.rules.proofs.Steps.SettlingLaws.{upcall-cases, settle-line, settle-flags, settle-running}
 
 -- what the private line of group g keeps, read off a node
@@ -50,8 +51,12 @@ unfolding view withTimer line inBuffer inQueue groupOf
 timer-view g t n = refl
 
 -- settling is invisible
-pub settle-view : {b : Build} {n : Node} → Sound b n → (g : ℕ) → 1 ≤ g → g ≤ groupCount → view g (settle n .node) ≡ view g n
-settle-view {n = n} s g lo hi = view-same g (settle n .node) n (settle-running n) (settle-flags n g) (settle-line s g lo hi)
+pub settle-view : {b : Build} {n : Node} → Sound b n → (g : ℕ) → 1 ≤ g → g ≤ groupCount → view g (settle b n .node) ≡ view g n
+settle-view {b} {n} s g lo hi = view-same g (settle b n .node) n (settle-running b n) (settle-flags b n g) (settle-line s g lo hi)
+
+-- and so is paging
+pub repaged-view : {n′ n : Node} → Repaged n′ n → (g : ℕ) → view g n′ ≡ view g n
+repaged-view {n′} {n} r g = view-same g n′ n (r .running) (r .groups g .flags) (repaged-line r g)
 
 -- no group is number 0
 pub nobody : (g : ℕ) → 1 ≤ g → eqb 0 g ≡ false

@@ -65,7 +65,7 @@ called-messages p = go (isCalled p)
 
 -- settling and the upcall leave every line
 finish-line : {b : Build} {n : Node} → Valid b n → (op : Operation) → refusal b n op ≡ 0 → (g : ℕ) → 1 ≤ g → g ≤ groupCount
-    → line (finish (act b n op) .node) g ≡ line (act b n op .node) g
+    → line (finish b (act b n op) .node) g ≡ line (act b n op .node) g
 unfolding view
 finish-line {b} {n} v op e g lo hi =
     ap (λ (p : PrivateLine). p .messages) (finish-view (act b n op) (act-sound v op e) g lo hi) ∙ called-messages (view g (act b n op .node))
@@ -83,7 +83,7 @@ step-line {b} {n} v op g lo hi =
         Flow (line n g) (line (s .node) g) (filter (isOf g) (arrivedBy op (eqb (s .report .answer) accepted)))
         (disposedBy op (eqb (s .report .answer) accepted && eqb (n .running) g))
 
-    finished : refusal b n op ≡ 0 → Goal (finish (act b n op))
+    finished : refusal b n op ≡ 0 → Goal (finish b (act b n op))
     finished e =
         let l : Flow (line n g) (line (act b n op .node) g) (filter (isOf g) (arrivedBy op true)) (disposedBy op (eqb (n .running) g)) =
         act-line v op e g lo hi in

@@ -13,11 +13,13 @@ use Rattle.rules.specs.Build.{Build}
 use Rattle.rules.specs.Node.{Message, Node, withRunning, withTimer, withQueue, withGroup, buffered, line}
 use Rattle.rules.specs.Operation.{poll, peek, dispose, beginAtomic, endAtomic, describe, launch}
 use Rattle.rules.specs.Operation.{Operation, arrive, schedule, tick, user, unknown, accepted, noTrap, disposeExtend}
+use Rattle.rules.specs.Paging.{runnerResident}
 use Rattle.rules.specs.Refusal.{refusal, refuseRequest, queued}
 use Rattle.rules.specs.Settling.{settle, drain, upcall}
 use Rattle.rules.specs.Step.{Effect, Stepped, valued, scheduled, timedOut, ticks, removed, flagged, disposed, extending, described, launched, serve, act, finish, step}
 use Rattle.rules.specs.Run.{Input, asked, Event, play, wasAccepted, arrivedBy, arrived, arrivals, disposedBy, leftBy, left}
 use Rattle.rules.specs.Valid.{Valid}
+use Rattle.rules.proofs.Steps.PagingLaws.{runner-repaged}
 use Rattle.rules.proofs.Steps.SettlingLaws.{upcall-kept, settle-queue, settle-moved, drain-queue}
 use Rattle.rules.proofs.Steps.LineLaws.{direct-head, removed-queue-buffered, removed-queue-direct}
 use Rattle.rules.proofs.Steps.TickLaws.{Ticked, idle, counting, timeout, ticked-by}
@@ -45,11 +47,11 @@ ticked-queue {b} {n} v k = go (ticked-by v k)
     Goal : Effect → Type 0
     Goal e = Flow (n .queue) (e .node .queue) [] (e .moved + 0)
 
-    drained : Flow (n .queue) (drain (n .queue) n .queue) [] (0 + length (n .queue) + 0)
+    drained : Flow (n .queue) (drain b (n .queue) n .queue) [] (0 + length (n .queue) + 0)
     drained =
         rw (add-zero, zero-add)
         (record {
-          same = drain-queue (n .queue) n ∙ sym (drop-length (n .queue)) ∙ ap (drop (length (n .queue))) (sym (append-nil (n .queue)));
+          same = drain-queue b (n .queue) n ∙ sym (drop-length (n .queue)) ∙ ap (drop (length (n .queue))) (sym (append-nil (n .queue)));
           enough = rw append-nil (omega arith);
         })
 
@@ -112,14 +114,15 @@ step-queue {b} {n} v op =
     e : Effect
     e = act b n op
 
-    finished : refusal b n op ≡ 0 → Goal (finish e)
+    finished : refusal b n op ≡ 0 → Goal (finish b e)
     finished z =
-        let s : ℕ = settle (e .node) .moved in
+        let s : ℕ = settle b (e .node) .moved in
         let d : ℕ = disposedBy op (eqb (e .trap) noTrap) in
         let f : Flow (n .queue) (drop s (e .node .queue)) (arrivedBy op true) (e .moved + d + s) =
-        flow-drop s (act-queue v op z) (omega (arith, settle-moved (e .node))) in
+        flow-drop s (act-queue v op z) (omega (arith, settle-moved b (e .node))) in
         let order : e .moved + d + s ≡ e .moved + s + d = omega arith in
-        let q : finish e .node .queue ≡ drop s (e .node .queue) = upcall-queue (settle (e .node) .node) ∙ settle-queue (e .node) in
+        let q : finish b e .node .queue ≡ drop s (e .node .queue) =
+        upcall-queue (runnerResident b (settle b (e .node) .node)) ∙ runner-repaged b (settle b (e .node) .node) .queue ∙ settle-queue b (e .node) in
         subst₂ (λ (l : List Message) (k : ℕ). Flow (n .queue) l (arrivedBy op true) k) (sym q) order f
 
 -- a run

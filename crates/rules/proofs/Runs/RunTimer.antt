@@ -14,11 +14,13 @@ use Rattle.rules.specs.Build.{Build}
 use Rattle.rules.specs.Node.{Message, Node, withRunning, withTimer, withQueue, withGroup, buffered}
 use Rattle.rules.specs.Operation.{poll, peek, dispose, beginAtomic, endAtomic, describe, launch}
 use Rattle.rules.specs.Operation.{Operation, arrive, schedule, tick, user, unknown, accepted, noTrap, disposeExtend}
+use Rattle.rules.specs.Paging.{runnerResident}
 use Rattle.rules.specs.Refusal.{refusal, queued}
 use Rattle.rules.specs.Settling.{mayStay, pass, settle, drain, upcall}
 use Rattle.rules.specs.Step.{Effect, Stepped, valued, scheduled, timedOut, ticks, flagged, disposed, extending, described, launched, serve, act, finish, step}
 use Rattle.rules.specs.Run.{wasAccepted, disposedBy, leftBy, tickedBy}
 use Rattle.rules.specs.Valid.{Valid}
+use Rattle.rules.proofs.Steps.PagingLaws.{runner-repaged}
 use Rattle.rules.proofs.Steps.SettlingLaws.{pass-moves, settle-keeps, upcall-kept, settle-moved, drain-queue}
 use Rattle.rules.proofs.Steps.LineLaws.{stays, buffered-empty}
 use Rattle.rules.proofs.Steps.TickLaws.{Ticked, idle, counting, timeout, ticked-by}
@@ -47,50 +49,50 @@ module _ {b : Build} {n : Node} (v : Valid b n) (some : isEmpty (n .queue) ≡ f
   queue-some e = true≢false (sym (ap isEmpty e) ∙ some)
 
   -- S to another group: the head was the last runner's
-  switch-moves : (h : ℕ) → eqb h (n .running) ≡ false → 1 ≤ settle (withTimer 0 (withRunning h n)) .moved
+  switch-moves : (h : ℕ) → eqb h (n .running) ≡ false → 1 ≤ settle b (withTimer 0 (withRunning h n)) .moved
   unfolding settle withTimer withRunning mayStay
   switch-moves h ne = go (n .queue) refl
     where
       k : Node
       k = withTimer 0 (withRunning h n)
 
-      go : (q : List Message) → n .queue ≡ q → 1 ≤ pass (n .queue) k .moved
+      go : (q : List Message) → n .queue ≡ q → 1 ≤ pass b (n .queue) k .moved
       go [] e = absurd (queue-some e)
       go (m ∷ q) e =
           let own : m .group ≡ n .running = stays n m (v .head-stays m q e) .0 in
           let gone : eqb (m .group) h ≡ false = ne-eqb (m .group) h (λ x. eqb-false _ _ ne (sym x ∙ own)) in
           let leaves : mayStay k m ≡ false = ap (λ (t : Bool). t && not (buffered k (m .group))) gone in
-          subst (λ (l : List Message). 1 ≤ pass l k .moved) (sym e) (pass-moves m q k leaves)
+          subst (λ (l : List Message). 1 ≤ pass b l k .moved) (sym e) (pass-moves b m q k leaves)
 
   -- the queue that an operation leaves is not empty where one is left after settling
-  left-some : (k : Node) → isEmpty (settle k .node .queue) ≡ false → k .queue ≡ [] → ⊥
-  left-some k s e = omega (arith, settle-moved k, ap length e, some-length (settle k .node .queue) s)
+  left-some : (k : Node) → isEmpty (settle b k .node .queue) ≡ false → k .queue ≡ [] → ⊥
+  left-some k s e = omega (arith, settle-moved b k, ap length e, some-length (settle b k .node .queue) s)
 
   -- S
-  schedule-timer : (h : ℕ) → 0 + n .timer ≤ b .timeout * (0 + settle (scheduled h n) .moved) + scheduled h n .timer
+  schedule-timer : (h : ℕ) → 0 + n .timer ≤ b .timeout * (0 + settle b (scheduled h n) .moved) + scheduled h n .timer
   unfolding withTimer
   schedule-timer h =
-      scheduled-cases (λ k. 0 + n .timer ≤ b .timeout * (0 + settle k .moved) + k .timer) h n (λ e. omega arith)
+      scheduled-cases (λ k. 0 + n .timer ≤ b .timeout * (0 + settle b k .moved) + k .timer) h n (λ e. omega arith)
       (λ e.
-      let moved : ℕ = settle (withTimer 0 (withRunning h n)) .moved in
+      let moved : ℕ = settle b (withTimer 0 (withRunning h n)) .moved in
       omega (arith, paid (0 + moved) (omega (arith, switch-moves h e))))
 
   -- T
-  tick-timer : (k : ℕ) → isEmpty (settle (ticks b k (valued 0 n) .node) .node .queue) ≡ false
+  tick-timer : (k : ℕ) → isEmpty (settle b (ticks b k (valued 0 n) .node) .node .queue) ≡ false
       → k + n .timer
-      ≤ b .timeout * (taken (tick k) (ticks b k (valued 0 n)) + settle (ticks b k (valued 0 n) .node) .moved) + ticks b k (valued 0 n) .node .timer
+      ≤ b .timeout * (taken (tick k) (ticks b k (valued 0 n)) + settle b (ticks b k (valued 0 n) .node) .moved) + ticks b k (valued 0 n) .node .timer
   unfolding valued timedOut withTimer
   tick-timer k = go (ticked-by v k)
     where
       Goal : Effect → Type 0
       Goal e =
-          isEmpty (settle (e .node) .node .queue) ≡ false
-          → k + n .timer ≤ b .timeout * (taken (tick k) e + settle (e .node) .moved) + e .node .timer
+          isEmpty (settle b (e .node) .node .queue) ≡ false
+          → k + n .timer ≤ b .timeout * (taken (tick k) e + settle b (e .node) .moved) + e .node .timer
 
       go : Ticked b k n → Goal (ticks b k (valued 0 n))
       go (idle q e) = absurd (queue-some q)
       go (counting q h e) = subst Goal (sym e) (λ s. omega arith)
-      go (timeout q e) = subst Goal (sym e) (λ s. absurd (left-some (withTimer 0 (drain (n .queue) n)) s (drain-queue (n .queue) n)))
+      go (timeout q e) = subst Goal (sym e) (λ s. absurd (left-some (withTimer 0 (drain b (n .queue) n)) s (drain-queue b (n .queue) n)))
 
   -- D
   dispose-timer : (l : ℕ)
@@ -103,15 +105,15 @@ module _ {b : Build} {n : Node} (v : Valid b n) (some : isEmpty (n .queue) ≡ f
       go true t = absurd (queue-some (buffered-empty v t))
       go false t = omega (arith, paid (0 + 1 + l) (omega arith))
 
-  act-timer : (op : Operation) → refusal b n op ≡ 0 → isEmpty (settle (act b n op .node) .node .queue) ≡ false
-      → tickedBy op true + n .timer ≤ b .timeout * (taken op (act b n op) + settle (act b n op .node) .moved) + act b n op .node .timer
+  act-timer : (op : Operation) → refusal b n op ≡ 0 → isEmpty (settle b (act b n op .node) .node .queue) ≡ false
+      → tickedBy op true + n .timer ≤ b .timeout * (taken op (act b n op) + settle b (act b n op .node) .moved) + act b n op .node .timer
   unfolding act tickedBy refusal valued taken disposedBy serve extending launched described flagged withGroup queued withQueue disposed withTimer
   act-timer (arrive h ws) z s = omega arith
   act-timer (schedule h) z s = schedule-timer h
   act-timer (tick k) z s = tick-timer k s
   act-timer (user poll) z s = omega arith
   act-timer (user (peek i)) z s = omega arith
-  act-timer (user dispose) z s = dispose-timer (settle (disposed b n) .moved)
+  act-timer (user dispose) z s = dispose-timer (settle b (disposed b n) .moved)
   act-timer (user beginAtomic) z s = omega arith
   act-timer (user endAtomic) z s = omega arith
   act-timer (user (describe w)) z s = omega arith
@@ -131,13 +133,15 @@ module _ {b : Build} {n : Node} (v : Valid b n) (some : isEmpty (n .queue) ≡ f
           → tickedBy op (eqb (s .report .answer) accepted) + n .timer
           ≤ b .timeout * leftBy (eventOf n op s) + s .node .timer
 
-      finished : refusal b n op ≡ 0 → Goal (finish (act b n op))
+      finished : refusal b n op ≡ 0 → Goal (finish b (act b n op))
       finished z s =
           let e : Effect = act b n op in
-          let k : Node = settle (e .node) .node in
-          let left : isEmpty (k .queue) ≡ false = ap isEmpty (sym (upcall-queue k)) ∙ s in
-          let kept : upcall k .timer ≡ e .node .timer = upcall-timer k ∙ settle-keeps (e .node) left in
+          let k : Node = settle b (e .node) .node in
+          let paged = runner-repaged b k in
+          let left : isEmpty (k .queue) ≡ false = ap isEmpty (sym (upcall-queue (runnerResident b k) ∙ paged .queue)) ∙ s in
+          let kept : upcall (runnerResident b k) .timer ≡ e .node .timer =
+          upcall-timer (runnerResident b k) ∙ paged .timer ∙ settle-keeps b (e .node) left in
           let d : ℕ = disposedBy op (eqb (e .trap) noTrap) in
-          let m : ℕ = settle (e .node) .moved in
+          let m : ℕ = settle b (e .node) .moved in
           let order : b .timeout * (e .moved + d + m) ≡ b .timeout * (e .moved + m + d) = ap (λ (x : ℕ). b .timeout * x) (omega arith) in
           omega (arith, act-timer op z left, order, kept)

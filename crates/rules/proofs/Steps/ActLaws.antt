@@ -11,8 +11,8 @@ use lib.Dec.{ltb, leb, eqb}
 use lib.ListN.{length, drop, length-append, length-drop}
 use borrow.Author.Tests.{ltb-true, ltb-false, leb-false, eqb-false}
 use Rattle.rules.specs.Lists.{filter, isEmpty}
-use Rattle.rules.specs.Build.{Build, groupCount, wordLimit}
-use Rattle.rules.specs.Node.{Message, Group, Node, groupOf, withRunning, withTimer, withQueue, withFree, withGroup, withFlags, withDescriptor, buffered, isOf, inBuffer, inQueue, line}
+use Rattle.rules.specs.Build.{Build, pageCount, groupCount, wordLimit}
+use Rattle.rules.specs.Node.{Message, Group, Node, groupOf, withRunning, withTimer, withQueue, withFree, withPaging, withGroup, withFlags, withDescriptor, buffered, isOf, inBuffer, inQueue, line}
 use Rattle.rules.specs.Frames.{pledge, Stock, removeFirst, withStock, pledges}
 use Rattle.rules.specs.Operation.{Request, poll, peek, dispose, beginAtomic, endAtomic, describe, launch}
 use Rattle.rules.specs.Operation.{Operation, arrive, schedule, tick, user, unknown, nobodyRuns}
@@ -24,8 +24,9 @@ use Rattle.rules.specs.Sound.{Sound}
 use Rattle.rules.proofs.Steps.SoundLaws.{PendingLines, valid-sound}
 use Rattle.rules.proofs.Steps.EveryLaws.{every-append, every-drop}
 use Rattle.rules.proofs.Steps.ListLaws.{some-length, filter-drop, some-append}
-use Rattle.rules.proofs.Steps.FrameLaws.{removed-first}
+use Rattle.rules.proofs.Steps.FrameLaws.{held, removed-first, removed-order}
 use Rattle.rules.proofs.Steps.NodeLaws.{filled, group-same, group-other, stock-same, stock-other, within, group-good, pledge-le, pledges-le, refronted, sound-timer, requeued, restocked, reflagged, reflagged-line}
+use Rattle.rules.proofs.Steps.PagingLaws.{first-entered}
 use Rattle.rules.proofs.Steps.SettlingLaws.{timer-line, drain-sound, drain-line, drain-flags}
 use Rattle.rules.proofs.Steps.LineLaws.{arrive-line, removed-cases, without-running, removed-other, removed-flags, removed-running}
 use Rattle.rules.proofs.Steps.TickLaws.{Ticked, idle, counting, timeout, ticked-by}
@@ -44,7 +45,7 @@ neither false u e = (refl, e)
 record Arrives (b : Build) (n : Node) (m : Message) : Type 0 where
   good : GoodMessage m
   place : length (n .queue) < b .places
-  pledged : pledges b (queued m n) ≤ b .frames
+  pledged : pledges b (queued m n) ≤ pageCount b
 
 arrives : (b : Build) (n : Node) (m : Message) → refuseArrive b n m ≡ 0 → Arrives b n m
 unfolding refuseArrive
@@ -52,7 +53,7 @@ arrives b n m e =
     let group = failed (eqb (m .group) 0 || ltb groupCount (m .group)) _ _ e in
     let words = failed (isEmpty (m .words) || ltb wordLimit (length (m .words))) _ _ (group .1) in
     let queue = failed (leb (b .places) (length (n .queue))) _ _ (words .1) in
-    let frames = failed (ltb (b .frames) (pledges b (queued m n))) _ _ (queue .1) in
+    let frames = failed (ltb (pageCount b) (pledges b (queued m n))) _ _ (queue .1) in
     let g = neither (eqb (m .group) 0) (ltb groupCount (m .group)) (group .0) in
     let w = neither (isEmpty (m .words)) (ltb wordLimit (length (m .words))) (words .0) in
     let nonzero : m .group ≢ 0 = eqb-false (m .group) 0 (g .0) in
@@ -64,7 +65,7 @@ arrives b n m e =
         few-words = ltb-false wordLimit (length (m .words)) (w .1);
       };
       place = leb-false (b .places) (length (n .queue)) (queue .0);
-      pledged = ltb-false (b .frames) (pledges b (queued m n)) (frames .0);
+      pledged = ltb-false (pageCount b) (pledges b (queued m n)) (frames .0);
     }
 
 -- so it is sound
@@ -109,18 +110,21 @@ stock-fewer {b} {n} s g low high t less h low′ = go (ℕ-discrete h g)
     go (no other) = rw (stock-other g h t n low low′ other) (omega arith)
 
 -- the running group's first message removed from its buffer
-unbuffered-sound : {b : Build} {n : Node} → Sound b n → 1 ≤ n .running → buffered n (n .running) ≡ true
-    → Sound b (withStock (n .running) (removeFirst b (n .free) (groupOf n (n .running) .buffer)) n)
-unfolding withQueue withStock withGroup withFree buffered inQueue
-unbuffered-sound {b} {n} s low e =
+unbuffered-sound : {b : Build} {n : Node} → Valid b n → 1 ≤ n .running → buffered n (n .running) ≡ true
+    → Sound b (withStock (n .running) (removeFirst b (n .free) (n .paging .entered) (groupOf n (n .running) .buffer)) n)
+unfolding withQueue withStock withGroup withFree withPaging buffered inQueue
+unbuffered-sound {b} {n} v low e =
+    let s = valid-sound v in
     let r = n .running in
     let high = s .running-bound in
     let w = groupOf n r .buffer in
-    let t = removeFirst b (n .free) w in
-    let gone = removed-first (group-good s r low high .buffer) (ltb-true 0 (w .count) e) (n .free) (s .free-good) in
+    let t = removeFirst b (n .free) (n .paging .entered) w in
+    let gone = removed-first (group-good s r low high .buffer) (ltb-true 0 (w .count) e) (n .free) (n .paging .entered) (s .free-good) in
     let each : (h : ℕ) → 1 ≤ h → h ≤ groupCount → pledge b (withStock r t n) h ≤ pledge b n h =
     λ h low′ high′. pledge-le s (withStock r t n) h low′ high′ (omega (arith, stock-fewer s r low high t (gone .less) h low′)) in
-    restocked s r low high t (n .queue) (gone .traded) (s .queue-good) (omega arith) (pledges-le b n (withStock r t n) each)
+    let good = group-good s r low high .buffer in
+    let once = first-entered s r low high (held good (ltb-true 0 (w .count) e)) (v .runner-resident low) in
+    restocked s r low high t (n .queue) (gone .traded) (removed-order b (n .free) (n .paging .entered) w once) (s .queue-good) (omega arith) (pledges-le b n (withStock r t n) each)
 
 -- the first message of the queue removed
 unqueued-sound : {b : Build} {n : Node} → Sound b n → Sound b (withQueue (drop 1 (n .queue)) n)
@@ -136,7 +140,7 @@ unqueued-sound {b} {n} s =
 pub removed-sound : {b : Build} {n : Node} → Valid b n → 1 ≤ n .running → Sound b (removed b n)
 removed-sound {b} {n} v low =
     let s = valid-sound v in
-    removed-cases (Sound b) b n (unbuffered-sound s low) (λ e. rw (without-running v) (unqueued-sound s))
+    removed-cases (Sound b) b n (unbuffered-sound v low) (λ e. rw (without-running v) (unqueued-sound s))
 
 -- a timer within bounds keeps a node ready
 ready-timer : {b : Build} {n : Node} → Ready b n → (t : ℕ) → t < b .timeout → Ready b (withTimer t n)
@@ -226,13 +230,13 @@ module _ {b : Build} {n : Node} (v : Valid b n) where
       })
 
   -- the whole queue drained
-  drained-ready : Ready b (drain (n .queue) n)
+  drained-ready : Ready b (drain b (n .queue) n)
   unfolding withQueue
   drained-ready =
       record {
         sound = drain-sound (n .queue) n (valid-sound v);
         pending = λ g low high e.
-            rw (drain-line (n .queue) n (valid-sound v) g low high) (v .pending-line g low high (sym (drain-flags (n .queue) n g .pending) ∙ e));
+            rw (drain-line (n .queue) n (valid-sound v) g low high) (v .pending-line g low high (sym (drain-flags b (n .queue) n g .pending) ∙ e));
       }
 
   -- ticks

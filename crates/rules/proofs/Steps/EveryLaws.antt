@@ -30,6 +30,11 @@ module _ {A : Type 0} (P : A → Type 0) where
   every-unmap f [] e = tt
   every-unmap f (x ∷ xs) e = (e .0, every-unmap f xs (e .1))
 
+  -- and back
+  pub every-remap : {B : Type 0} (f : B → A) (xs : List B) → Every (λ x. P (f x)) xs → Every P (map f xs)
+  every-remap f [] e = tt
+  every-remap f (x ∷ xs) e = (e .0, every-remap f xs (e .1))
+
   -- of many lists joined
   pub every-concat : {B : Type 0} (f : B → List A) (xs : List B) → Every P (concatMap f xs) ↔ Every (λ x. Every P (f x)) xs
   every-concat f [] = Iff·rfl
@@ -68,6 +73,11 @@ module _ {A : Type 0} (P : A → Type 0) where
   pub every-map : {B : Type 0} (f : B → A) → ((x : B) → P (f x)) → (xs : List B) → Every P (map f xs)
   every-map f h [] = tt
   every-map f h (x ∷ xs) = (h x, every-map f h xs)
+
+-- of values, where it holds of what they are the values of
+pub every-mapped : {A B : Type 0} (P : A → Type 0) (Q : B → Type 0) (f : A → B) → ((x : A) → P x → Q (f x)) → (xs : List A) → Every P xs → Every Q (map f xs)
+every-mapped P Q f h [] e = tt
+every-mapped P Q f h (x ∷ xs) e = (h x (e .0), every-mapped P Q f h xs (e .1))
 
 -- a weaker fact
 pub every-mono : {A : Type 0} (P Q : A → Type 0) → ((x : A) → P x → Q x) → (xs : List A) → Every P xs → Every Q xs

@@ -5,22 +5,23 @@
 use Prim.Native.Nat.{ℕ, _+_, _-_, _*_, _≤_, _<_}
 use mathlib.Core.Path.{_≡_, refl, sym, ap, _∙_}
 use mathlib.Core.Logic.{_≢_}
-use mathlib.Core.Bool.{Bool, true, false, cond, _||_}
+use mathlib.Core.Bool.{Bool, true, false, cond, not, _||_}
 use mathlib.Core.List.{List, [], _∷_, _++_, map, map-append}
 use native.Mathlib.Nat.{not-suc-le-zero, add-suc, lt-div-mul-add, div-mul-le-self, div-eq-of-lt-le, lt-of-mul-lt-mul-right}
 use native.Mathlib.Numerals.{add-one}
+use native.Mathlib.Decide.{ℕ-discrete}
 use native.Mathlib.Omega.{arith}
 use lib.Dec.{ltb, eqb}
 use lib.ListN.{length, take, drop, getD, length-append, length-set, length-drop, length-take}
 use lib.Seq.{drop-drop, take-append-le, drop-append-le, take-suc-set, length-take-le}
-use borrow.Author.Tests.{ltb-true, ltb-false, eqb-true, eqb-false}
-use Rattle.rules.specs.Lists.{Every}
+use borrow.Author.Tests.{ltb-true, ltb-false, eqb-true, eqb-false, eq-eqb, ne-eqb}
+use Rattle.rules.specs.Lists.{Every, countOf}
 use Rattle.rules.specs.Build.{Build, wordLimit}
 use Rattle.rules.specs.Node.{Message, Frame, Buffer, placeOf, waiting}
-use Rattle.rules.specs.Frames.{Stock, ceilDiv, extended, takeFrame, withRoom, appended, firstFrame, freeFirst, useUp, removeFirst}
+use Rattle.rules.specs.Frames.{Stock, ceilDiv, extended, takeFrame, withRoom, appended, firstFrame, without, freeFirst, useUp, removeFirst}
 use Rattle.rules.specs.Valid.{GoodMessage, GoodPlace, GoodWaiting, GoodFrame, GoodBuffer, Zero, frameNumber}
 use Rattle.rules.proofs.Steps.EveryLaws.{every-append, every-set, every-take, every-drop}
-use Rattle.rules.proofs.Steps.ListLaws.{take-drop, weight, weight-append, length-pad, drop-pad}
+use Rattle.rules.proofs.Steps.ListLaws.{filter-pass, filter-fail, take-drop, weight, weight-append, length-pad, drop-pad}
 
 -- a frame count, rounded up, suffices
 pub ceil-enough : (a d : ℕ) → 1 ≤ d → a ≤ ceilDiv a d * d
@@ -88,7 +89,7 @@ placeOf-waiting m g =
     record { some-words = g .some-words; few-words = g .few-words; rest-zero = drop-pad Zero refl wordLimit (m .words) }
 
 -- a stock whose buffer is the given one with room for one more message
-record Roomy (b : Build) (fs : List Frame) (v : Buffer) (s : Stock) : Type 0 where
+record Roomy (b : Build) (fs : List Frame) (es : List ℕ) (v : Buffer) (s : Stock) : Type 0 where
   used : s .buffer .used ≡ v .used
   count : s .buffer .count ≡ v .count
   room : v .used + v .count < length (s .buffer .places)
@@ -98,23 +99,25 @@ record Roomy (b : Build) (fs : List Frame) (v : Buffer) (s : Stock) : Type 0 whe
   waits : waiting (s .buffer) ≡ waiting v
   free-good : Every (GoodFrame b) (s .free)
   weights : SameFrames (s .free) (s .buffer .frames) fs (v .frames)
+  order : SameFrames (s .free) (s .entered) fs es
 
 -- the stock in which the buffer has the message too
 abbrev pub stocked : Message → Stock → Stock
-stocked m s = record { free = s .free; buffer = appended m (s .buffer) }
+stocked m s = record { free = s .free; entered = s .entered; buffer = appended m (s .buffer) }
 
--- what storing a message does to a free line and a buffer
-pub record Stored (b : Build) (m : Message) (fs : List Frame) (v : Buffer) (t : Stock) : Type 0 where
+-- what putting a message does to a free line, the order of entry and a buffer
+pub record Stored (b : Build) (m : Message) (fs : List Frame) (es : List ℕ) (v : Buffer) (t : Stock) : Type 0 where
   pub traded : Traded b fs v t
+  pub order : SameFrames (t .free) (t .entered) fs es
   pub used : t .buffer .used ≡ v .used
   pub count : t .buffer .count ≡ v .count + 1
   pub waits : waiting (t .buffer) ≡ waiting v ++ (placeOf m ∷ [])
 
 module _ {b : Build} {v : Buffer} (good : GoodBuffer b v) where
   -- there is room already
-  roomy-already : (fs : List Frame) → Every (GoodFrame b) fs → v .used + v .count < length (v .places)
-      → Roomy b fs v (record { free = fs; buffer = v })
-  roomy-already fs free-good room =
+  roomy-already : (fs : List Frame) (es : List ℕ) → Every (GoodFrame b) fs → v .used + v .count < length (v .places)
+      → Roomy b fs es v (record { free = fs; entered = es; buffer = v })
+  roomy-already fs es free-good room =
       let ends : length (v .frames) * b .perFrame < v .used + v .count + 1 + b .perFrame =
       omega (arith, ceil-least (v .used + v .count) (b .perFrame) (omega arith), ap (λ (k : ℕ). k * b .perFrame) (good .list-length)) in
       record {
@@ -127,13 +130,14 @@ module _ {b : Build} {v : Buffer} (good : GoodBuffer b v) where
         waits = refl;
         free-good = free-good;
         weights = λ w. refl;
+        order = λ w. refl;
       }
 
   -- a frame is taken
-  roomy-taken : (f : Frame) (fs : List Frame) → Every (GoodFrame b) (f ∷ fs) → length (v .places) ≤ v .used + v .count
-      → Roomy b (f ∷ fs) v (takeFrame (f ∷ fs) v)
+  roomy-taken : (f : Frame) (fs : List Frame) (es : List ℕ) → Every (GoodFrame b) (f ∷ fs) → length (v .places) ≤ v .used + v .count
+      → Roomy b (f ∷ fs) es v (takeFrame (f ∷ fs) es v)
   unfolding takeFrame extended frameNumber
-  roomy-taken f fs free-good full =
+  roomy-taken f fs es free-good full =
       let joined = length-append (v .places) (f .places) in
       let longer : length (v .frames ++ (f .number ∷ [])) ≡ length (v .frames) + 1 = length-append (v .frames) (f .number ∷ []) in
       let exact : length (v .frames) * b .perFrame ≡ v .used + v .count = omega (arith, good .whole, fits good) in
@@ -149,28 +153,31 @@ module _ {b : Build} {v : Buffer} (good : GoodBuffer b v) where
             rw (waiting-front (extended f v), waiting-front v, take-append-le (v .used + v .count) (v .places) (f .places) (fits good));
         free-good = free-good .1;
         weights = λ w. omega (arith, weight-append w (v .frames) (f .number ∷ []));
+        order = λ w. omega (arith, weight-append w es (f .number ∷ []));
       }
 
   -- either way there is room, if a full buffer meets a free frame
-  with-room : (fs : List Frame) → Every (GoodFrame b) fs → (length (v .places) ≤ v .used + v .count → 1 ≤ length fs) → Roomy b fs v (withRoom fs v)
+  with-room : (fs : List Frame) (es : List ℕ) → Every (GoodFrame b) fs → (length (v .places) ≤ v .used + v .count → 1 ≤ length fs)
+      → Roomy b fs es v (withRoom fs es v)
   unfolding withRoom
-  with-room fs free-good frame = go (ltb (v .used + v .count) (length (v .places))) refl
+  with-room fs es free-good frame = go (ltb (v .used + v .count) (length (v .places))) refl
     where
-      taken : (fs : List Frame) → Every (GoodFrame b) fs → length (v .places) ≤ v .used + v .count → 1 ≤ length fs → Roomy b fs v (takeFrame fs v)
+      taken : (fs : List Frame) → Every (GoodFrame b) fs → length (v .places) ≤ v .used + v .count → 1 ≤ length fs → Roomy b fs es v (takeFrame fs es v)
       taken [] free-good full some = absurd (not-suc-le-zero some)
-      taken (f ∷ fs) free-good full some = roomy-taken f fs free-good full
+      taken (f ∷ fs) free-good full some = roomy-taken f fs es free-good full
 
-      go : (t : Bool) → ltb (v .used + v .count) (length (v .places)) ≡ t → Roomy b fs v (cond t (record { free = fs; buffer = v }) (takeFrame fs v))
-      go true e = roomy-already fs free-good (ltb-true _ _ e)
+      go : (t : Bool) → ltb (v .used + v .count) (length (v .places)) ≡ t
+          → Roomy b fs es v (cond t (record { free = fs; entered = es; buffer = v }) (takeFrame fs es v))
+      go true e = roomy-already fs es free-good (ltb-true _ _ e)
       go false e = taken fs free-good (ltb-false _ _ e) (frame (ltb-false _ _ e))
 
   -- a message is stored, if a full buffer meets a free frame
-  pub stored : (m : Message) → GoodMessage m → (fs : List Frame) → Every (GoodFrame b) fs
-      → (length (v .places) ≤ v .used + v .count → 1 ≤ length fs) → Stored b m fs v (stocked m (withRoom fs v))
+  pub stored : (m : Message) → GoodMessage m → (fs : List Frame) (es : List ℕ) → Every (GoodFrame b) fs
+      → (length (v .places) ≤ v .used + v .count → 1 ≤ length fs) → Stored b m fs es v (stocked m (withRoom fs es v))
   unfolding appended
-  stored m message fs free-good frame =
-      let s = withRoom fs v in
-      let r = with-room fs free-good frame in
+  stored m message fs es free-good frame =
+      let s = withRoom fs es v in
+      let r = with-room fs es free-good frame in
       let at : s .buffer .used + s .buffer .count ≡ v .used + v .count = cc in
       let ends = waiting-appended m (s .buffer) (rw at (r .room)) in
       record {
@@ -188,6 +195,7 @@ module _ {b : Build} {v : Buffer} (good : GoodBuffer b v) where
           free-good = r .free-good;
           weights = r .weights;
         };
+        order = r .order;
         used = r .used;
         count = rw (r .count);
         waits = ends ∙ rw (r .waits);
@@ -220,9 +228,9 @@ module _ {b : Build} {v : Buffer} (good : GoodBuffer b v) (some : 1 ≤ v .count
   fewer = omega (arith, held, length-drop 1 (v .frames))
 
   -- the first place is used up, and its frame stays
-  removed-used : (fs : List Frame) → Every (GoodFrame b) fs → v .count ≢ 1 → v .used + 1 ≢ b .perFrame → Removed b fs v (useUp fs v)
+  removed-used : (fs : List Frame) (es : List ℕ) → Every (GoodFrame b) fs → v .count ≢ 1 → v .used + 1 ≢ b .perFrame → Removed b fs v (useUp fs es v)
   unfolding useUp waiting
-  removed-used fs free-good more inside =
+  removed-used fs es free-good more inside =
       record {
         traded = record {
           good = record {
@@ -241,11 +249,11 @@ module _ {b : Build} {v : Buffer} (good : GoodBuffer b v) (some : 1 ≤ v .count
       }
 
   -- the first frame is freed
-  removed-freed : (fs : List Frame) → Every (GoodFrame b) fs → length (drop 1 (v .frames)) ≡ ceilDiv (0 + (v .count - 1)) (b .perFrame)
+  removed-freed : (fs : List Frame) (es : List ℕ) → Every (GoodFrame b) fs → length (drop 1 (v .frames)) ≡ ceilDiv (0 + (v .count - 1)) (b .perFrame)
       → take (v .count - 1) (drop (b .perFrame) (v .places)) ≡ take (v .count - 1) (drop (v .used + 1) (v .places))
-      → Removed b fs v (freeFirst b fs v)
+      → Removed b fs v (freeFirst b fs es v)
   unfolding freeFirst firstFrame waiting frameNumber
-  removed-freed fs free-good lists front =
+  removed-freed fs es free-good lists front =
       let places : length (v .places) ≡ length (drop 1 (v .frames)) * b .perFrame + b .perFrame =
       omega (arith, good .whole, ap (λ (k : ℕ). k * b .perFrame) fewer) in
       record {
@@ -276,29 +284,66 @@ module _ {b : Build} {v : Buffer} (good : GoodBuffer b v) (some : 1 ≤ v .count
       }
 
   -- where the last message goes, its frame is the only one
-  removed-last : (fs : List Frame) → Every (GoodFrame b) fs → v .count ≡ 1 → Removed b fs v (freeFirst b fs v)
-  removed-last fs free-good last =
+  removed-last : (fs : List Frame) (es : List ℕ) → Every (GoodFrame b) fs → v .count ≡ 1 → Removed b fs v (freeFirst b fs es v)
+  removed-last fs es free-good last =
       let only : 1 ≡ ceilDiv (v .used + v .count) (b .perFrame) = ceil-unique (v .used + v .count) (b .perFrame) 1 (omega arith) (omega arith) in
       let lists : length (drop 1 (v .frames)) ≡ 0 = omega (arith, good .list-length, fewer) in
       let none : v .count - 1 ≡ 0 = omega arith in
-      removed-freed fs free-good (lists ∙ ceil-unique (0 + (v .count - 1)) (b .perFrame) 0 (omega arith) (omega arith)) (rw none)
+      removed-freed fs es free-good (lists ∙ ceil-unique (0 + (v .count - 1)) (b .perFrame) 0 (omega arith) (omega arith)) (rw none)
 
   -- where the first frame is used up, the others hold the rest
-  removed-frame : (fs : List Frame) → Every (GoodFrame b) fs → v .used + 1 ≡ b .perFrame → Removed b fs v (freeFirst b fs v)
-  removed-frame fs free-good whole =
+  removed-frame : (fs : List Frame) (es : List ℕ) → Every (GoodFrame b) fs → v .used + 1 ≡ b .perFrame → Removed b fs v (freeFirst b fs es v)
+  removed-frame fs es free-good whole =
       let spread = ap (λ (k : ℕ). k * b .perFrame) (sym (good .list-length) ∙ fewer) in
       let enough = ceil-enough (v .used + v .count) (b .perFrame) (omega arith) in
       let least = ceil-least (v .used + v .count) (b .perFrame) (omega arith) in
       let lists = ceil-unique (0 + (v .count - 1)) (b .perFrame) (length (drop 1 (v .frames))) (omega arith) (omega arith) in
-      removed-freed fs free-good lists (rw whole)
+      removed-freed fs es free-good lists (rw whole)
 
   -- the first message is removed
-  pub removed-first : (fs : List Frame) → Every (GoodFrame b) fs → Removed b fs v (removeFirst b fs v)
+  pub removed-first : (fs : List Frame) (es : List ℕ) → Every (GoodFrame b) fs → Removed b fs v (removeFirst b fs es v)
   unfolding removeFirst
-  removed-first fs free-good = go (eqb (v .count) 1) refl (eqb (v .used + 1) (b .perFrame)) refl
+  removed-first fs es free-good = go (eqb (v .count) 1) refl (eqb (v .used + 1) (b .perFrame)) refl
     where
       go : (t : Bool) → eqb (v .count) 1 ≡ t → (u : Bool) → eqb (v .used + 1) (b .perFrame) ≡ u
-          → Removed b fs v (cond (t || u) (freeFirst b fs v) (useUp fs v))
-      go true e u f = removed-last fs free-good (eqb-true _ _ e)
-      go false e true f = removed-frame fs free-good (eqb-true _ _ f)
-      go false e false f = removed-used fs free-good (eqb-false _ _ e) (eqb-false _ _ f)
+          → Removed b fs v (cond (t || u) (freeFirst b fs es v) (useUp fs es v))
+      go true e u f = removed-last fs es free-good (eqb-true _ _ e)
+      go false e true f = removed-frame fs es free-good (eqb-true _ _ f)
+      go false e false f = removed-used fs es free-good (eqb-false _ _ e) (eqb-false _ _ f)
+
+-- a number is left out, and another kept
+without-same : (f x : ℕ) (xs : List ℕ) → x ≡ f → without f (x ∷ xs) ≡ without f xs
+unfolding without
+without-same f x xs e = filter-fail (λ y. not (eqb y f)) x xs (ap not (eq-eqb x f e))
+
+without-other : (f x : ℕ) (xs : List ℕ) → x ≢ f → without f (x ∷ xs) ≡ x ∷ without f xs
+unfolding without
+without-other f x xs d = filter-pass (λ y. not (eqb y f)) x xs (ap not (ne-eqb x f d))
+
+-- the numbers without one of them weigh less by what it weighs
+pub weight-without : (w : ℕ → ℕ) (f : ℕ) (xs : List ℕ) → weight w (without f xs) + countOf f xs * w f ≡ weight w xs
+unfolding without
+weight-without w f [] = omega arith
+weight-without w f (x ∷ xs) = go (ℕ-discrete x f) (weight-without w f xs)
+  where
+    go : Dec (x ≡ f) → weight w (without f xs) + countOf f xs * w f ≡ weight w xs
+        → weight w (without f (x ∷ xs)) + countOf f (x ∷ xs) * w f ≡ weight w (x ∷ xs)
+    go (yes e) r = rw (without-same f x xs e, eq-eqb x f e) (omega (arith, ap w e))
+    go (no d) r = rw (without-other f x xs d, ne-eqb x f d) (omega arith)
+
+-- one that stands once is left out once
+pub weight-left : (w : ℕ → ℕ) (f : ℕ) (xs : List ℕ) → countOf f xs ≡ 1 → weight w (without f xs) + w f ≡ weight w xs
+weight-left w f xs once = let r = rw once at (weight-without w f xs) in omega arith
+
+-- a frame that is freed, if its number stands once in the order of entry, goes from there to the free line
+pub removed-order : (b : Build) (fs : List Frame) (es : List ℕ) (v : Buffer) → countOf (getD (v .frames) 0 0) es ≡ 1
+    → SameFrames (removeFirst b fs es v .free) (removeFirst b fs es v .entered) fs es
+unfolding removeFirst freeFirst firstFrame useUp frameNumber
+removed-order b fs es v once w = go (eqb (v .count) 1 || eqb (v .used + 1) (b .perFrame))
+  where
+    go : (t : Bool) → weight w (map frameNumber (cond t (freeFirst b fs es v) (useUp fs es v) .free)) + weight w (cond t (freeFirst b fs es v) (useUp fs es v) .entered)
+        ≡ weight w (map frameNumber fs) + weight w es
+    go true =
+        let f = getD (v .frames) 0 0 in
+        rw map-append (omega (arith, weight-append w (map frameNumber fs) (f ∷ []), weight-left w f es once))
+    go false = refl

@@ -14,7 +14,7 @@ use lib.Seq.{drop-append-le}
 use borrow.Author.Tests.{ltb-true, ltb-false, eqb-true, eq-eqb, ne-eqb, not-true}
 use Rattle.rules.specs.Lists.{filter, isEmpty}
 use Rattle.rules.specs.Build.{Build, groupCount}
-use Rattle.rules.specs.Node.{Message, Place, Buffer, Node, groupOf, withQueue, withFree, withGroup, buffered, messageOf, waiting, isOf, inBuffer, inQueue, line}
+use Rattle.rules.specs.Node.{Message, Place, Buffer, Node, groupOf, withQueue, withFree, withPaging, withGroup, buffered, messageOf, waiting, isOf, inBuffer, inQueue, line}
 use Rattle.rules.specs.Frames.{removeFirst, withStock}
 use Rattle.rules.specs.Refusal.{queued}
 use Rattle.rules.specs.Settling.{mayStay}
@@ -69,14 +69,14 @@ direct-head {b} {n} v direct some = go (n .queue) refl (rw (direct-line n (n .ru
 
 -- a disposal takes from the buffer where the running group is buffered, else from the queue
 pub removed-cases : (P : Node → Type 0) (b : Build) (n : Node)
-    → (buffered n (n .running) ≡ true → P (withStock (n .running) (removeFirst b (n .free) (groupOf n (n .running) .buffer)) n))
+    → (buffered n (n .running) ≡ true → P (withStock (n .running) (removeFirst b (n .free) (n .paging .entered) (groupOf n (n .running) .buffer)) n))
     → (buffered n (n .running) ≡ false → P (withQueue (withoutFirst (n .running) (n .queue)) n)) → P (removed b n)
 unfolding removed
 removed-cases P b n buffer queue = go (buffered n (n .running)) refl
   where
     go : (t : Bool) → buffered n (n .running) ≡ t
         → P (cond t
-        (withStock (n .running) (removeFirst b (n .free) (groupOf n (n .running) .buffer)) n)
+        (withStock (n .running) (removeFirst b (n .free) (n .paging .entered) (groupOf n (n .running) .buffer)) n)
         (withQueue (withoutFirst (n .running) (n .queue)) n))
     go true e = buffer e
     go false e = queue e
@@ -86,16 +86,16 @@ pub removed-flags : (b : Build) (n : Node) (g : ℕ) → SameFlags (groupOf (rem
 unfolding groupOf withQueue
 removed-flags b n g =
     removed-cases (λ r. SameFlags (groupOf r g) (groupOf n g)) b n
-    (λ e. restocked-flags (n .running) (removeFirst b (n .free) (groupOf n (n .running) .buffer)) n g) (λ e. flags-refl)
+    (λ e. restocked-flags (n .running) (removeFirst b (n .free) (n .paging .entered) (groupOf n (n .running) .buffer)) n g) (λ e. flags-refl)
 
 -- and so does the running group
 pub removed-running : (b : Build) (n : Node) → removed b n .running ≡ n .running
-unfolding withStock withGroup withFree withQueue
+unfolding withStock withGroup withFree withPaging withQueue
 removed-running b n = removed-cases (λ r. r .running ≡ n .running) b n (λ e. refl) (λ e. refl)
 
 -- the queue stays where the group is buffered
 pub removed-queue-buffered : (b : Build) (n : Node) → buffered n (n .running) ≡ true → removed b n .queue ≡ n .queue
-unfolding withStock withGroup withFree
+unfolding withStock withGroup withFree withPaging
 removed-queue-buffered b n e = removed-cases (λ r. r .queue ≡ n .queue) b n (λ e′. refl) (λ e′. cc)
 
 -- a queue without the first message of a group: the head where it is the group's
@@ -152,16 +152,16 @@ removed-queue-direct {b} {n} v e = removed-cases (λ r. r .queue ≡ drop 1 (n .
 
 -- a group without its buffer's first message has lost the first of its line
 unbuffered-line : {b : Build} {n : Node} → Sound b n → (g : ℕ) → 1 ≤ g → g ≤ groupCount → buffered n g ≡ true
-    → line (withStock g (removeFirst b (n .free) (groupOf n g .buffer)) n) g ≡ drop 1 (line n g)
-unfolding line buffered inBuffer inQueue waiting withStock withGroup withFree
+    → line (withStock g (removeFirst b (n .free) (n .paging .entered) (groupOf n g .buffer)) n) g ≡ drop 1 (line n g)
+unfolding line buffered inBuffer inQueue waiting withStock withGroup withFree withPaging
 unbuffered-line {b} {n} s g low high e =
     let w = groupOf n g .buffer in
     let queue = filter (isOf g) (n .queue) in
     let good = group-good s g low high .buffer in
     let some = ltb-true 0 (w .count) e in
-    let gone = removed-first good some (n .free) (s .free-good) in
+    let gone = removed-first good some (n .free) (n .paging .entered) (s .free-good) in
     let front : 1 ≤ length (map (messageOf g) (waiting w)) = simp (length-map, length-take, length-drop) (omega (arith, fits good)) in
-    ap (λ (u : Buffer). map (messageOf g) (waiting u) ++ queue) (stock-same g (removeFirst b (n .free) w) n (within s g low high))
+    ap (λ (u : Buffer). map (messageOf g) (waiting u) ++ queue) (stock-same g (removeFirst b (n .free) (n .paging .entered) w) n (within s g low high))
     ∙ ap (λ (ps : List Place). map (messageOf g) ps ++ queue) (gone .waits)
     ∙ ap (λ (ms : List Message). ms ++ queue) (map-drop (messageOf g) 1 (waiting w))
     ∙ sym (drop-append-le 1 (map (messageOf g) (waiting w)) queue front)
@@ -180,9 +180,9 @@ removed-line {b} {n} v low =
 
 -- and leaves the others
 pub removed-other : (b : Build) (n : Node) → 1 ≤ n .running → (h : ℕ) → 1 ≤ h → h ≢ n .running → line (removed b n) h ≡ line n h
-unfolding line inBuffer inQueue withStock withGroup withFree withQueue groupOf
+unfolding line inBuffer inQueue withStock withGroup withFree withPaging withQueue groupOf
 removed-other b n low h low′ other =
-    let t = removeFirst b (n .free) (groupOf n (n .running) .buffer) in
+    let t = removeFirst b (n .free) (n .paging .entered) (groupOf n (n .running) .buffer) in
     removed-cases (λ r. line r h ≡ line n h) b n
     (λ e. line-same n (withStock (n .running) t n) h (stock-other (n .running) h t n low low′ other) refl)
     (λ e. ap (λ (ms : List Message). inBuffer n h ++ ms) (without-other (n .running) h other (n .queue)))

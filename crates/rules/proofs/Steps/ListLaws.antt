@@ -104,6 +104,24 @@ pub count-weight : (k : ℕ) (xs : List ℕ) → countOf k xs ≡ weight (hit k)
 count-weight k [] = refl
 count-weight k (x ∷ xs) = ap (λ (r : ℕ). hit k x + r) (count-weight k xs)
 
+-- counts add
+pub count-append : (k : ℕ) (xs ys : List ℕ) → countOf k (xs ++ ys) ≡ countOf k xs + countOf k ys
+count-append k [] ys = omega arith
+count-append k (x ∷ xs) ys = omega (arith, count-append k xs ys)
+
+-- what stands at an index is counted
+pub count-at : (k : ℕ) (xs : List ℕ) (i : ℕ) → i < length xs → getD xs i 0 ≡ k → 1 ≤ countOf k xs
+count-at k [] i h e = absurd (omega arith)
+count-at k (x ∷ xs) zero h e = rw (eq-eqb x k e) (omega arith)
+count-at k (x ∷ xs) (suc i) h e = let r = count-at k xs i (omega arith) e in omega arith
+
+-- and in one of the lists, in all of them joined
+pub count-part : {A : Type 0} (k : ℕ) (f : A → List ℕ) (d : A) (xs : List A) (i : ℕ) → i < length xs
+    → countOf k (f (getD xs i d)) ≤ countOf k (concatMap f xs)
+count-part k f d [] i h = absurd (omega arith)
+count-part k f d (x ∷ xs) zero h = omega (arith, count-append k (f x) (concatMap f xs))
+count-part k f d (x ∷ xs) (suc i) h = omega (arith, count-append k (f x) (concatMap f xs), count-part k f d xs i (omega arith))
+
 -- and so is a length
 abbrev pub unit : {A : Type 0} → A → ℕ
 unit x = 1
@@ -144,6 +162,12 @@ count-within f a (suc n) low high = go (ℕ-discrete a f) (λ later. count-withi
 pub length-upFrom : (a n : ℕ) → length (upFrom a n) ≡ n
 length-upFrom a zero = refl
 length-upFrom a (suc n) = ap suc (length-upFrom (suc a) n)
+
+-- two ranges side by side are one
+pub upFrom-append : (a n k : ℕ) → upFrom a (n + k) ≡ upFrom a n ++ upFrom (a + n) k
+upFrom-append a zero k = simp (zero-add, add-zero)
+upFrom-append a (suc n) k =
+    rw suc-add (ap (λ (r : List ℕ). a ∷ r) (upFrom-append (suc a) n k ∙ ap (λ (c : ℕ). upFrom (suc a) n ++ upFrom c k) (omega arith)))
 
 -- sums over one range, compared term by term
 pub sum-le : (f g : ℕ → ℕ) (a n : ℕ) → ((i : ℕ) → a ≤ i → i < a + n → f i ≤ g i) → sum (map f (upFrom a n)) ≤ sum (map g (upFrom a n))
@@ -222,7 +246,7 @@ pad-fits n xs h =
 -- Numbers that stand once.
 
 -- how many of the numbers are below k
-below : ℕ → List ℕ → ℕ
+unfoldable pub below : ℕ → List ℕ → ℕ
 below k [] = 0
 below k (x ∷ xs) = cond (ltb x k) 1 0 + below k xs
 
@@ -248,7 +272,7 @@ below-suc k (x ∷ xs) =
     go false false p q = rw (p, q, le-ltb x (suc k) (omega (arith, ltb-false x k p, eqb-false x k q)))
 
 -- where each number below k stands once, k of them are below k
-below-once : (k : ℕ) (xs : List ℕ) → ((f : ℕ) → f < k → countOf f xs ≡ 1) → below k xs ≡ k
+pub below-once : (k : ℕ) (xs : List ℕ) → ((f : ℕ) → f < k → countOf f xs ≡ 1) → below k xs ≡ k
 below-once zero xs h = below-zero xs
 below-once (suc k) xs h =
     let less = below-once k xs (λ f l. h f (omega arith)) in
@@ -256,7 +280,7 @@ below-once (suc k) xs h =
     omega (arith, below-suc k xs)
 
 -- no more are below k than there are
-below-length : (k : ℕ) (xs : List ℕ) → below k xs ≤ length xs
+pub below-length : (k : ℕ) (xs : List ℕ) → below k xs ≤ length xs
 unfolding below
 below-length k [] = omega arith
 below-length k (x ∷ xs) = go (ltb x k) (below-length k xs)
@@ -264,6 +288,18 @@ below-length k (x ∷ xs) = go (ltb x k) (below-length k xs)
     go : (l : Bool) → below k xs ≤ length xs → cond l 1 0 + below k xs ≤ suc (length xs)
     go true r = omega arith
     go false r = omega arith
+
+-- of joined lists
+pub below-append : (k : ℕ) (xs ys : List ℕ) → below k (xs ++ ys) ≡ below k xs + below k ys
+unfolding below
+below-append k [] ys = omega arith
+below-append k (x ∷ xs) ys = omega (arith, below-append k xs ys)
+
+-- none of those from k on is below k
+pub below-none : (k : ℕ) (xs : List ℕ) → Every (λ x. k ≤ x) xs → below k xs ≡ 0
+unfolding below
+below-none k [] e = refl
+below-none k (x ∷ xs) e = rw (le-ltb x k (e .0)) (rw (below-none k xs (e .1)) refl)
 
 -- and where as many are, all are
 below-all : (k : ℕ) (xs : List ℕ) → below k xs ≡ length xs → Every (λ x. x < k) xs

@@ -9,76 +9,83 @@ use native.Mathlib.Omega.{arith}
 use lib.ListN.{length, drop}
 use Rattle.rules.specs.Lists.{isEmpty}
 use Rattle.rules.specs.Build.{Build, groupCount}
-use Rattle.rules.specs.Node.{Message, Group, Node, groupOf, withTimer, withQueue, withFree, withGroup, withFlags, buffered, inBuffer, inQueue, line}
-use Rattle.rules.specs.Frames.{store, withStock}
+use Rattle.rules.specs.Node.{Message, Group, Node, groupOf, withTimer, withQueue, withFree, withPaging, withGroup, withFlags, buffered, inBuffer, inQueue, line}
+use Rattle.rules.specs.Frames.{put, withStock}
+use Rattle.rules.specs.Paging.{store}
 use Rattle.rules.specs.Settling.{Moved, oneMore, mayStay, pass, restTimer, settle, drain, calls, upcall}
 use Rattle.rules.specs.Sound.{Sound}
 use Rattle.rules.proofs.Steps.SoundLaws.{SameFlags, flags-refl, flags-trans}
 use Rattle.rules.proofs.Steps.NodeLaws.{sound-timer}
+use Rattle.rules.proofs.Steps.PagingLaws.{prepared-repaged}
 use Rattle.rules.proofs.Steps.StoreLaws.{store-sound, store-line, store-flags}
 
 -- what holds of a pass that ends and is handed on by a message stored holds of every pass
-pass-induct : (P : List Message → Node → Moved → Type 0)
+pass-induct : (b : Build) (P : List Message → Node → Moved → Type 0)
     → ((n : Node) → P [] n (record { node = withQueue [] n; moved = 0 }))
     → ((m : Message) (q : List Message) (n : Node) → mayStay n m ≡ true → P (m ∷ q) n (record { node = withQueue (m ∷ q) n; moved = 0 }))
-    → ((m : Message) (q : List Message) (n : Node) (s : Moved) → P q (store m n) s → P (m ∷ q) n (oneMore s))
-    → (q : List Message) (n : Node) → P q n (pass q n)
+    → ((m : Message) (q : List Message) (n : Node) (s : Moved) → P q (store b m n) s → P (m ∷ q) n (oneMore s))
+    → (q : List Message) (n : Node) → P q n (pass b q n)
 unfolding pass
-pass-induct P done stays moves [] n = done n
-pass-induct P done stays moves (m ∷ q) n = go (mayStay n m) refl (pass-induct P done stays moves q (store m n))
+pass-induct b P done stays moves [] n = done n
+pass-induct b P done stays moves (m ∷ q) n = go (mayStay n m) refl (pass-induct b P done stays moves q (store b m n))
   where
-    go : (t : Bool) → mayStay n m ≡ t → P q (store m n) (pass q (store m n))
-        → P (m ∷ q) n (elim t [ true ↦ record { node = withQueue (m ∷ q) n; moved = 0 } | false ↦ oneMore (pass q (store m n)) ])
+    go : (t : Bool) → mayStay n m ≡ t → P q (store b m n) (pass b q (store b m n))
+        → P (m ∷ q) n (elim t [ true ↦ record { node = withQueue (m ∷ q) n; moved = 0 } | false ↦ oneMore (pass b q (store b m n)) ])
     go true e later = stays m q n e
-    go false e later = moves m q n (pass q (store m n)) later
+    go false e later = moves m q n (pass b q (store b m n)) later
 
 -- a pass leaves a sound node
-pub pass-sound : {b : Build} (q : List Message) (n : Node) → Sound b (withQueue q n) → Sound b (pass q n .node)
+pub pass-sound : {b : Build} (q : List Message) (n : Node) → Sound b (withQueue q n) → Sound b (pass b q n .node)
 unfolding oneMore
 pass-sound {b} =
-    pass-induct (λ q n s. Sound b (withQueue q n) → Sound b (s .node)) (λ n h. h) (λ m q n e h. h) (λ m q n s later h. later (store-sound m q n h))
+    pass-induct b (λ q n s. Sound b (withQueue q n) → Sound b (s .node)) (λ n h. h) (λ m q n e h. h) (λ m q n s later h. later (store-sound m q n h))
 
 -- and every line
 pub pass-line : {b : Build} (q : List Message) (n : Node) → Sound b (withQueue q n) → (g : ℕ) → 1 ≤ g → g ≤ groupCount
-    → line (pass q n .node) g ≡ line (withQueue q n) g
+    → line (pass b q n .node) g ≡ line (withQueue q n) g
 unfolding oneMore
 pass-line {b} =
-    pass-induct (λ q n s. Sound b (withQueue q n) → (g : ℕ) → 1 ≤ g → g ≤ groupCount → line (s .node) g ≡ line (withQueue q n) g)
+    pass-induct b (λ q n s. Sound b (withQueue q n) → (g : ℕ) → 1 ≤ g → g ≤ groupCount → line (s .node) g ≡ line (withQueue q n) g)
     (λ n h g low high. refl) (λ m q n e h g low high. refl)
     (λ m q n s later h g low high. later (store-sound m q n h) g low high ∙ store-line m q n h g low high)
 
 -- flags and descriptors
-pub pass-flags : (q : List Message) (n : Node) (g : ℕ) → SameFlags (groupOf (pass q n .node) g) (groupOf n g)
+pub pass-flags : (b : Build) (q : List Message) (n : Node) (g : ℕ) → SameFlags (groupOf (pass b q n .node) g) (groupOf n g)
 unfolding oneMore groupOf withQueue
-pass-flags =
-    pass-induct (λ q n s. (g : ℕ) → SameFlags (groupOf (s .node) g) (groupOf n g))
-    (λ n g. flags-refl) (λ m q n e g. flags-refl) (λ m q n s later g. flags-trans (later g) (store-flags m n g))
+pass-flags b =
+    pass-induct b (λ q n s. (g : ℕ) → SameFlags (groupOf (s .node) g) (groupOf n g))
+    (λ n g. flags-refl) (λ m q n e g. flags-refl) (λ m q n s later g. flags-trans (later g) (store-flags b m n g))
 
 -- storing, and so a pass, leaves the running group
-store-running : (m : Message) (n : Node) → store m n .running ≡ n .running
-unfolding store withStock withGroup withFree
-store-running m n = refl
+pub store-running : (b : Build) (m : Message) (n : Node) → store b m n .running ≡ n .running
+unfolding store put withStock withGroup withFree withPaging
+store-running b m n = prepared-repaged b (m .group) n .running
 
-pub pass-running : (q : List Message) (n : Node) → pass q n .node .running ≡ n .running
+-- and the queue
+pub queue-stored : (b : Build) (m : Message) (n : Node) → store b m n .queue ≡ n .queue
+unfolding store put withStock withGroup withFree withPaging
+queue-stored b m n = prepared-repaged b (m .group) n .queue
+
+pub pass-running : (b : Build) (q : List Message) (n : Node) → pass b q n .node .running ≡ n .running
 unfolding oneMore withQueue
-pass-running =
-    pass-induct (λ q n s. s .node .running ≡ n .running) (λ n. refl) (λ m q n e. refl) (λ m q n s later. later ∙ store-running m n)
+pass-running b =
+    pass-induct b (λ q n s. s .node .running ≡ n .running) (λ n. refl) (λ m q n e. refl) (λ m q n s later. later ∙ store-running b m n)
 
 -- of the queue it leaves what it has not moved
-pub pass-queue : (q : List Message) (n : Node) → pass q n .node .queue ≡ drop (pass q n .moved) q
+pub pass-queue : (b : Build) (q : List Message) (n : Node) → pass b q n .node .queue ≡ drop (pass b q n .moved) q
 unfolding oneMore withQueue
-pass-queue = pass-induct (λ q n s. s .node .queue ≡ drop (s .moved) q) (λ n. refl) (λ m q n e. refl) (λ m q n s later. later)
+pass-queue b = pass-induct b (λ q n s. s .node .queue ≡ drop (s .moved) q) (λ n. refl) (λ m q n e. refl) (λ m q n s later. later)
 
-pub pass-moved : (q : List Message) (n : Node) → pass q n .moved + length (pass q n .node .queue) ≡ length q
+pub pass-moved : (b : Build) (q : List Message) (n : Node) → pass b q n .moved + length (pass b q n .node .queue) ≡ length q
 unfolding oneMore withQueue
-pass-moved =
-    pass-induct (λ q n s. s .moved + length (s .node .queue) ≡ length q) (λ n. refl) (λ m q n e. zero-add _) (λ m q n s later. omega arith)
+pass-moved b =
+    pass-induct b (λ q n s. s .moved + length (s .node .queue) ≡ length q) (λ n. refl) (λ m q n e. zero-add _) (λ m q n s later. omega arith)
 
 -- a head that it leaves may stay
-pub pass-head : (q : List Message) (n : Node) (m : Message) (r : List Message) → pass q n .node .queue ≡ m ∷ r → mayStay (pass q n .node) m ≡ true
+pub pass-head : (b : Build) (q : List Message) (n : Node) (m : Message) (r : List Message) → pass b q n .node .queue ≡ m ∷ r → mayStay (pass b q n .node) m ≡ true
 unfolding oneMore withQueue mayStay buffered groupOf
-pass-head =
-    pass-induct (λ q n s. (m : Message) (r : List Message) → s .node .queue ≡ m ∷ r → mayStay (s .node) m ≡ true)
+pass-head b =
+    pass-induct b (λ q n s. (m : Message) (r : List Message) → s .node .queue ≡ m ∷ r → mayStay (s .node) m ≡ true)
     (λ n m r none. cc) (λ m q n e m′ r same. let first : m ≡ m′ = cc in rw first at e) (λ m q n s later. later)
 
 -- the timer is no part of a line
@@ -96,108 +103,112 @@ rest-cases P n rest runs = go (isEmpty (n .queue))
     go false = runs
 
 -- settling leaves a sound node
-pub settle-sound : {b : Build} {n : Node} → Sound b n → Sound b (settle n .node)
+pub settle-sound : {b : Build} {n : Node} → Sound b n → Sound b (settle b n .node)
 unfolding settle withQueue
 settle-sound {b} {n} s =
     let p = pass-sound (n .queue) n s in
-    rest-cases (Sound b) (pass (n .queue) n .node) (sound-timer p 0 (omega (arith, s .timer-bound))) p
+    rest-cases (Sound b) (pass b (n .queue) n .node) (sound-timer p 0 (omega (arith, s .timer-bound))) p
 
 -- every line
-pub settle-line : {b : Build} {n : Node} → Sound b n → (g : ℕ) → 1 ≤ g → g ≤ groupCount → line (settle n .node) g ≡ line n g
+pub settle-line : {b : Build} {n : Node} → Sound b n → (g : ℕ) → 1 ≤ g → g ≤ groupCount → line (settle b n .node) g ≡ line n g
 unfolding settle withQueue
 settle-line {b} {n} s g low high =
-    let p = pass (n .queue) n .node in
+    let p = pass b (n .queue) n .node in
     rest-cases (λ r. line r g ≡ line p g) p (timer-line 0 p g) refl ∙ pass-line (n .queue) n s g low high
 
 -- flags and descriptors
-pub settle-flags : (n : Node) (g : ℕ) → SameFlags (groupOf (settle n .node) g) (groupOf n g)
+pub settle-flags : (b : Build) (n : Node) (g : ℕ) → SameFlags (groupOf (settle b n .node) g) (groupOf n g)
 unfolding settle groupOf withTimer
-settle-flags n g =
-    let p = pass-flags (n .queue) n g in
-    rest-cases (λ r. SameFlags (groupOf r g) (groupOf n g)) (pass (n .queue) n .node) p p
+settle-flags b n g =
+    let p = pass-flags b (n .queue) n g in
+    rest-cases (λ r. SameFlags (groupOf r g) (groupOf n g)) (pass b (n .queue) n .node) p p
 
 -- and the running group
-pub settle-running : (n : Node) → settle n .node .running ≡ n .running
+pub settle-running : (b : Build) (n : Node) → settle b n .node .running ≡ n .running
 unfolding settle withTimer
-settle-running n =
-    let p = pass-running (n .queue) n in
-    rest-cases (λ r. r .running ≡ n .running) (pass (n .queue) n .node) p p
+settle-running b n =
+    let p = pass-running b (n .queue) n in
+    rest-cases (λ r. r .running ≡ n .running) (pass b (n .queue) n .node) p p
 
 -- of the queue it leaves what it has not moved
-settled-queue : (n : Node) → settle n .node .queue ≡ pass (n .queue) n .node .queue
+settled-queue : (b : Build) (n : Node) → settle b n .node .queue ≡ pass b (n .queue) n .node .queue
 unfolding settle withTimer
-settled-queue n =
-    let p = pass (n .queue) n .node in
+settled-queue b n =
+    let p = pass b (n .queue) n .node in
     rest-cases (λ r. r .queue ≡ p .queue) p refl refl
 
-pub settle-queue : (n : Node) → settle n .node .queue ≡ drop (settle n .moved) (n .queue)
+pub settle-queue : (b : Build) (n : Node) → settle b n .node .queue ≡ drop (settle b n .moved) (n .queue)
 unfolding settle
-settle-queue n = settled-queue n ∙ pass-queue (n .queue) n
+settle-queue b n = settled-queue b n ∙ pass-queue b (n .queue) n
 
-pub settle-moved : (n : Node) → settle n .moved + length (settle n .node .queue) ≡ length (n .queue)
+pub settle-moved : (b : Build) (n : Node) → settle b n .moved + length (settle b n .node .queue) ≡ length (n .queue)
 unfolding settle
-settle-moved n = ap (λ (q : List Message). pass (n .queue) n .moved + length q) (settled-queue n) ∙ pass-moved (n .queue) n
+settle-moved b n = ap (λ (q : List Message). pass b (n .queue) n .moved + length q) (settled-queue b n) ∙ pass-moved b (n .queue) n
 
 -- a head that it leaves may stay
-pub settle-head : (n : Node) (m : Message) (q : List Message) → settle n .node .queue ≡ m ∷ q → mayStay (settle n .node) m ≡ true
+pub settle-head : (b : Build) (n : Node) (m : Message) (q : List Message) → settle b n .node .queue ≡ m ∷ q → mayStay (settle b n .node) m ≡ true
 unfolding settle withTimer mayStay buffered groupOf
-settle-head n m q head =
-    let stays = pass-head (n .queue) n m q (sym (settled-queue n) ∙ head) in
-    rest-cases (λ r. mayStay r m ≡ true) (pass (n .queue) n .node) stays stays
+settle-head b n m q head =
+    let stays = pass-head b (n .queue) n m q (sym (settled-queue b n) ∙ head) in
+    rest-cases (λ r. mayStay r m ≡ true) (pass b (n .queue) n .node) stays stays
 
 -- where it leaves none the timer is 0
-pub settle-timer : (n : Node) → settle n .node .queue ≡ [] → settle n .node .timer ≡ 0
+pub settle-timer : (b : Build) (n : Node) → settle b n .node .queue ≡ [] → settle b n .node .timer ≡ 0
 unfolding settle restTimer withTimer
-settle-timer n none =
-    let p = pass (n .queue) n .node in
-    ap (λ (q : List Message). cond (isEmpty q) (withTimer 0 p) p .timer) (sym (settled-queue n) ∙ none)
+settle-timer b n none =
+    let p = pass b (n .queue) n .node in
+    ap (λ (q : List Message). cond (isEmpty q) (withTimer 0 p) p .timer) (sym (settled-queue b n) ∙ none)
 
 -- where a message stays, the timer stays too
-pass-timer : (q : List Message) (n : Node) → pass q n .node .timer ≡ n .timer
-unfolding oneMore withQueue store withStock withGroup withFree
-pass-timer = pass-induct (λ q n s. s .node .timer ≡ n .timer) (λ n. refl) (λ m q n e. refl) (λ m q n s later. later)
+pub timer-stored : (b : Build) (m : Message) (n : Node) → store b m n .timer ≡ n .timer
+unfolding store put withStock withGroup withFree withPaging
+timer-stored b m n = prepared-repaged b (m .group) n .timer
 
-pub settle-keeps : (n : Node) → isEmpty (settle n .node .queue) ≡ false → settle n .node .timer ≡ n .timer
+pass-timer : (b : Build) (q : List Message) (n : Node) → pass b q n .node .timer ≡ n .timer
+unfolding oneMore withQueue
+pass-timer b = pass-induct b (λ q n s. s .node .timer ≡ n .timer) (λ n. refl) (λ m q n e. refl) (λ m q n s later. later ∙ timer-stored b m n)
+
+pub settle-keeps : (b : Build) (n : Node) → isEmpty (settle b n .node .queue) ≡ false → settle b n .node .timer ≡ n .timer
 unfolding settle restTimer withTimer
-settle-keeps n some =
-    let p = pass (n .queue) n .node in
-    ap (λ (t : Bool). cond t (withTimer 0 p) p .timer) (ap isEmpty (sym (settled-queue n)) ∙ some) ∙ pass-timer (n .queue) n
+settle-keeps b n some =
+    let p = pass b (n .queue) n .node in
+    ap (λ (t : Bool). cond t (withTimer 0 p) p .timer) (ap isEmpty (sym (settled-queue b n)) ∙ some) ∙ pass-timer b (n .queue) n
 
 -- a head that may not stay moves
-pub pass-moves : (m : Message) (q : List Message) (n : Node) → mayStay n m ≡ false → 1 ≤ pass (m ∷ q) n .moved
+pub pass-moves : (b : Build) (m : Message) (q : List Message) (n : Node) → mayStay n m ≡ false → 1 ≤ pass b (m ∷ q) n .moved
 unfolding pass oneMore
-pass-moves m q n e = rw (e, pass) (omega arith)
+pass-moves b m q n e = rw (e, pass) (omega arith)
 
 -- draining leaves a sound node
-pub drain-sound : {b : Build} (q : List Message) (n : Node) → Sound b (withQueue q n) → Sound b (drain q n)
+pub drain-sound : {b : Build} (q : List Message) (n : Node) → Sound b (withQueue q n) → Sound b (drain b q n)
 unfolding drain
 drain-sound [] n s = s
-drain-sound (m ∷ q) n s = drain-sound q (store m n) (store-sound m q n s)
+drain-sound {b} (m ∷ q) n s = drain-sound q (store b m n) (store-sound m q n s)
 
 -- every line
 pub drain-line : {b : Build} (q : List Message) (n : Node) → Sound b (withQueue q n) → (g : ℕ) → 1 ≤ g → g ≤ groupCount
-    → line (drain q n) g ≡ line (withQueue q n) g
+    → line (drain b q n) g ≡ line (withQueue q n) g
 unfolding drain
 drain-line [] n s g low high = refl
-drain-line (m ∷ q) n s g low high = drain-line q (store m n) (store-sound m q n s) g low high ∙ store-line m q n s g low high
+drain-line {b} (m ∷ q) n s g low high = drain-line q (store b m n) (store-sound m q n s) g low high ∙ store-line m q n s g low high
 
 -- flags and descriptors
-pub drain-flags : (q : List Message) (n : Node) (g : ℕ) → SameFlags (groupOf (drain q n) g) (groupOf n g)
+pub drain-flags : (b : Build) (q : List Message) (n : Node) (g : ℕ) → SameFlags (groupOf (drain b q n) g) (groupOf n g)
 unfolding drain groupOf withQueue
-drain-flags [] n g = flags-refl
-drain-flags (m ∷ q) n g = flags-trans (drain-flags q (store m n) g) (store-flags m n g)
+drain-flags b [] n g = flags-refl
+drain-flags b (m ∷ q) n g = flags-trans (drain-flags b q (store b m n) g) (store-flags b m n g)
 
 -- and the running group
-pub drain-running : (q : List Message) (n : Node) → drain q n .running ≡ n .running
+pub drain-running : (b : Build) (q : List Message) (n : Node) → drain b q n .running ≡ n .running
 unfolding drain withQueue
-drain-running [] n = refl
-drain-running (m ∷ q) n = drain-running q (store m n) ∙ store-running m n
+drain-running b [] n = refl
+drain-running b (m ∷ q) n = drain-running b q (store b m n) ∙ store-running b m n
 
 -- the queue is then empty
-pub drain-queue : (q : List Message) (n : Node) → drain q n .queue ≡ []
+pub drain-queue : (b : Build) (q : List Message) (n : Node) → drain b q n .queue ≡ []
 unfolding drain withQueue
-drain-queue [] n = refl
-drain-queue (m ∷ q) n = drain-queue q (store m n)
+drain-queue b [] n = refl
+drain-queue b (m ∷ q) n = drain-queue b q (store b m n)
 
 -- an upcall changes the running group's flags where one is due, and else nothing
 pub upcall-cases : (P : Node → Type 0) (n : Node)

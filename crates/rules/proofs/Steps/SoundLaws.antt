@@ -1,13 +1,22 @@
 -- A node is sound, and a sound node can be mapped; what of a group a step in the middle leaves. Assumes nothing.
-use Prim.Native.Nat.{ℕ, _≤_}
+use Prim.Native.Nat.{ℕ, _+_, _≤_}
 use mathlib.Core.Path.{_≡_, refl, _∙_}
 use mathlib.Core.Bool.{true, false}
-use Rattle.rules.specs.Lists.{isEmpty}
-use Rattle.rules.specs.Build.{Build, paper01, groupCount}
+use mathlib.Core.List.{map, map-append}
+use native.Mathlib.Omega.{arith}
+use lib.ListN.{length, length-append, length-map}
+use Rattle.rules.specs.Lists.{isEmpty, concatMap}
+use Rattle.rules.specs.Build.{Build, Sensible, paper01, groupCount}
 use Rattle.rules.specs.Node.{Group, Node, groupOf, line}
-use Rattle.rules.specs.Valid.{GoodGroup, Valid}
+use Rattle.rules.specs.Valid.{GoodGroup, Valid, frameNumber, frameList, idle, frameNumbers, frameOrder}
 use Rattle.rules.specs.Sound.{Sound, WholeGroup, Mapped}
-use Rattle.rules.proofs.Steps.EveryLaws.{every-mono}
+use Rattle.rules.proofs.Steps.EveryLaws.{every-mono, every-remap}
+use Rattle.rules.proofs.Steps.ListLaws.{below-once, below-length, below-append, below-none}
+
+-- paper 01's build makes sense
+pub paper-sensible : Sensible paper01
+paper-sensible =
+    record { frames = omega arith; perFrame = omega arith; places = omega arith; timeout = omega arith }
 
 -- "pending only with [...] a line not empty"
 abbrev pub PendingLines : Node → Type 0
@@ -30,6 +39,7 @@ flags-refl = record { atomic = refl; pending = refl; descriptor = refl }
 pub valid-sound : {b : Build} {n : Node} → Valid b n → Sound b n
 valid-sound v =
     record {
+      sensible = v .sensible;
       running-bound = v .running-bound;
       timer-bound = v .timer-bound;
       queue-length = v .queue-length;
@@ -37,10 +47,38 @@ valid-sound v =
       group-count = v .group-count;
       groups-good = v .groups-good;
       free-good = v .free-good;
+      swap-good = v .swap-good;
       frames-once = v .frames-once;
       frames-all = v .frames-all;
+      swap-numbers = v .swap-numbers;
+      entered-once = v .entered-once;
+      entered-all = v .entered-all;
       pledged = v .pledged;
     }
+
+module _ {b : Build} {n : Node} (s : Sound b n) where
+  -- the free frames and those in the order of entry are as many as the build has
+  pub line-lengths : length (n .free) + length (n .paging .entered) ≡ b .frames
+  unfolding frameOrder
+  line-lengths =
+      let all = s .entered-all in
+      let e = length-append (map frameNumber (n .free)) (n .paging .entered) in
+      let l = length-map (n .free) frameNumber in
+      omega arith
+
+  -- no more swap pages are free than there are: the numbers below `frames` are as many as that and none of them is in the swap line, so the
+  -- free line and the lists have that many at least
+  pub swap-short : length (n .paging .swap) ≤ b .swap
+  unfolding idle frameNumbers frameNumber
+  swap-short =
+      let free = map frameNumber (n .free) in
+      let swap = map frameNumber (n .paging .swap) in
+      let lists = concatMap frameList (n .groups) in
+      let once = below-once (b .frames) (frameNumbers n) (λ f l. s .frames-once f (omega arith)) in
+      let parts = simp (map-append, below-append) at once in
+      let none = below-none (b .frames) swap (every-remap (λ f. b .frames ≤ f) frameNumber (n .paging .swap) (s .swap-numbers)) in
+      let sizes = simp (map-append, length-append, length-map) at (s .frames-all) in
+      omega (arith, below-length (b .frames) free, length-map (n .free) frameNumber, below-length (b .frames) lists)
 
 -- a sound node can be mapped
 pub sound-mapped : {n : Node} → Sound paper01 n → Mapped n
@@ -53,8 +91,12 @@ sound-mapped {n} s =
           every-mono (GoodGroup paper01) WholeGroup
           (λ G g. record { descriptor = g .descriptor; whole = g .buffer .whole; places = g .buffer .places }) (n .groups) (s .groups-good);
       free-good = s .free-good;
+      swap-good = s .swap-good;
       frames-once = s .frames-once;
       frames-all = s .frames-all;
+      free-short = omega (arith, line-lengths s);
+      swap-short = swap-short s;
+      entered-short = omega (arith, line-lengths s);
     }
 
 -- and so can a valid one

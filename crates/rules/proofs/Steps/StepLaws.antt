@@ -5,27 +5,29 @@ use Prim.Native.Nat.{ℕ, zero, suc, _≤_, pred}
 use mathlib.Core.Path.{_≡_, refl, sym, subst, ap, _∙_}
 use mathlib.Core.Logic.{_≢_}
 use mathlib.Core.Bool.{Bool, true, false, true≢false, not, _&&_, false≢true, and-eq-true-iff}
-use mathlib.Core.List.{List, [], _∷_, map, append-nil}
+use mathlib.Core.List.{List, [], _∷_, _++_, map, map-append, append-nil}
 use native.Mathlib.Omega.{arith}
-use native.Mathlib.Nat.{zero-mul, not-suc-le-zero}
+use native.Mathlib.Nat.{zero-add, zero-mul, not-suc-le-zero}
 use lib.Dec.{ltb, eqb}
 use lib.ListN.{length, getD, replicate, length-replicate}
 use borrow.Author.Tests.{eqb-false, ne-eqb, not-true}
-use Rattle.rules.specs.Lists.{isEmpty, concatMap, countOf, upFrom}
-use Rattle.rules.specs.Build.{Build, Sensible, groupCount}
-use Rattle.rules.specs.Node.{Message, Buffer, Group, Node, groupOf, withGroup, withFlags, buffered, line, emptyPlace, emptyFrame, emptyGroup, powerOn, waiting, inQueue}
+use Rattle.rules.specs.Lists.{Every, isEmpty, concatMap, countOf, upFrom}
+use Rattle.rules.specs.Build.{Build, Sensible, pageCount, groupCount}
+use Rattle.rules.specs.Node.{Message, Buffer, Group, Node, groupOf, withGroup, withFlags, buffered, line, emptyPlace, emptyFrame, emptyGroup, emptyPaging, powerOn, waiting, inQueue}
 use Rattle.rules.specs.Frames.{pledge, pledges}
 use Rattle.rules.specs.Operation.{refused, Operation}
+use Rattle.rules.specs.Paging.{runnerResident}
 use Rattle.rules.specs.Refusal.{refusal}
 use Rattle.rules.specs.Settling.{mayStay, settle, calls, upcall}
 use Rattle.rules.specs.Step.{Effect, Stepped, act, finish, step}
-use Rattle.rules.specs.Valid.{GoodGroup, Valid, GoodPlace, GoodFrame, frameList, frameNumber, frameNumbers}
+use Rattle.rules.specs.Valid.{GoodGroup, Valid, GoodPlace, GoodFrame, IsSwap, FirstInFrame, frameList, frameNumber, idle, frameNumbers, frameOrder}
 use Rattle.rules.specs.Sound.{Sound}
-use Rattle.rules.proofs.Steps.EveryLaws.{every-replicate, every-map}
-use Rattle.rules.proofs.Steps.ListLaws.{sum-le, count-within, length-upFrom}
+use Rattle.rules.proofs.Steps.EveryLaws.{every-replicate, every-map, every-mapped, every-upFrom}
+use Rattle.rules.proofs.Steps.ListLaws.{sum-le, count-within, length-upFrom, upFrom-append}
 use Rattle.rules.proofs.Steps.FrameLaws.{ceil-none}
 use Rattle.rules.proofs.Steps.NodeLaws.{group-same, kept, within, group-good, reflagged}
 use Rattle.rules.proofs.Steps.SettlingLaws.{upcall-cases, settle-sound, settle-line, settle-flags, settle-head, settle-timer}
+use Rattle.rules.proofs.Steps.PagingLaws.{Repaged, repaged-line, repaged-buffered, runner-repaged, runner-sound, runner-first}
 use Rattle.rules.proofs.Steps.ActLaws.{Ready, reflagged-pending, act-ready}
 
 -- a node after settling: ready, its head stays, and its timer rests with an empty queue
@@ -35,23 +37,42 @@ record Settled (b : Build) (n : Node) : Type 0 where
   timer-idle : n .queue ≡ [] → n .timer ≡ 0
 
 -- settling settles
-settled : {b : Build} {n : Node} → Ready b n → Settled b (settle n .node)
+settled : {b : Build} {n : Node} → Ready b n → Settled b (settle b n .node)
 settled {b} {n} y =
     record {
       ready = record {
         sound = settle-sound (y .sound);
-        pending = λ g low high e. rw (settle-line (y .sound) g low high) (y .pending g low high (sym (settle-flags n g .pending) ∙ e));
+        pending = λ g low high e. rw (settle-line (y .sound) g low high) (y .pending g low high (sym (settle-flags b n g .pending) ∙ e));
       };
-      head-stays = settle-head n;
-      timer-idle = settle-timer n;
+      head-stays = settle-head b n;
+      timer-idle = settle-timer b n;
     }
 
--- it is a node, if the running group with a line is atomic
-settled-valid : {b : Build} {n : Node} → Settled b n
+-- whether a head may stay does not hang on where pages are
+pub repaged-stays : {n′ n : Node} → Repaged n′ n → (m : Message) → mayStay n′ m ≡ mayStay n m
+unfolding mayStay buffered groupOf
+repaged-stays r m = rw (r .running, repaged-buffered r (m .group))
+
+-- the running group's first page brought in leaves it settled
+paged : {b : Build} {n : Node} → Settled b n → Settled b (runnerResident b n)
+paged {b} {n} d =
+    let r = runner-repaged b n in
+    record {
+      ready = record {
+        sound = runner-sound (d .ready .sound);
+        pending = λ g low high e. rw (repaged-line r g) (d .ready .pending g low high (sym (r .groups g .flags .pending) ∙ e));
+      };
+      head-stays = λ m q e. repaged-stays r m ∙ d .head-stays m q (sym (r .queue) ∙ e);
+      timer-idle = λ e. r .timer ∙ d .timer-idle (sym (r .queue) ∙ e);
+    }
+
+-- it is a node, if the running group's first page is in a frame, and the running group with a line is atomic
+settled-valid : {b : Build} {n : Node} → Settled b n → (1 ≤ n .running → FirstInFrame b (groupOf n (n .running) .buffer .frames))
     → (1 ≤ n .running → isEmpty (line n (n .running)) ≡ false → groupOf n (n .running) .atomic ≡ true) → Valid b n
-settled-valid d atomic =
+settled-valid d first atomic =
     let s = d .ready .sound in
     record {
+      sensible = s .sensible;
       running-bound = s .running-bound;
       timer-bound = s .timer-bound;
       queue-length = s .queue-length;
@@ -59,13 +80,18 @@ settled-valid d atomic =
       group-count = s .group-count;
       groups-good = s .groups-good;
       free-good = s .free-good;
+      swap-good = s .swap-good;
       frames-once = s .frames-once;
       frames-all = s .frames-all;
+      swap-numbers = s .swap-numbers;
+      entered-once = s .entered-once;
+      entered-all = s .entered-all;
       pledged = s .pledged;
       pending-line = d .ready .pending;
       running-atomic = atomic;
       head-stays = d .head-stays;
       timer-idle = d .timer-idle;
+      runner-resident = first;
     }
 
 -- of three tests that do not all fail the one between passes, if the first and the last fail
@@ -100,9 +126,9 @@ pub calls-group : (n : Node) → calls n ≡ true → 1 ≤ n .running
 calls-group n e = due n e .group
 
 -- a group called up
-called : {b : Build} {n : Node} → Settled b n → calls n ≡ true → Valid b (withGroup (n .running) (withFlags true true (groupOf n (n .running))) n)
+called : {b : Build} {n : Node} → Settled b n → (1 ≤ n .running → FirstInFrame b (groupOf n (n .running) .buffer .frames)) → calls n ≡ true → Valid b (withGroup (n .running) (withFlags true true (groupOf n (n .running))) n)
 unfolding withFlags withGroup
-called {b} {n} d e =
+called {b} {n} d first e =
     let s = d .ready .sound in
     let r = n .running in
     let low = due n e .group in
@@ -119,29 +145,35 @@ called {b} {n} d e =
       head-stays = λ m q head. reflagged-stays n r G refl m ∙ d .head-stays m q head;
       timer-idle = d .timer-idle;
     })
+    (λ low′. subst (FirstInFrame b) (sym (ap (λ (K : Group). K .buffer .frames) (group-same n r G (within s r low high)))) (first low′))
     (λ low′ some′. ap (λ (K : Group). K .atomic) (group-same n r G (within s r low high)))
 
 -- the upcall makes it a node
-upcall-valid : {b : Build} {n : Node} → Settled b n → Valid b (upcall n)
+upcall-valid : {b : Build} {n : Node} → Settled b n → (1 ≤ n .running → FirstInFrame b (groupOf n (n .running) .buffer .frames)) → Valid b (upcall n)
 unfolding calls
-upcall-valid {b} {n} d = upcall-cases (Valid b) n (called d) quiet
+upcall-valid {b} {n} d first = upcall-cases (Valid b) n (called d first) quiet
   where
     quiet : calls n ≡ false → Valid b n
     quiet e =
         let test : 1 ≤ n .running → eqb (n .running) 0 ≡ false = λ low. ne-eqb (n .running) 0 (λ none. omega arith) in
-        settled-valid d (λ low some. between (eqb (n .running) 0) (groupOf n (n .running) .atomic) (isEmpty (line n (n .running))) e (test low) some)
+        settled-valid d first (λ low some. between (eqb (n .running) 0) (groupOf n (n .running) .atomic) (isEmpty (line n (n .running))) e (test low) some)
 
 -- settling and the upcall leave a node
-pub finish-valid : {b : Build} (e : Effect) → Ready b (e .node) → Valid b (finish e .node)
+pub finish-valid : {b : Build} (e : Effect) → Ready b (e .node) → Valid b (finish b e .node)
 unfolding finish
-finish-valid e y = upcall-valid (settled y)
+finish-valid {b} e y =
+    let k = settle b (e .node) .node in
+    let d = settled y in
+    let r = runner-repaged b k .running in
+    upcall-valid (paged d)
+    (λ low. subst (λ (g : ℕ). FirstInFrame b (groupOf (runnerResident b k) g .buffer .frames)) (sym r) (runner-first (d .ready .sound) (omega arith)))
 
 -- what an accepted operation leaves is sound
 pub act-sound : {b : Build} {n : Node} → Valid b n → (op : Operation) → refusal b n op ≡ 0 → Sound b (act b n op .node)
 act-sound v op e = act-ready v op e .sound
 
 -- an accepted step acts and finishes
-pub step-accepted : (b : Build) (n : Node) (op : Operation) → refusal b n op ≡ 0 → step b n op ≡ finish (act b n op)
+pub step-accepted : (b : Build) (n : Node) (op : Operation) → refusal b n op ≡ 0 → step b n op ≡ finish b (act b n op)
 unfolding step
 step-accepted b n op e = rw (e, step)
 
@@ -152,7 +184,7 @@ step-refused b n op r e = rw (e, step)
 
 -- what holds of a refused step, and of an accepted one, holds of a step
 pub step-cases : (b : Build) (n : Node) (op : Operation) (P : Stepped → Type 0)
-    → (refusal b n op ≡ 0 → P (finish (act b n op)))
+    → (refusal b n op ≡ 0 → P (finish b (act b n op)))
     → ((r : ℕ) → refusal b n op ≡ suc r → P (record { report = refused (suc r); node = n }))
     → P (step b n op)
 step-cases b n op P accepts refuses = go (refusal b n op) refl
@@ -211,9 +243,22 @@ empty-numbers b [] = refl
 empty-numbers b (x ∷ xs) = ap {B = List ℕ} (λ r. x ∷ r) (empty-numbers b xs)
 
 -- so the frames are numbered upward
-power-on-frames : (b : Build) → frameNumbers (powerOn b) ≡ upFrom 0 (b .frames)
-unfolding frameNumbers powerOn
-power-on-frames b = rw (empty-numbers b (upFrom 0 (b .frames)), empty-frames groupCount, append-nil)
+power-on-frames : (b : Build) → frameNumbers (powerOn b) ≡ upFrom 0 (pageCount b)
+unfolding frameNumbers idle powerOn emptyPaging
+power-on-frames b =
+    rw (map-append, empty-numbers b (upFrom 0 (b .frames)), empty-numbers b (upFrom (b .frames) (b .swap)), empty-frames groupCount, append-nil)
+    (sym (upFrom-append 0 (b .frames) (b .swap) ∙ ap (λ (a : ℕ). upFrom 0 (b .frames) ++ upFrom a (b .swap)) (zero-add (b .frames))))
+
+-- and none is in use
+power-on-order : (b : Build) → frameOrder (powerOn b) ≡ upFrom 0 (b .frames)
+unfolding frameOrder powerOn emptyPaging
+power-on-order b = rw (empty-numbers b (upFrom 0 (b .frames)), append-nil)
+
+-- the swap line has swap pages
+power-on-swap : (b : Build) → Every (IsSwap b) (map (emptyFrame b) (upFrom (b .frames) (b .swap)))
+unfolding emptyFrame
+power-on-swap b =
+    every-mapped (λ k. b .frames ≤ k) (IsSwap b) (emptyFrame b) (λ k h. h) (upFrom (b .frames) (b .swap)) (every-upFrom (λ k. b .frames ≤ k) (b .frames) (b .swap) (λ i low high. low))
 
 -- every group is the empty one
 pub power-on-group : (b : Build) (g : ℕ) → groupOf (powerOn b) g ≡ emptyGroup
@@ -227,10 +272,11 @@ power-on-pledge b some g = rw (power-on-group b g) (sym (ceil-none (b .perFrame)
 
 -- power-on makes a node
 pub power-on-valid : (b : Build) → Sensible b → Valid b (powerOn b)
-unfolding powerOn pledges
+unfolding powerOn emptyPaging pledges
 power-on-valid b s =
     let none = sum-le (pledge b (powerOn b)) (λ g. 0) 1 groupCount (λ g low high. omega (arith, power-on-pledge b (s .perFrame) g)) in
     record {
+      sensible = s;
       running-bound = omega arith;
       timer-bound = s .timeout;
       queue-length = omega arith;
@@ -238,11 +284,16 @@ power-on-valid b s =
       group-count = length-replicate groupCount emptyGroup;
       groups-good = every-replicate (GoodGroup b) groupCount emptyGroup (empty-good b (s .perFrame));
       free-good = every-map (GoodFrame b) (emptyFrame b) (frame-good b) (upFrom 0 (b .frames));
-      frames-once = λ f below. ap (countOf f) (power-on-frames b) ∙ count-within f 0 (b .frames) (omega arith) (omega arith);
-      frames-all = ap length (power-on-frames b) ∙ length-upFrom 0 (b .frames);
+      swap-good = every-map (GoodFrame b) (emptyFrame b) (frame-good b) (upFrom (b .frames) (b .swap));
+      frames-once = λ f below. ap (countOf f) (power-on-frames b) ∙ count-within f 0 (pageCount b) (omega arith) (omega arith);
+      frames-all = ap length (power-on-frames b) ∙ length-upFrom 0 (pageCount b);
+      swap-numbers = power-on-swap b;
+      entered-once = λ f below. ap (countOf f) (power-on-order b) ∙ count-within f 0 (b .frames) (omega arith) (omega arith);
+      entered-all = ap length (power-on-order b) ∙ length-upFrom 0 (b .frames);
       pledged = omega arith;
       pending-line = λ g low high e. absurd (false≢true (sym (ap (λ (G : Group). G .pending) (power-on-group b g)) ∙ e));
       running-atomic = λ low. absurd (not-suc-le-zero low);
       head-stays = λ m q e. cc;
       timer-idle = λ e. refl;
+      runner-resident = λ low. absurd (not-suc-le-zero low);
     }

@@ -1,16 +1,14 @@
--- The free line and the groups' lists as nine lists, walked one number at a time: the numbers of all frames are those of the lists passed,
--- those passed of the present list, the present number, and the rest. Assumes nothing.
+-- The order of entry, the free line, the swap line and the groups' lists as eleven lists, walked one number at a time: the numbers of some of
+-- them are those of the lists passed, those passed of the present list, the present number, and the rest. Assumes nothing.
 use Prim.Native.Nat.{ℕ, zero, suc, _+_, _-_, _≤_, _<_}
 use mathlib.Core.Path.{_≡_, refl, ap, _∙_}
-use mathlib.Core.Logic.{_≢_}
-use mathlib.Core.List.{List, [], _∷_, _++_, map, append-nil, append-assoc}
+use mathlib.Core.List.{List, [], _∷_, _++_, map, map-append, append-nil, append-assoc}
 use native.Mathlib.Omega.{arith}
 use native.Mathlib.Nat.{add-zero, zero-add, suc-add}
 use lib.ListN.{length, length-append}
 use Rattle.rules.specs.Lists.{concatMap, upFrom}
-use Rattle.rules.specs.Build.{groupCount}
-use Rattle.rules.specs.Valid.{frameNumber, frameList, frameNumbers}
-use Rattle.rules.specs.Memory.{freeAt, freeCountAt, listOffset, heldOffset, word, wordsAt, frameAt, listAt, bufferAt, groupAt, groupsFrom, groupAddress, nodeAt}
+use Rattle.rules.specs.Valid.{frameNumber, frameList, idle, frameNumbers, frameOrder}
+use Rattle.rules.specs.Memory.{freeAt, freeCountAt, swapAt, swapCountAt, enteredAt, enteredCountAt, listOffset, heldOffset, size, word, wordsAt, frameAt, listAt, bufferAt, groupAt, groupsFrom, groupAddress, pagingFrom, nodeAt}
 use Rattle.rules.proofs.Map.MapWords.{length-wordsAt}
 use Rattle.validate.specs.Clauses.{listStart, listCount, listNumbers, listed}
 use Rattle.validate.specs.Known.{Counted}
@@ -41,26 +39,34 @@ module _ (m : List ℕ) where
   unfolding wordsAt
   words-more a j = words-split a j 1
 
+  -- Lists from list a on.
+
   -- at first none
-  pub listed-none : 0 ≡ length (listed m 0)
+  pub listed-none : (a : ℕ) → listed m a (a - a) ≡ []
   unfolding listed
-  listed-none = refl
+  listed-none a = let e : a - a ≡ 0 = omega arith in rw e
+
+  -- in two parts
+  listed-split : (a j k : ℕ) → listed m a (j + k) ≡ listed m a j ++ listed m (a + j) k
+  unfolding listed
+  listed-split a j k =
+      ap (concatMap (listNumbers m)) (range-split a j k) ∙ concat-append (listNumbers m) (upFrom a j) (upFrom (a + j) k)
 
   -- one list more
-  pub listed-more : (g : ℕ) → listed m (g + 1) ≡ listed m g ++ listNumbers m g
+  pub listed-more : (a l : ℕ) → a ≤ l → listed m a (l + 1 - a) ≡ listed m a (l - a) ++ listNumbers m l
   unfolding listed
-  listed-more g =
-      ap (concatMap (listNumbers m)) (range-split 0 g 1)
-      ∙ concat-append (listNumbers m) (upFrom 0 g) (upFrom (0 + g) 1)
-      ∙ rw (zero-add g, append-nil)
+  listed-more a l h =
+      let e : l + 1 - a ≡ (l - a) + 1 = omega arith in
+      let here : a + (l - a) ≡ l = omega arith in
+      ap (listed m a) e ∙ listed-split a (l - a) 1 ∙ rw (here, append-nil)
 
-  -- as many numbers more as the list has frames
-  pub listed-length : (g : ℕ) → length (listed m (g + 1)) ≡ length (listed m g) + listCount m g
+  -- as many numbers more as the list has
+  pub listed-length : (a l : ℕ) → a ≤ l → length (listed m a (l + 1 - a)) ≡ length (listed m a (l - a)) + listCount m l
   unfolding listNumbers
-  listed-length g =
-      ap length (listed-more g)
-      ∙ length-append (listed m g) (listNumbers m g)
-      ∙ ap (λ (k : ℕ). length (listed m g) + k) (length-wordsAt m (listStart g) (listCount m g))
+  listed-length a l h =
+      ap length (listed-more a l h)
+      ∙ length-append (listed m a (l - a)) (listNumbers m l)
+      ∙ ap (λ (k : ℕ). length (listed m a (l - a)) + k) (length-wordsAt m (listStart l) (listCount m l))
 
   -- the numbers of frames are those read
   numbers-read : (fs : List ℕ) → map frameNumber (map (frameAt m) fs) ≡ fs
@@ -68,66 +74,103 @@ module _ (m : List ℕ) where
   numbers-read [] = refl
   numbers-read (f ∷ fs) = ap (λ (r : List ℕ). f ∷ r) (numbers-read fs)
 
-  -- those of the nine lists are those of the node
-  pub numbers-listed : frameNumbers (nodeAt m) ≡ listed m 9
-  unfolding frameNumbers nodeAt listed listNumbers listStart listCount groupsFrom groupAt bufferAt listAt frameList groupAddress
-  numbers-listed = rw (numbers-read (wordsAt m freeAt (word m freeCountAt)))
+  -- those of the lists from the free line on are those of the node
+  pub numbers-listed : frameNumbers (nodeAt m) ≡ listed m 1 10
+  unfolding frameNumbers idle nodeAt pagingFrom listed listNumbers listStart listCount groupsFrom groupAt bufferAt listAt frameList groupAddress
+  numbers-listed =
+      let free = wordsAt m freeAt (word m freeCountAt) in
+      let swap = wordsAt m swapAt (word m swapCountAt) in
+      rw (map-append frameNumber (map (frameAt m) free) (map (frameAt m) swap), numbers-read free, numbers-read swap, append-assoc)
 
-  -- what stands behind number i of list g
-  unfoldable pub behind : ℕ → ℕ → List ℕ
-  behind g i = wordsAt m (listStart g + i + 1) (listCount m g - (i + 1)) ++ concatMap (listNumbers m) (upFrom (g + 1) (9 - (g + 1)))
+  -- those of the order of entry and the free line are its frames, in another order
+  pub order-listed : (P : List ℕ → Type 0) → ((xs ys : List ℕ) → P (ys ++ xs) → P (xs ++ ys)) → P (listed m 0 2) → P (frameOrder (nodeAt m))
+  unfolding frameOrder nodeAt pagingFrom listed listNumbers listStart listCount
+  order-listed P turn h =
+      let free = wordsAt m freeAt (word m freeCountAt) in
+      let entered = wordsAt m enteredAt (word m enteredCountAt) in
+      rw (numbers-read free) (turn free entered (rw (append-nil free) at h))
+
+  -- what stands behind number i of list l, up to list b
+  unfoldable pub behind : ℕ → ℕ → ℕ → List ℕ
+  behind b l i = wordsAt m (listStart l + i + 1) (listCount m l - (i + 1)) ++ listed m (l + 1) (b - (l + 1))
 
   -- a list, from its number i on
-  list-split : (g i : ℕ) → i < listCount m g
-      → listNumbers m g ≡ wordsAt m (listStart g) i ++ (word m (listStart g + i) ∷ wordsAt m (listStart g + i + 1) (listCount m g - (i + 1)))
+  list-split : (l i : ℕ) → i < listCount m l
+      → listNumbers m l ≡ wordsAt m (listStart l) i ++ (word m (listStart l + i) ∷ wordsAt m (listStart l + i + 1) (listCount m l - (i + 1)))
   unfolding listNumbers wordsAt
-  list-split g i h =
-      let e : listCount m g ≡ i + suc (listCount m g - (i + 1)) = omega arith in
-      ap (wordsAt m (listStart g)) e ∙ words-split (listStart g) i (suc (listCount m g - (i + 1)))
+  list-split l i h =
+      let e : listCount m l ≡ i + suc (listCount m l - (i + 1)) = omega arith in
+      ap (wordsAt m (listStart l)) e ∙ words-split (listStart l) i (suc (listCount m l - (i + 1)))
 
-  -- all numbers, from number i of list g on
-  pub numbers-split : (g i : ℕ) → g < 9 → i < listCount m g
-      → frameNumbers (nodeAt m) ≡ (listed m g ++ wordsAt m (listStart g) i) ++ (word m (listStart g + i) ∷ behind g i)
-  unfolding listed behind
-  numbers-split g i h l =
-      let e : 9 ≡ g + suc (9 - (g + 1)) = omega arith in
-      let n : 0 + g ≡ g = omega arith in
-      let s : suc g ≡ g + 1 = omega arith in
-      numbers-listed
-      ∙ ap (λ (k : ℕ). concatMap (listNumbers m) (upFrom 0 k)) e
-      ∙ ap (concatMap (listNumbers m)) (range-split 0 g (suc (9 - (g + 1))))
-      ∙ concat-append (listNumbers m) (upFrom 0 g) (upFrom (0 + g) (suc (9 - (g + 1))))
-      ∙ rw (n, s, list-split g i l) (simp append-assoc)
+  -- all numbers of the lists from a up to b, from number i of list l on
+  pub numbers-split : (a b l i : ℕ) → a ≤ l → l < b → i < listCount m l
+      → listed m a (b - a) ≡ (listed m a (l - a) ++ wordsAt m (listStart l) i) ++ (word m (listStart l + i) ∷ behind b l i)
+  unfolding behind
+  numbers-split a b l i low high h =
+      let e : b - a ≡ (l + 1 - a) + (b - (l + 1)) = omega arith in
+      let next : a + (l + 1 - a) ≡ l + 1 = omega arith in
+      ap (listed m a) e
+      ∙ listed-split a (l + 1 - a) (b - (l + 1))
+      ∙ rw (next, listed-more a l low, list-split l i h) (simp append-assoc)
 
-  -- a list has at most 32 frames
-  pub list-bound : Counted m → (g : ℕ) → g ≤ groupCount → listCount m g ≤ 32
+  -- a list has at most 96 numbers, and they are within the memory
+  pub list-bound : Counted m → (l : ℕ) → l < 11 → (listCount m l ≤ 96) × (listStart l + listCount m l ≤ size)
+  unfolding listCount listStart groupAddress
+  list-bound c zero h = (omega (arith, c .entered), omega (arith, c .entered))
+  list-bound c (suc zero) h = (omega (arith, c .free), omega (arith, c .free))
+  list-bound c (suc (suc zero)) h = (omega (arith, c .swap), omega (arith, c .swap))
+  list-bound c (suc (suc (suc g))) h =
+      let held = c .held (suc g) (omega arith) (omega arith) in
+      (held, omega (arith, held))
+
+-- Where each of the lists begins.
+
+module _ (l : ℕ) where
+  -- the order of entry
+  pub entered-start : l ≡ 0 → listStart l ≡ enteredAt
+  unfolding listStart
+  entered-start e = rw e
+
+  -- the free line
+  pub free-start : l ≡ 1 → listStart l ≡ freeAt
+  unfolding listStart
+  free-start e = rw e
+
+  -- the swap line
+  pub swap-start : l ≡ 2 → listStart l ≡ swapAt
+  unfolding listStart
+  swap-start e = rw e
+
+-- a group's
+pub group-start : (l : ℕ) → 2 < l → listStart l ≡ groupAddress (l - 2) + listOffset
+unfolding listStart
+group-start zero h = absurd (omega arith)
+group-start (suc zero) h = absurd (omega arith)
+group-start (suc (suc zero)) h = absurd (omega arith)
+group-start (suc (suc (suc g))) h = let e : suc (suc (suc g)) - 2 ≡ suc g = omega arith in rw e
+
+-- How many numbers each has.
+
+module _ (m : List ℕ) (l : ℕ) where
+  -- the order of entry
+  pub entered-count : l ≡ 0 → listCount m l ≡ word m enteredCountAt
   unfolding listCount
-  list-bound c zero h = c .free
-  list-bound c (suc g) h = c .held (suc g) (omega arith) h
+  entered-count e = rw e
 
--- list 0
-pub count-free : (m : List ℕ) (g : ℕ) → g ≡ 0 → listCount m g ≡ word m freeCountAt
+  -- the free line
+  pub free-count : l ≡ 1 → listCount m l ≡ word m freeCountAt
+  unfolding listCount
+  free-count e = rw e
+
+  -- the swap line
+  pub swap-count : l ≡ 2 → listCount m l ≡ word m swapCountAt
+  unfolding listCount
+  swap-count e = rw e
+
+-- a group's
+pub group-count : (m : List ℕ) (l : ℕ) → 2 < l → listCount m l ≡ word m (groupAddress (l - 2) + heldOffset)
 unfolding listCount
-count-free m g e = rw e
-
--- another
-pub count-held : (m : List ℕ) (g : ℕ) → g ≢ 0 → listCount m g ≡ word m (groupAddress g + heldOffset)
-unfolding listCount
-count-held m zero d = absurd (d refl)
-count-held m (suc g) d = refl
-
--- where they begin
-pub start-free : (g : ℕ) → g ≡ 0 → listStart g ≡ freeAt
-unfolding listStart
-start-free g e = rw e
-
-pub start-held : (g : ℕ) → g ≢ 0 → listStart g ≡ groupAddress g + listOffset
-unfolding listStart
-start-held zero d = absurd (d refl)
-start-held (suc g) d = refl
-
--- 32 words from there on are within the memory
-pub start-bound : (g : ℕ) → g ≤ groupCount → listStart g + 32 ≤ 564
-unfolding listStart groupAddress
-start-bound zero h = omega arith
-start-bound (suc g) h = omega arith
+group-count m zero h = absurd (omega arith)
+group-count m (suc zero) h = absurd (omega arith)
+group-count m (suc (suc zero)) h = absurd (omega arith)
+group-count m (suc (suc (suc g))) h = let e : suc (suc (suc g)) - 2 ≡ suc g = omega arith in rw e

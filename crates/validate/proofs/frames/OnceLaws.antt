@@ -1,6 +1,6 @@
--- Numbers marked as they are met: a number that is too large or met before shows that not every number below 32 stands once among 32, and
--- 32 numbers that are neither are each of them once. The last by counting: summed over the numbers below 32, how often each stands is how
--- many there are; were one missing, the sum would be less. Assumes nothing.
+-- Numbers marked as they are met: one that is not below n or was met before shows that not every number below n stands once among n, and n
+-- numbers that are neither are each of them once. The last by counting: summed over the numbers below n, how often each stands is how many
+-- there are; were one missing, the sum would be less. Assumes nothing.
 use Prim.Native.Nat.{ℕ, zero, suc, _+_, _≤_, _<_}
 use mathlib.Core.Path.{_≡_, refl, sym, _∙_}
 use mathlib.Core.Logic.{_≢_}
@@ -24,32 +24,43 @@ count-append : (f : ℕ) (xs ys : List ℕ) → countOf f (xs ++ ys) ≡ countOf
 count-append f [] ys = omega arith
 count-append f (x ∷ xs) ys = omega (arith, count-append f xs ys)
 
--- The walk.
+-- in which order does not matter
+pub once-turned : (xs ys fs : List ℕ) → all (standsOnce (xs ++ ys)) fs ≡ all (standsOnce (ys ++ xs)) fs
+unfolding standsOnce
+once-turned xs ys [] = refl
+once-turned xs ys (f ∷ fs) =
+    let turned : countOf f (xs ++ ys) ≡ countOf f (ys ++ xs) = omega (arith, count-append f xs ys, count-append f ys xs) in
+    rw (turned, once-turned xs ys fs)
 
--- the numbers met so far are below 32, each at most once, and marked
-pub record Marked (seen xs : List ℕ) : Type 0 where
-  pub sized : length seen ≡ 32
-  pub bounded : Every (λ x. x < 32) xs
-  pub marks : (f : ℕ) → f < 32 → getD seen f 0 ≡ countOf f xs
-  pub few : (f : ℕ) → f < 32 → countOf f xs ≤ 1
+-- The walk: there are marks for 96 numbers, and n are asked for.
+
+-- the numbers met so far are below n, each at most once, and marked
+pub record Marked (n : ℕ) (seen xs : List ℕ) : Type 0 where
+  pub room : n ≤ 96
+  pub sized : length seen ≡ 96
+  pub bounded : Every (λ x. x < n) xs
+  pub marks : (f : ℕ) → f < n → getD seen f 0 ≡ countOf f xs
+  pub few : (f : ℕ) → f < n → countOf f xs ≤ 1
 
 -- at first none
-pub marked-none : Marked (replicate 32 0) []
-marked-none =
+pub marked-none : (n : ℕ) → n ≤ 96 → Marked n (replicate 96 0) []
+marked-none n h =
     record {
-      sized = length-replicate {A = ℕ} 32 0;
+      room = h;
+      sized = length-replicate {A = ℕ} 96 0;
       bounded = tt;
-      marks = λ f h. getD-replicate 32 f 0 0 h;
-      few = λ f h. omega arith;
+      marks = λ f l. getD-replicate 96 f 0 0 (omega arith);
+      few = λ f l. omega arith;
     }
 
-module _ (seen xs : List ℕ) (k : Marked seen xs) (x : ℕ) where
+module _ {n : ℕ} (seen xs : List ℕ) (k : Marked n seen xs) (x : ℕ) where
   -- one more that was not met
-  pub marked-more : x < 32 → getD seen x 0 ≡ 0 → Marked (set seen x 1) (xs ++ (x ∷ []))
+  pub marked-more : x < n → getD seen x 0 ≡ 0 → Marked n (set seen x 1) (xs ++ (x ∷ []))
   marked-more h z =
       record {
+        room = k .room;
         sized = length-set seen x 1 ∙ k .sized;
-        bounded = every-append (λ y. y < 32) xs (x ∷ []) .1 (k .bounded, (h, tt));
+        bounded = every-append (λ y. y < n) xs (x ∷ []) .1 (k .bounded, (h, tt));
         marks = λ f l. here f l (ℕ-discrete x f);
         few = λ f l. once f l (ℕ-discrete x f);
       }
@@ -57,21 +68,24 @@ module _ (seen xs : List ℕ) (k : Marked seen xs) (x : ℕ) where
       none : countOf x xs ≡ 0
       none = sym (k .marks x h) ∙ z
 
-      here : (f : ℕ) → f < 32 → Dec (x ≡ f) → getD (set seen x 1) f 0 ≡ countOf f (xs ++ (x ∷ []))
+      inside : x < 96
+      inside = omega (arith, k .room)
+
+      here : (f : ℕ) → f < n → Dec (x ≡ f) → getD (set seen x 1) f 0 ≡ countOf f (xs ++ (x ∷ []))
       here f l (yes e) =
-          rw (← e, getD-set-same seen x 1 0 (rw (k .sized) h), count-append x xs (x ∷ []), eq-eqb x x refl) (omega (arith, none))
+          rw (← e, getD-set-same seen x 1 0 (rw (k .sized) inside), count-append x xs (x ∷ []), eq-eqb x x refl) (omega (arith, none))
       here f l (no d) =
           rw (getD-set-other seen x f 1 0 (λ e. d (sym e)), count-append f xs (x ∷ []), ne-eqb x f d) (omega (arith, k .marks f l))
 
-      once : (f : ℕ) → f < 32 → Dec (x ≡ f) → countOf f (xs ++ (x ∷ [])) ≤ 1
+      once : (f : ℕ) → f < n → Dec (x ≡ f) → countOf f (xs ++ (x ∷ [])) ≤ 1
       once f l (yes e) = rw (← e, count-append x xs (x ∷ []), eq-eqb x x refl) (omega (arith, none))
       once f l (no d) = rw (count-append f xs (x ∷ []), ne-eqb x f d) (omega (arith, k .few f l))
 
   -- one that was met
-  pub twice-fails : (rest : List ℕ) → x < 32 → getD seen x 0 ≢ 0 → all (standsOnce (xs ++ (x ∷ rest))) (upFrom 0 32) ≡ false
+  pub twice-fails : (rest : List ℕ) → x < n → getD seen x 0 ≢ 0 → all (standsOnce (xs ++ (x ∷ rest))) (upFrom 0 n) ≡ false
   unfolding standsOnce
   twice-fails rest h d =
-      failed-all (standsOnce (xs ++ (x ∷ rest))) 0 x 32 (omega arith) (omega arith) (ne-eqb (countOf x (xs ++ (x ∷ rest))) 1 more)
+      failed-all (standsOnce (xs ++ (x ∷ rest))) 0 x n (omega arith) (omega arith) (ne-eqb (countOf x (xs ++ (x ∷ rest))) 1 more)
     where
       more : countOf x (xs ++ (x ∷ rest)) ≢ 1
       more e =
@@ -80,13 +94,14 @@ module _ (seen xs : List ℕ) (k : Marked seen xs) (x : ℕ) where
           d (k .marks x h ∙ omega arith)
 
 -- one that is too large
-pub over-fails : (xs rest : List ℕ) (x : ℕ) → 32 ≤ x → length (xs ++ (x ∷ rest)) ≡ 32 → all (standsOnce (xs ++ (x ∷ rest))) (upFrom 0 32) ≡ false
+pub over-fails : (n : ℕ) (xs rest : List ℕ) (x : ℕ) → n ≤ x → length (xs ++ (x ∷ rest)) ≡ n
+    → all (standsOnce (xs ++ (x ∷ rest))) (upFrom 0 n) ≡ false
 unfolding standsOnce
-over-fails xs rest x h l =
-    fails (all (standsOnce (xs ++ (x ∷ rest))) (upFrom 0 32)) (λ e.
-    let each = range-tells (standsOnce (xs ++ (x ∷ rest))) 0 32 .0 e in
-    let small = once-bounded 32 (xs ++ (x ∷ rest)) (λ f b. eqb-true _ 1 (each f (omega arith) (omega arith))) l in
-    let here = every-append (λ y. y < 32) xs (x ∷ rest) .0 small .1 .0 in
+over-fails n xs rest x h l =
+    fails (all (standsOnce (xs ++ (x ∷ rest))) (upFrom 0 n)) (λ e.
+    let each = range-tells (standsOnce (xs ++ (x ∷ rest))) 0 n .0 e in
+    let small = once-bounded n (xs ++ (x ∷ rest)) (λ f b. eqb-true _ 1 (each f (omega arith) (omega arith))) l in
+    let here = every-append (λ y. y < n) xs (x ∷ rest) .0 small .1 .0 in
     omega arith)
 
 -- How often all numbers of a range stand in a list.
@@ -122,14 +137,14 @@ sum-ones : (a n : ℕ) → sum (map (λ f. 1) (upFrom a n)) ≡ n
 sum-ones a zero = refl
 sum-ones a (suc n) = omega (arith, sum-ones (suc a) n)
 
--- 32 numbers below 32 of which none stands twice are each of them once
-pub marked-all : (seen xs : List ℕ) → Marked seen xs → length xs ≡ 32 → all (standsOnce xs) (upFrom 0 32) ≡ true
+-- n numbers below n of which none stands twice are each of them once
+pub marked-all : {n : ℕ} (seen xs : List ℕ) → Marked n seen xs → length xs ≡ n → all (standsOnce xs) (upFrom 0 n) ≡ true
 unfolding standsOnce tally
-marked-all seen xs k l =
-    range-tells (standsOnce xs) 0 32 .1 (λ f low high. eq-eqb (countOf f xs) 1 (go f (omega arith) (ℕ-discrete (countOf f xs) 0)))
+marked-all {n} seen xs k l =
+    range-tells (standsOnce xs) 0 n .1 (λ f low high. eq-eqb (countOf f xs) 1 (go f (omega arith) (ℕ-discrete (countOf f xs) 0)))
   where
-    go : (f : ℕ) → f < 32 → Dec (countOf f xs ≡ 0) → countOf f xs ≡ 1
+    go : (f : ℕ) → f < n → Dec (countOf f xs ≡ 0) → countOf f xs ≡ 1
     go f h (yes z) =
-        let less = sum-lt (λ g. countOf g xs) (λ g. 1) 0 32 (λ g low high. k .few g (omega arith)) f (omega arith) (omega arith) (omega arith) in
-        absurd (omega (arith, tally-all xs 32 (k .bounded), sum-ones 0 32))
+        let less = sum-lt (λ g. countOf g xs) (λ g. 1) 0 n (λ g low high. k .few g (omega arith)) f (omega arith) (omega arith) (omega arith) in
+        absurd (omega (arith, tally-all xs n (k .bounded), sum-ones 0 n))
     go f h (no d) = omega (arith, k .few f h)

@@ -1,4 +1,4 @@
--- The waiting messages of a buffer, place by place: place p of a buffer is place p mod 8 of the frame that its list names at p / 8, so the
+-- The waiting messages of a buffer, place by place: place p of a buffer is place p mod 8 of the page that its list names at p / 8, so the
 -- clause on the waiting ones is a test of the places h to h + n. Assumes nothing.
 use Prim.Native.Nat.{ℕ, zero, suc, _+_, _-_, _*_, _/_, _%_, _≤_, _<_}
 use mathlib.Core.Path.{_≡_, refl, sym, ap, _∙_}
@@ -91,12 +91,12 @@ getD-words m a (suc k) (suc i) h =
     rw (← e) (getD-words m (a + 1) k i (omega arith))
 
 module _ (m : List ℕ) (g : ℕ) (f : Framed m g) where
-  -- eight places a frame
+  -- eight places a page
   eight-places : (x : ℕ) → length (framePlaces m x) ≡ 8
   unfolding framePlaces
   eight-places x = length-records (places m) (frameAddress x) 8
 
-  -- place i of frame x
+  -- place i of page x
   nth : (x i : ℕ) → i < 8 → getD (framePlaces m x) i emptyPlace ≡ placeAt m (frameAddress x + placeStride * i)
   unfolding framePlaces
   nth x i l = record-at (places m) emptyPlace (frameAddress x) 8 i l
@@ -131,19 +131,19 @@ module _ (m : List ℕ) (g : ℕ) (f : Framed m g) where
       (rw (length-all (framePlaces m) 8 eight-places (listAt m a), length-wordsAt m (a + listOffset) (word m (a + heldOffset))) room)
       (λ i low high. ap isWaiting (place-at i (omega (arith, room))))
 
-  -- The place p of the buffer, h to h + n: a word of the list names its frame, and it is within the memory.
+  -- The place p of the buffer, h to h + n: a word of the list names its page, and it is within the memory.
 
   module _ (p : ℕ) (within : p < word m (groupAddress g + usedOffset) + word m (groupAddress g + countOffset)) where
     here : groupAddress g + listOffset + p / 8 ≡ groupAddress g + (listOffset + p / 8)
     here = omega arith
 
-    pub listed-inside : listOffset + p / 8 < 46
+    pub listed-inside : listOffset + p / 8 < 110
     listed-inside = omega (arith, room, f .few)
 
-    pub listed-frame : (w : ℕ) → w ≡ word m (groupAddress g + (listOffset + p / 8)) → w < 32
+    pub listed-frame : (w : ℕ) → w ≡ word m (groupAddress g + (listOffset + p / 8)) → w < 96
     listed-frame w e = rw (e, ← here) (f .numbers (p / 8) (omega (arith, room)))
 
-    -- The places of its frame, whose number is w, from p up to place k of it.
+    -- The places of its page, whose number is w, from p up to place k of it.
 
     module _ (w k : ℕ) (named : w ≡ word m (groupAddress g + (listOffset + p / 8))) (few : k ≤ 8) where
       -- one of them
@@ -184,8 +184,8 @@ pub place-tested : (m : List ℕ) (f i a : ℕ) (t : Bool) → a ≡ frameAddres
 unfolding waitingIn
 place-tested m f i a t e r = rw (← e) r
 
--- a place of a frame is within the memory
-pub place-inside : (f r a : ℕ) → f < 32 → r < 8 → a ≡ frameAddress f + placeStride * r → a + placeStride ≤ 2868
+-- a place of a page is within the memory
+pub place-inside : (f r a : ℕ) → f < 96 → r < 8 → a ≡ frameAddress f + placeStride * r → a + placeStride ≤ 8088
 unfolding frameAddress
 place-inside f r a h l e = omega arith
 

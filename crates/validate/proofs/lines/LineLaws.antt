@@ -1,4 +1,4 @@
--- A group's line, its flags and the head of the queue, as the words tell them: a line is not empty where the group is buffered or has
+-- A group's line, its flags, the head of the queue and the running group's first page, as the words tell them: a line is not empty where the group is buffered or has
 -- messages in the hardware queue. Assumes nothing.
 use Prim.Native.Nat.{ℕ, zero, suc, _+_, _-_, _≤_}
 use mathlib.Core.Path.{_≡_, refl, sym, subst, ap, _∙_}
@@ -10,10 +10,12 @@ use lib.Dec.{eqb, ltb}
 use lib.ListN.{length, take, drop, length-take, length-drop, length-map}
 use borrow.Author.Tests.{eq-eqb, ne-eqb, lt-ltb, le-ltb, not-true, not-false}
 use Rattle.rules.specs.Lists.{isEmpty}
+use Rattle.rules.specs.Build.{paper01}
 use Rattle.rules.specs.Node.{Message, groupOf, buffered, messageOf, waiting, inBuffer, inQueue, line}
 use Rattle.rules.specs.Settling.{mayStay}
-use Rattle.rules.specs.Valid.{pendingHasLine, runnerAtomic, headStays}
-use Rattle.rules.specs.Memory.{runningAt, timerAt, queuedAt, queueAt, queueStride, atomicOffset, pendingOffset, usedOffset, countOffset, word, messageAt, messagesAt, flagAt, bufferAt, groupAt, groupAddress, nodeAt}
+use Rattle.rules.specs.Valid.{pendingHasLine, runnerAtomic, headStays, firstInFrame, runnerInFrame}
+use Rattle.rules.specs.Paging.{inFrame}
+use Rattle.rules.specs.Memory.{runningAt, timerAt, queuedAt, queueAt, queueStride, atomicOffset, pendingOffset, usedOffset, countOffset, heldOffset, listOffset, word, wordsAt, messageAt, messagesAt, flagAt, listAt, bufferAt, groupAt, groupAddress, nodeAt}
 use Rattle.rules.proofs.Steps.ListLaws.{some-append, length-some}
 use Rattle.rules.proofs.Steps.LineLaws.{direct-line}
 use Rattle.validate.specs.Known.{queuedOf, Framed, Lined}
@@ -125,6 +127,35 @@ module _ (m : List ℕ) (r : ℕ) (running : r ≡ word m runningAt) where
       let some = subst (λ (k : ℕ). isEmpty (line (nodeAt m) k) ≡ false) (sym runner-read) e in
       let flag = subst (λ (k : ℕ). groupOf (nodeAt m) k .atomic ≡ eqb w 1) (sym runner-read) (atomic-read m r f w a) in
       rw (ne-eqb (nodeAt m .running) 0 (λ z. d (sym runner-read ∙ z)), some) flag
+
+  -- Its first page.
+
+  -- where nobody runs
+  pub first-nobody : r ≡ 0 → runnerInFrame paper01 (nodeAt m) ≡ true
+  unfolding runnerInFrame
+  first-nobody z = rw (runner-read, z)
+
+  module _ (f : Framed m r) (d : r ≢ 0) where
+    -- the list is read where the map puts it
+    first-read : (t : Bool) → firstInFrame paper01 (wordsAt m (groupAddress r + listOffset) (word m (groupAddress r + heldOffset))) ≡ t
+        → runnerInFrame paper01 (nodeAt m) ≡ t
+    unfolding runnerInFrame groupAt bufferAt listAt
+    first-read t h =
+        let list = subst (λ (k : ℕ). firstInFrame paper01 (groupOf (nodeAt m) k .buffer .frames) ≡ t) (sym runner-read)
+        (rw (group-read m r (f .low) (f .high)) h) in
+        rw (ne-eqb (nodeAt m .running) 0 (λ z. d (sym runner-read ∙ z))) list
+
+    -- with no page
+    pub first-none : word m (groupAddress r + heldOffset) ≡ 0 → runnerInFrame paper01 (nodeAt m) ≡ true
+    unfolding firstInFrame wordsAt
+    first-none z = first-read true (rw z)
+
+    -- else its number decides
+    pub first-page : (k w : ℕ) → k ≡ word m (groupAddress r + heldOffset) → k ≢ 0 → w ≡ word m (groupAddress r + listOffset)
+        → runnerInFrame paper01 (nodeAt m) ≡ ltb w 32
+    unfolding firstInFrame wordsAt inFrame
+    first-page zero w e s p = absurd (s refl)
+    first-page (suc k) w e s p = first-read (ltb w 32) (rw (← e, p))
 
 -- The head of the queue.
 

@@ -68,8 +68,8 @@ module _ (m : List ℕ) where
     unfolding bufferGood ceilDiv
     none-held l e z = rw (← used, ← count, ← held, e, z)
 
-    -- more messages than the frames hold
-    pub count-over : h < 8 → 256 < n → k ≤ 32 → bufferGood m g ≡ false
+    -- more messages than the frames and swap pages hold
+    pub count-over : h < 8 → 768 < n → k ≤ 96 → bufferGood m g ≡ false
     unfolding bufferGood ceilDiv
     count-over l o b =
         rw (← used, ← count, ← held, lt-ltb h 8 l, ne-eqb n 0 (λ e. omega arith), ne-eqb k ((h + n + 7) / 8) (λ e. omega arith))

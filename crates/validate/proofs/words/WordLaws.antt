@@ -1,13 +1,13 @@
 -- The clauses on words alone, one comparison at a time: the first that fails decides, and the last is the answer. Assumes nothing.
 use Prim.Native.Nat.{ℕ, _+_, _*_, _≤_, _<_}
-use mathlib.Core.Path.{_≡_, refl}
-use mathlib.Core.Bool.{Bool, true, false, _&&_}
+use mathlib.Core.Path.{_≡_, refl, sym, _∙_}
+use mathlib.Core.Bool.{Bool, true, false, _&&_, and-assoc}
 use mathlib.Core.List.{List}
 use borrow.Author.Tests.{le-leb, lt-leb}
 use lib.Dec.{leb}
 use Rattle.rules.specs.Lists.{all, upFrom}
 use Rattle.rules.specs.Build.{groupCount}
-use Rattle.rules.specs.Memory.{word, groupAddress, queueAt, queueStride, queuedAt, freeCountAt, heldOffset, describedOffset, atomicOffset, pendingOffset}
+use Rattle.rules.specs.Memory.{word, groupAddress, queueAt, queueStride, queuedAt, freeCountAt, swapCountAt, enteredCountAt, heldOffset, describedOffset, atomicOffset, pendingOffset}
 use Rattle.rules.specs.MemoryTest.{lengthInBounds, groupCounts, countsInBounds, groupFlags}
 use Rattle.validate.proofs.RangeLaws.{and-fails, and-passes}
 
@@ -20,16 +20,16 @@ within : (x a : ℕ) (b t : Bool) → x ≤ a → b ≡ t → leb x a && b ≡ t
 within x a b t h e = rw (le-leb x a h, e)
 
 module _ (m : List ℕ) where
-  -- a list of more than 32 frames
-  pub held-over : (g : ℕ) → 32 < word m (groupAddress g + heldOffset) → groupCounts m g ≡ false
+  -- a list of more than 96 pages
+  pub held-over : (g : ℕ) → 96 < word m (groupAddress g + heldOffset) → groupCounts m g ≡ false
   unfolding groupCounts
-  held-over g h = over _ 32 _ h
+  held-over g h = over _ 96 _ h
 
   -- else the descriptor's length
-  pub held-within : (g d : ℕ) → word m (groupAddress g + heldOffset) ≤ 32 → d ≡ word m (groupAddress g + describedOffset)
+  pub held-within : (g d : ℕ) → word m (groupAddress g + heldOffset) ≤ 96 → d ≡ word m (groupAddress g + describedOffset)
       → groupCounts m g ≡ leb d 8
   unfolding groupCounts
-  held-within g d h e = rw e (within _ 32 _ _ h refl)
+  held-within g d h e = rw e (within _ 96 _ _ h refl)
 
   -- atomic above 1
   pub atomic-over : (g : ℕ) → 1 < word m (groupAddress g + atomicOffset) → groupFlags m g ≡ false
@@ -60,11 +60,32 @@ module _ (m : List ℕ) where
   unfolding countsInBounds
   free-over q h = within _ 16 _ _ q (over _ 32 _ h)
 
-  pub groups-over : word m queuedAt ≤ 16 → word m freeCountAt ≤ 32 → all (groupCounts m) (upFrom 1 groupCount) ≡ false → countsInBounds m ≡ false
-  unfolding countsInBounds
-  groups-over q f e = within _ 16 _ _ q (within _ 32 _ _ f (and-fails _ _ e))
+  -- a swap line of more than 64
+  pub swap-over : 64 < word m swapCountAt → leb (word m swapCountAt) 64 && leb (word m enteredCountAt) 32 ≡ false
+  swap-over h = over _ 64 _ h
 
-  pub counts-within : (t : Bool) → word m queuedAt ≤ 16 → word m freeCountAt ≤ 32 → all (groupCounts m) (upFrom 1 groupCount) ≡ true
-      → all (lengthInBounds m) (upFrom 0 (word m queuedAt)) ≡ t → countsInBounds m ≡ t
-  unfolding countsInBounds
-  counts-within t q f e l = within _ 16 _ _ q (within _ 32 _ _ f (and-passes _ _ _ e l))
+  -- else the order of entry
+  pub swap-within : word m swapCountAt ≤ 64 → leb (word m swapCountAt) 64 && leb (word m enteredCountAt) 32 ≡ leb (word m enteredCountAt) 32
+  swap-within h = within _ 64 _ _ h refl
+
+  module _ (q : word m queuedAt ≤ 16) (f : word m freeCountAt ≤ 32) where
+    pub paging-over : leb (word m swapCountAt) 64 && leb (word m enteredCountAt) 32 ≡ false → countsInBounds m ≡ false
+    unfolding countsInBounds
+    paging-over h = within _ 16 _ _ q (within _ 32 _ _ f (sym (and-assoc (leb (word m swapCountAt) 64) (leb (word m enteredCountAt) 32) _) ∙ and-fails _ _ h))
+
+    module _ (p : leb (word m swapCountAt) 64 && leb (word m enteredCountAt) 32 ≡ true) where
+      -- the lines' within their bounds leave it to the others
+      lines-within : (t : Bool) → all (groupCounts m) (upFrom 1 groupCount) && all (lengthInBounds m) (upFrom 0 (word m queuedAt)) ≡ t
+          → countsInBounds m ≡ t
+      unfolding countsInBounds
+      lines-within t h =
+          within _ 16 _ _ q
+          (within _ 32 _ _ f
+          (sym (and-assoc (leb (word m swapCountAt) 64) (leb (word m enteredCountAt) 32) _) ∙ and-passes _ _ t p h))
+
+      pub groups-over : all (groupCounts m) (upFrom 1 groupCount) ≡ false → countsInBounds m ≡ false
+      groups-over h = lines-within false (and-fails _ _ h)
+
+      pub counts-within : (t : Bool) → all (groupCounts m) (upFrom 1 groupCount) ≡ true
+          → all (lengthInBounds m) (upFrom 0 (word m queuedAt)) ≡ t → countsInBounds m ≡ t
+      counts-within t h l = lines-within t (and-passes _ _ _ h l)

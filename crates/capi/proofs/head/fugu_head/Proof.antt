@@ -2,7 +2,7 @@
 use native.Mathlib.Omega.{arith}
 use borrow.Author.Needs.{needs}
 use Rattle.capi.proofs.HeadRange.{head-small}
-use Rattle.capi.proofs.ToldLaws.{head-told, head-nothing}
+use Rattle.capi.proofs.ToldLaws.{pair-told, pair-nothing}
 use Rattle.capi.proofs.head.fugu_head.Statement.{statement}
 use Rattle.capi.proofs.head.fugu_head.Tie as tie
 
@@ -10,7 +10,7 @@ cast-if1 : tie.Need-cast-if1
 cast-if1 c = search needs
 
 returns : tie.Need-returns
-returns c = head-nothing _ _ (c .if1 .taken)
+returns c = pair-nothing _ _ _ (c .if1 .taken)
 
 head-part-requires : tie.Need-head-part-requires
 head-part-requires c κs = search needs
@@ -35,7 +35,7 @@ same-length : tie.Need-same-length
 same-length c = search needs
 
 returns-2 : tie.Need-returns-2
-returns-2 c = head-told _ _ (c .before .before .before .if1 .left) (c .before .before .head-part .ensures)
+returns-2 c = rw (← c .before .before .head-part .ensures) (pair-told _ _ _ (c .before .before .before .if1 .left))
 
 pub fugu-head-spec : {M : Type 1} → statement M
 fugu-head-spec =

@@ -1,71 +1,47 @@
 -- `memory::Node::start` meets its contract. Assumes nothing.
-use Prim.Native.Nat.{ℕ, _+_, _-_, _≤_}
-use native.Mathlib.Nat.{zero-add}
 use native.Mathlib.Omega.{arith}
-use mathlib.Core.List.{[], _∷_, _++_}
-use mathlib.Core.Path.{_≡_, sym, ap, _∙_}
-use lib.ListN.{length, length-set}
-use Rattle.rules.specs.Lists.{upFrom}
-use Rattle.rules.specs.Memory.{size}
-use Rattle.rules.proofs.Steps.ListLaws.{length-upFrom}
-use Rattle.memory.specs.Writes.{Wrote}
-use Rattle.memory.proofs.WriteLaws.{wrote-none, wrote-next, wrote-as, wrote-set}
-use Rattle.memory.proofs.PowerOnLaws.{powered, upFrom-more}
+use mathlib.Core.Path.{_∙_}
+use lib.ListN.{length-set}
+use borrow.Author.Needs.{needs}
+use Rattle.memory.proofs.WriteLaws.{wrote-set}
+use Rattle.memory.proofs.PowerOnLaws.{powered}
 use Rattle.memory.proofs.Node.start.Statement.{statement}
 use Rattle.memory.proofs.Node.start.Tie as tie
 
-abbrev Inv-loop : tie.InvT-loop
-Inv-loop m₀ i₀ m i = (i ≤ 32) × ((size ≤ length m₀) × Wrote m₀ m 164 (upFrom 0 i))
+clear-requires : tie.Need-clear-requires
+clear-requires c κs = search needs
 
-abbrev μ-loop : tie.MeasureT-loop
-μ-loop m₀ i₀ m i = 32 - i
+slice-write-memory : tie.Need-slice-write-memory
+slice-write-memory c = search needs
 
-clear-requires : tie.Need-clear-requires Inv-loop μ-loop
-clear-requires c κs = let p = c .before .before .pre in omega arith
+count-up-requires : tie.Need-count-up-requires
+count-up-requires c κs = (omega arith, simp length-set (omega (arith, c .before .before .before .clear .ensures .same-length, c .before .before .before .before .before .before .pre)))
 
-slice-write-memory : tie.Need-slice-write-memory Inv-loop μ-loop
-slice-write-memory c = let p = c .before .before .before .before .before .pre in omega (arith, c .before .before .clear .ensures .same-length)
+slice-write-memory-2 : tie.Need-slice-write-memory-2
+slice-write-memory-2 c = let l = c .before .before .count-up .ensures .same-length in let k = simp length-set at l in omega (arith, c .before .before .before .before .before .before .clear .ensures .same-length, c .before .before .before .before .before .before .before .before .before .pre)
 
-loop-holds : tie.Need-loop-holds Inv-loop μ-loop
-loop-holds c = let p = c .before .before .before .before .before .pre in (omega arith, (simp length-set (omega (arith, c .before .before .clear .ensures .same-length)), wrote-none _ 164))
+count-up-requires-2 : tie.Need-count-up-requires-2
+count-up-requires-2 c κs = let l = c .before .before .before .count-up .ensures .same-length in let k = simp length-set at l in (omega arith, simp length-set (omega (arith, c .before .before .before .before .before .before .before .clear .ensures .same-length, c .before .before .before .before .before .before .before .before .before .before .pre)))
 
-cast-memory : tie.Need-cast-memory Inv-loop μ-loop
-cast-memory c = let v = c .before .loop .inv in omega arith
+same-length : tie.Need-same-length
+same-length c = simp length-set at (c .before .before .count-up2 .ensures .same-length) ∙ simp length-set at (c .before .before .before .before .before .before .count-up .ensures .same-length) ∙ c .before .before .before .before .before .before .before .before .before .before .clear .ensures .same-length
 
-add-memory : tie.Need-add-memory Inv-loop μ-loop
-add-memory c = let v = c .before .loop .inv in omega arith
-
-mul-memory : tie.Need-mul-memory Inv-loop μ-loop
-mul-memory c = let v = c .before .loop .inv in omega arith
-
-slice-write-memory-2 : tie.Need-slice-write-memory-2 Inv-loop μ-loop
-slice-write-memory-2 c = let v = c .before .loop .inv in omega arith
-
-add-i : tie.Need-add-i Inv-loop μ-loop
-add-i c = let v = c .before .loop .inv in omega arith
-
-loop-less : tie.Need-loop-less Inv-loop μ-loop
-loop-less c = let v = c .before .loop .inv in omega arith
-
-loop-again : tie.Need-loop-again Inv-loop μ-loop
-loop-again c =
-    let v = c .before .loop .inv in
-    let i = c .before .loop .i in
-    let t = c .loop-test .taken in
-    let l = length-upFrom 0 i in
-    let w = wrote-next (v .1 .1) (164 + i) i (omega arith) (omega arith) in
-    (omega arith, (v .1 .0, wrote-as w (sym (upFrom-more 0 i ∙ ap (λ (k : ℕ). upFrom 0 i ++ (k ∷ [])) (zero-add i)))))
-
-same-length : tie.Need-same-length Inv-loop μ-loop
-same-length c = c .before .loop .inv .1 .1 .same-length ∙ simp length-set (c .before .before .before .before .clear .ensures .same-length)
-
-returns : tie.Need-returns Inv-loop μ-loop
+returns : tie.Need-returns
 returns c =
-    let v = c .before .loop .inv in
-    let p = c .before .before .before .before .before .before .before .pre in
-    let w = c .before .before .before .before .clear .ensures in
-    let e : c .before .loop .i ≡ 32 = omega (arith, c .loop-test .left) in
-    powered p w (wrote-set _ 3 32 (omega (arith, w .same-length))) (wrote-as (v .1 .1) (ap (upFrom 0) e))
+    let long = c .before .before .before .before .before .before .before .before .before .before .before .before .before .pre in
+    let w₁ = c .before .before .before .before .before .before .before .before .before .before .clear .ensures in
+    let w₃ = c .before .before .before .before .before .before .count-up .ensures in
+    let l = simp length-set at (w₃ .same-length) in
+    powered long w₁ (wrote-set _ 3 32 (omega (arith, w₁ .same-length))) w₃ (wrote-set _ 7988 64 (omega (arith, w₁ .same-length))) (c .before .before .count-up2 .ensures)
 
 pub start-spec : {M : Type 1} → statement M
-start-spec = tie.close (tie.spec Inv-loop μ-loop clear-requires slice-write-memory loop-holds cast-memory add-memory mul-memory slice-write-memory-2 add-i loop-less loop-again same-length returns)
+start-spec =
+    tie.close
+    (tie.spec
+    clear-requires
+    slice-write-memory
+    count-up-requires
+    slice-write-memory-2
+    count-up-requires-2
+    same-length
+    returns)

@@ -5,9 +5,8 @@ use mathlib.Core.List.{List}
 use mathlib.Core.Logic.{⊎-elim}
 use mathlib.Core.Path.{_≡_, sym, ap, _∙_, subst}
 use lib.ListN.{length}
-use Rattle.rules.specs.Memory.{word, groupAddress}
+use Rattle.rules.specs.Memory.{word, groupAddress, groupStride}
 use Rattle.rules.specs.Node.{Node}
-use Rattle.rules.proofs.Steps.NodeLaws.{kept}
 use Rattle.memory.specs.Holds.{Holds, Storable}
 use Rattle.memory.specs.Writes.{InGroup}
 use Rattle.memory.proofs.buffer.AppendLaws.{Ready, Ends, ends, full-left, ready-room, ready-taken}
@@ -17,7 +16,7 @@ use Rattle.memory.proofs.buffer.append.Tie as tie
 facts : (c : tie.Start) → Ends (c .args .m .now) (c .args .g)
 facts c = ends (c .pre .1 .holds) (c .args .g) (c .pre .0 .0) (c .pre .0 .1) (c .pre .1 .fact .0)
 
-in-group : (c : tie.Start) (k : ℕ) → k < 46 → InGroup (c .args .m .now) (c .args .g) k
+in-group : (c : tie.Start) (k : ℕ) → k < groupStride → InGroup (c .args .m .now) (c .args .g) k
 in-group c k h = record { long = facts c .long; low = c .pre .0 .0; high = c .pre .0 .1; inside = h }
 
 -- what is read

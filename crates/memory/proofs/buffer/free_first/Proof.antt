@@ -1,56 +1,46 @@
--- `memory::buffer::free_first` meets its contract: the frame leaves the list before it joins the free line, so it stands in one of them at a time. Assumes nothing.
-use Prim.Native.Nat.{_<_, ℕ}
+-- `memory::buffer::free_first` meets its contract: the frame is released, and leaves the order of entry. Assumes nothing.
 use native.Mathlib.Omega.{arith}
-use mathlib.Core.List.{List}
-use mathlib.Core.Path.{_≡_, ap, refl}
-use lib.ListN.{length}
+use mathlib.Core.Path.{subst}
 use borrow.Author.Needs.{needs}
-use Rattle.rules.specs.Memory.{groupStride}
-use Rattle.memory.specs.Writes.{InGroup}
-use Rattle.memory.specs.declared.group.Group.{Group as Group·rt}
-use Rattle.memory.proofs.buffer.FreeLaws.{Reads, reads, free-kept, freeing-held, unlisted-below}
+use Rattle.rules.specs.Node.{Node}
+use Rattle.memory.specs.Holds.{Holds, releasing}
+use Rattle.memory.proofs.PieceLaws.{holds-pieces}
+use Rattle.memory.proofs.buffer.FreeLaws.{releasing-departed, releasing-order}
 use Rattle.memory.proofs.buffer.free_first.Statement.{statement}
 use Rattle.memory.proofs.buffer.free_first.Tie as tie
 
-facts : (c : tie.Start) → Reads (c .args .m .now) (c .args .g)
-facts c = reads (c .pre .1 .holds) (c .args .g) (c .pre .0 .0) (c .pre .0 .1) (c .pre .1 .fact)
+group-word-requires : tie.Need-group-word-requires
+group-word-requires c κs =
+    let s = c .before .before in
+    record { long = holds-pieces (s .pre .1 .holds) .long; low = s .pre .0 .0; high = s .pre .0 .1; inside = omega arith }
 
-in-group : (c : tie.Start) (m : List ℕ) (k : ℕ) → length m ≡ length (c .args .m .now) → k < groupStride → InGroup m (c .args .g) k
-in-group c m k l h = record { long = omega (arith, facts c .long); low = c .pre .0 .0; high = c .pre .0 .1; inside = h }
+release-requires : tie.Need-release-requires
+release-requires c κs = search needs
 
-read-requires : tie.Need-read-requires
-read-requires c κs = in-group (c .before .before) _ 3 refl (omega arith)
-
-unlist-requires : tie.Need-unlist-requires
-unlist-requires c κs = let f = facts (c .before .before .before .before) in (in-group (c .before .before .before .before) _ 4 refl (omega arith), (f .held, omega arith))
-
-sub-set-counts : tie.Need-sub-set-counts
-sub-set-counts c = let e = ap (λ (x : Group·rt). x .count) (c .before .before .before .before .before .before .read .ensures) in let f = facts (c .before .before .before .before .before .before .before .before .before) in omega arith
-
-set-counts-requires : tie.Need-set-counts-requires
-set-counts-requires c κs = in-group (c .before .before .before .before .before .before .before .before .before) _ 3 (c .before .before .before .before .unlist .kept .0) (omega arith)
-
-give-frame-requires : tie.Need-give-frame-requires
-give-frame-requires c κs = let f = facts (c .before .before .before .before .before .before .before .before .before .before .before .before .before) in let e = free-kept (c .before .before .before .before .before .before .before .before .unlist .ensures) (c .before .before .before .set-counts .ensures) in (omega (arith, c .before .before .before .before .before .before .before .before .unlist .kept .0, c .before .before .before .set-counts .kept .0), omega arith)
+depart-requires : tie.Need-depart-requires
+depart-requires c κs =
+    let s = c .before .before .before .before .before .before .before .before in
+    let g = s .args .g in
+    let p = s .pre .1 in
+    record {
+      node = releasing g (p .node);
+      rest = p .rest;
+      holds = c .before .before .before .release .ensures (p .node) (p .rest) (p .holds) (p .fact);
+      fact = rw (c .before .before .before .before .before .group-word .ensures) (releasing-order (p .holds) g (s .pre .0 .0) (s .pre .0 .1) (p .fact));
+    }
 
 same-length : tie.Need-same-length
 same-length c = search needs
 
 returns : tie.Need-returns
 returns c n r h waits =
-    let s = (c .before .before .before .before .before .before .before .before .before .before .before .before .before .before .before .before) in
-    let un = c .before .before .before .before .before .before .before .before .before .before .before .unlist .ensures in
-    freeing-held h (s .args .g) (s .pre .0 .0) (s .pre .0 .1) waits _ un
-    (rw (unlisted-below un 0 (omega arith), unlisted-below un 1 (omega arith), c .before .before .before .before .before .before .before .before .before .before .before .before .before .read .ensures) at (c .before .before .before .before .before .before .set-counts .ensures)) (c .before .before .give-frame .ensures)
+    let s = c .before .before .before .before .before .before .before .before .before .before .before in
+    let g = s .args .g in
+    let low = s .pre .0 .0 in
+    let high = s .pre .0 .1 in
+    let f = c .before .before .before .before .before .before .before .before .group-word .ensures in
+    subst (λ (k : Node). Holds (c .before .before .depart .last .0) k r) (rw f (releasing-departed h g low high waits))
+    (c .before .before .depart .ensures (releasing g n) r (c .before .before .before .before .before .before .release .ensures n r h waits) (rw f (releasing-order h g low high waits)))
 
 pub free-first-spec : {M : Type 1} → statement M
-free-first-spec =
-    tie.close
-    (tie.spec
-    read-requires
-    unlist-requires
-    sub-set-counts
-    set-counts-requires
-    give-frame-requires
-    same-length
-    returns)
+free-first-spec = tie.close (tie.spec group-word-requires release-requires depart-requires same-length returns)

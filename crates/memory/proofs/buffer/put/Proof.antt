@@ -6,7 +6,7 @@ use mathlib.Core.Path.{_∙_, _≡_, refl, sym}
 use lib.ListN.{length, length-drop, length-take}
 use borrow.Author.Needs.{needs}
 use borrow.Rule.Slice.PartMut.{putMid}
-use Rattle.rules.specs.Build.{paper01}
+use Rattle.rules.specs.Build.{pageCount, paper01}
 use Rattle.rules.specs.Memory.{frameAddress, groupAddress, groupStride, size}
 use Rattle.memory.specs.Writes.{InGroup, Wrote}
 use Rattle.memory.proofs.buffer.AppendLaws.{Ends, ends, last-frame, room-end}
@@ -22,11 +22,11 @@ in-group : (c : tie.Start) (m : List ℕ) (k : ℕ) → length m ≡ length (c .
 in-group c m k l h = record { long = omega (arith, facts c .long); low = c .pre .0 .0; high = c .pre .0 .1; inside = h }
 
 -- the end of the buffer is one of its places
-below : (c : tie.After-read) → c .read .result .used + c .read .result .count < 256
+below : (c : tie.After-read) → c .read .result .used + c .read .result .count < 768
 below c = let s = (c .before .before .before) in rw (c .read .ensures) (room-end (s .pre .1 .holds) (s .args .g) (s .pre .0 .0) (s .pre .0 .1) (s .pre .1 .fact))
 
--- in one of the frames
-last-below : (c : tie.After-group-word) → c .group-word .result < paper01 .frames
+-- in one of the pages
+last-below : (c : tie.After-group-word) → c .group-word .result < pageCount paper01
 last-below c =
     let s = (c .before .before .before .before .before .before) in
     rw (c .group-word .ensures, c .before .before .before .read .ensures) (last-frame (s .pre .1 .holds) (s .args .g) (s .pre .0 .0) (s .pre .0 .1) (s .pre .1 .fact))

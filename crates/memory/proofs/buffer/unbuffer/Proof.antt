@@ -5,6 +5,7 @@ use mathlib.Core.List.{List}
 use mathlib.Core.Path.{_≡_, refl, sym, subst, _∙_}
 use lib.ListN.{length}
 use borrow.Author.Needs.{needs}
+use Rattle.rules.specs.Memory.{groupStride}
 use Rattle.rules.specs.Node.{Node}
 use Rattle.memory.specs.Holds.{Holds}
 use Rattle.memory.specs.Writes.{InGroup}
@@ -17,7 +18,7 @@ use Rattle.memory.proofs.buffer.unbuffer.Tie as tie
 facts : (c : tie.Start) → Reads (c .args .m .now) (c .args .g)
 facts c = reads (c .pre .1 .holds) (c .args .g) (c .pre .0 .0) (c .pre .0 .1) (c .pre .1 .fact)
 
-in-group : (c : tie.Start) (m : List ℕ) (k : ℕ) → length m ≡ length (c .args .m .now) → k < 46 → InGroup m (c .args .g) k
+in-group : (c : tie.Start) (m : List ℕ) (k : ℕ) → length m ≡ length (c .args .m .now) → k < groupStride → InGroup m (c .args .g) k
 in-group c m k l h = record { long = omega (arith, facts c .long); low = c .pre .0 .0; high = c .pre .0 .1; inside = h }
 
 group-word-requires : tie.Need-group-word-requires

@@ -1,6 +1,6 @@
 -- `validate::frames::frames_once` meets its contract: the numbers of the lists passed are marked, and one that is too large or marked before decides.
 -- Assumes nothing.
-use Prim.Native.Nat.{_+_, _-_, _≤_}
+use Prim.Native.Nat.{_+_, _-_, _≤_, _<_}
 use mathlib.Core.Path.{_≡_, refl, sym, _∙_}
 use mathlib.Core.Bool.{true}
 use mathlib.Core.List.{_++_}
@@ -8,26 +8,30 @@ use native.Mathlib.Omega.{arith}
 use borrow.Author.Needs.{needs}
 use Rattle.rules.specs.Memory.{word, wordsAt}
 use Rattle.validate.specs.Clauses.{listed}
-use Rattle.validate.proofs.frames.ListedLaws.{list-bound, start-bound}
+use Rattle.validate.proofs.frames.ListedLaws.{list-bound}
 use Rattle.validate.proofs.frames.OnceLaws.{Marked}
 use Rattle.validate.proofs.frames.WalkLaws.{walk-none, walk-enters, walk-next, walk-leaves, walk-over, walk-twice, walk-ends}
 use Rattle.validate.proofs.frames.frames_once.Statement.{statement}
 use Rattle.validate.proofs.frames.frames_once.Tie as tie
 
 abbrev Inv-loop : tie.InvT-loop
-Inv-loop m seen₀ once₀ g at held i₀ seen once i = (i ≤ held) × ((once ≡ true) × Marked seen (listed m g ++ wordsAt m at i))
+Inv-loop m from to limit seen₀ once₀ l at count i₀ seen once i =
+    (i ≤ count) × ((once ≡ true) × Marked limit seen (listed m from (l - from) ++ wordsAt m at i))
 
 abbrev μ-loop : tie.MeasureT-loop
-μ-loop m seen₀ once₀ g at held i₀ seen once i = held - i
+μ-loop m from to limit seen₀ once₀ l at count i₀ seen once i = count - i
 
 abbrev Inv-lists : tie.InvT-lists
-Inv-lists m seen₀ once₀ g₀ seen once g = (g ≤ 9) × ((once ≡ true) × Marked seen (listed m g))
+Inv-lists m from to limit seen₀ once₀ l₀ seen once l =
+    (from ≤ l) × ((l ≤ to) × ((once ≡ true) × Marked limit seen (listed m from (l - from))))
 
 abbrev μ-lists : tie.MeasureT-lists
-μ-lists m seen₀ once₀ g₀ seen once g = 9 - g
+μ-lists m from to limit seen₀ once₀ l₀ seen once l = to - l
 
 lists-holds : tie.Need-lists-holds Inv-loop μ-loop Inv-lists μ-lists
-lists-holds c = (omega arith, (refl, walk-none (c .before .args .m .now)))
+lists-holds c =
+    let s = c .before .args in
+    (omega arith, (omega arith, (refl, walk-none (s .m .now) (s .from) (s .limit) (c .before .pre .1 .0 .1 .1))))
 
 list-at-requires : tie.Need-list-at-requires Inv-loop μ-loop Inv-lists μ-lists
 list-at-requires c κs = search needs
@@ -35,32 +39,33 @@ list-at-requires c κs = search needs
 list-count-requires : tie.Need-list-count-requires Inv-loop μ-loop Inv-lists μ-lists
 list-count-requires c κs = search needs
 
-cast-held : tie.Need-cast-held Inv-loop μ-loop Inv-lists μ-lists
-cast-held c = omega arith
+cast-count : tie.Need-cast-count Inv-loop μ-loop Inv-lists μ-lists
+cast-count c = omega arith
 
 loop-holds : tie.Need-loop-holds Inv-loop μ-loop Inv-lists μ-lists
 loop-holds c =
     let d = c .before .before .before in
-    (omega arith, (d .lists .inv .1 .0, walk-enters (d .before .before .args .m .now) (d .lists .seen) (d .lists .g) _ (d .lists .inv .1 .1)))
-
--- the list is within the memory
-bounds : (c : tie.In-loop Inv-loop μ-loop Inv-lists μ-lists)
-    → (c .before .before .before .list-at .result ≤ 532) × (c .before .before .list-count .result ≤ 32)
-bounds c =
-    let d = c .before .before .before .before .before in
-    let s = d .before .before in (
-      omega (arith, start-bound (d .lists .g) (omega arith)),
-      omega (arith, list-bound (s .args .m .now) (s .pre .0) (d .lists .g) (omega arith)),
+    let s = d .before .before .args in (
+      omega arith,
+      (d .lists .inv .1 .1 .0, walk-enters (s .m .now) (s .from) (s .limit) (d .lists .seen) (d .lists .l) _ (d .lists .inv .1 .1 .1)),
     )
 
+-- number i of the list is within the memory
+bound : (c : tie.In-loop Inv-loop μ-loop Inv-lists μ-lists)
+    → c .before .before .before .list-at .result + c .before .loop .i < 8088
+bound c =
+    let d = c .before .before .before .before .before in
+    let s = d .before .before in
+    omega (arith, list-bound (s .args .m .now) (s .pre .0) (d .lists .l) (omega arith))
+
 add-f : tie.Need-add-f Inv-loop μ-loop Inv-lists μ-lists
-add-f c = omega (arith, bounds c)
+add-f c = omega (arith, bound c)
 
 mul-f : tie.Need-mul-f Inv-loop μ-loop Inv-lists μ-lists
-mul-f c = omega (arith, bounds c)
+mul-f c = omega (arith, bound c)
 
 shared-slice-read-f : tie.Need-shared-slice-read-f Inv-loop μ-loop Inv-lists μ-lists
-shared-slice-read-f c = omega (arith, bounds (c .before))
+shared-slice-read-f c = omega (arith, bound (c .before))
 
 cast-f : tie.Need-cast-f Inv-loop μ-loop Inv-lists μ-lists
 cast-f c =
@@ -89,17 +94,18 @@ loop-again : tie.Need-loop-again Inv-loop μ-loop Inv-lists μ-lists
 unfolding word
 loop-again c =
     let d = c .before .before .before .before in
-    let l = d .before .before .before .before in (
+    let l = d .before .before .before .before in
+    let s = l .before .before .args in (
       omega arith,
       (
         d .loop .inv .1 .0,
-        walk-next (l .before .before .args .m .now) (d .loop .seen) (l .lists .g) (d .before .before .list-at .result) (d .loop .i)
+        walk-next (s .m .now) (s .from) (s .limit) (d .loop .seen) (l .lists .l) (d .before .before .list-at .result) (d .loop .i)
             (d .loop .inv .1 .1) (omega arith) (c .if2 .left),
       ),
     )
 
-add-g : tie.Need-add-g Inv-loop μ-loop Inv-lists μ-lists
-add-g c = omega arith
+add-l : tie.Need-add-l Inv-loop μ-loop Inv-lists μ-lists
+add-l c = omega arith
 
 lists-less : tie.Need-lists-less Inv-loop μ-loop Inv-lists μ-lists
 lists-less c = omega arith
@@ -108,12 +114,16 @@ lists-again : tie.Need-lists-again Inv-loop μ-loop Inv-lists μ-lists
 lists-again c =
     let d = c .before in
     let l = d .before .before .before .before in
+    let s = l .before .before .args in
     let e : d .loop .i ≡ d .before .list-count .result = omega arith in (
       omega arith,
       (
-        d .loop .inv .1 .0,
-        walk-leaves (l .before .before .args .m .now) (d .loop .seen) (l .lists .g) _ _ (d .before .before .list-at .ensures)
-            (e ∙ d .before .list-count .ensures) (d .loop .inv .1 .1),
+        omega arith,
+        (
+          d .loop .inv .1 .0,
+          walk-leaves (s .m .now) (s .from) (s .limit) (d .loop .seen) (l .lists .l) _ _ (l .lists .inv .0) (d .before .before .list-at .ensures)
+              (e ∙ d .before .list-count .ensures) (d .loop .inv .1 .1),
+        ),
       ),
     )
 
@@ -121,8 +131,9 @@ returns : tie.Need-returns Inv-loop μ-loop Inv-lists μ-lists
 returns c =
     let l = c .before in
     let s = l .before .before in
-    let last : l .lists .g ≡ 9 = omega arith in
-    walk-ends (s .args .m .now) (s .pre .1) (l .lists .seen) (rw last at (l .lists .inv .1 .1)) ∙ sym (l .lists .inv .1 .0)
+    let last : l .lists .l ≡ s .args .to = omega arith in
+    walk-ends (s .args .m .now) (s .args .from) (s .args .limit) (s .args .to) (s .pre .1 .1) (l .lists .seen) (rw last at (l .lists .inv .1 .1 .1))
+    ∙ sym (l .lists .inv .1 .1 .0)
 
 returns-2 : tie.Need-returns-2 Inv-loop μ-loop Inv-lists μ-lists
 unfolding word
@@ -130,8 +141,8 @@ returns-2 c =
     let d = c .before .before .before in
     let l = d .before .before .before .before in
     let s = l .before .before in
-    walk-over (s .args .m .now) (s .pre .1) (l .lists .g) (d .before .before .list-at .result) (d .loop .i) (omega arith)
-    (d .before .before .list-at .ensures) (omega arith) (omega arith)
+    walk-over (s .args .m .now) (s .args .from) (s .args .limit) (s .args .to) (s .pre .1 .1) (l .lists .l) (d .before .before .list-at .result)
+    (d .loop .i) (l .lists .inv .0) (omega arith) (d .before .before .list-at .ensures) (omega arith) (omega arith)
 
 returns-3 : tie.Need-returns-3 Inv-loop μ-loop Inv-lists μ-lists
 unfolding word
@@ -139,8 +150,9 @@ returns-3 c =
     let d = c .before .before .before .before in
     let l = d .before .before .before .before in
     let s = l .before .before in
-    walk-twice (s .args .m .now) (s .pre .1) (d .loop .seen) (l .lists .g) (d .before .before .list-at .result) (d .loop .i) (omega arith)
-    (d .before .before .list-at .ensures) (omega arith) (d .loop .inv .1 .1) (omega arith) (c .if2 .taken)
+    walk-twice (s .args .m .now) (s .args .from) (s .args .limit) (s .args .to) (s .pre .1 .1) (d .loop .seen) (l .lists .l)
+    (d .before .before .list-at .result) (d .loop .i) (l .lists .inv .0) (omega arith) (d .before .before .list-at .ensures) (omega arith)
+    (d .loop .inv .1 .1) (omega arith) (c .if2 .taken)
 
 pub frames-once-spec : {M : Type 1} → statement M
 frames-once-spec =
@@ -153,7 +165,7 @@ frames-once-spec =
     lists-holds
     list-at-requires
     list-count-requires
-    cast-held
+    cast-count
     loop-holds
     add-f
     mul-f
@@ -166,7 +178,7 @@ frames-once-spec =
     add-i
     loop-less
     loop-again
-    add-g
+    add-l
     lists-less
     lists-again
     returns

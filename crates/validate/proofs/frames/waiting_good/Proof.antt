@@ -1,4 +1,4 @@
--- `validate::frames::waiting_good` meets its contract: the places from h up to p pass, frame by frame, and the first frame that fails decides.
+-- `validate::frames::waiting_good` meets its contract: the places from h up to p pass, page by page, and the first page that fails decides.
 -- Assumes nothing.
 use Prim.Native.Nat.{_+_, _-_, _≤_, _<_}
 use mathlib.Core.Path.{_∙_}
@@ -51,8 +51,8 @@ group-word-requires-3 c κs =
     let inside = listed-inside (s .args .m .now) (s .args .g) (s .pre .0) (c .before .loop .p) (within c) in
     record { long = s .pre .0 .long; low = s .pre .0 .low; high = s .pre .0 .high; inside = inside }
 
--- the frame of place p
-frame : (c : tie.After-group-word3 Inv-loop μ-loop) → c .group-word3 .result < 32
+-- the page of place p
+frame : (c : tie.After-group-word3 Inv-loop μ-loop) → c .group-word3 .result < 96
 frame c =
     let d = c .before in
     let s = d .before .before .before .before .before in

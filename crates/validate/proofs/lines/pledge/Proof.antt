@@ -1,4 +1,4 @@
--- `validate::lines::pledge` meets its contract: h and n are within the frames of the list, and the queue has at most 16 messages, so the sum
+-- `validate::lines::pledge` meets its contract: h and n are within the pages of the list, and the queue has at most 16 messages, so the sum
 -- fits. Assumes nothing.
 use Prim.Native.Nat.{_+_, _≤_}
 use native.Mathlib.Omega.{arith}
@@ -17,15 +17,15 @@ group-word-requires c κs = search needs
 group-word-requires-2 : tie.Need-group-word-requires-2
 group-word-requires-2 c κs = search needs
 
--- at most 256 places, and at most 16 messages
+-- at most 768 places, and at most 16 messages
 few : (c : tie.After-group-word2)
-    → (c .before .group-word .result + c .group-word2 .result ≤ 256)
+    → (c .before .group-word .result + c .group-word2 .result ≤ 768)
     × (getD (c .before .before .before .args .t2) (c .before .before .before .args .g) 0 ≤ 16)
 few c =
     let s = c .before .before .before in
     let m = s .args .m .now in
     let g = s .args .g in (
-      omega (arith, room m g (s .pre .0)),
+      omega (arith, room m g (s .pre .0), s .pre .0 .few),
       omega (arith, s .pre .1 .1 .each g (omega arith), queued-few m (word m queuedAt) g),
     )
 

@@ -1,4 +1,4 @@
--- `validate::lines::pledges_fit` meets its contract: the sum is that of the pledges of the groups below g, none above 34. Assumes nothing.
+-- `validate::lines::pledges_fit` meets its contract: the sum is that of the pledges of the groups below g, none above 98. Assumes nothing.
 use Prim.Native.Nat.{_-_, _*_, _≤_}
 use mathlib.Core.Path.{_≡_}
 use native.Mathlib.Omega.{arith}
@@ -7,7 +7,7 @@ use Rattle.validate.proofs.lines.pledges_fit.Statement.{statement}
 use Rattle.validate.proofs.lines.pledges_fit.Tie as tie
 
 abbrev Inv-loop : tie.InvT-loop
-Inv-loop m queued sum₀ g₀ sum g = (1 ≤ g) × ((g ≤ 9) × ((sum ≡ pledgedTo m g) × (sum ≤ 34 * g)))
+Inv-loop m queued sum₀ g₀ sum g = (1 ≤ g) × ((g ≤ 9) × ((sum ≡ pledgedTo m g) × (sum ≤ 98 * g)))
 
 abbrev μ-loop : tie.MeasureT-loop
 μ-loop m queued sum₀ g₀ sum g = 9 - g

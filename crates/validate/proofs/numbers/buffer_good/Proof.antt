@@ -1,5 +1,5 @@
--- `validate::numbers::buffer_good` meets its contract. A buffer of more than 256 messages has a longer list than the 32 frames that its count of
--- frames is known to be within, and below that the sum of the last comparison fits. Assumes nothing.
+-- `validate::numbers::buffer_good` meets its contract. A buffer of more than 768 messages has a longer list than the 96 pages that its count of
+-- pages is known to be within, and below that the sum of the last comparison fits. Assumes nothing.
 use native.Mathlib.Omega.{arith}
 use borrow.Author.Needs.{needs}
 use Rattle.validate.proofs.numbers.PartLaws.{used-over, used-kept, none-held, count-over, count-held}

@@ -25,7 +25,7 @@ group-at-requires c κs = search needs
 
 -- the record is within the memory, and the counts within their bounds
 known : (c : tie.After-group-at)
-    → (c .group-at .result ≤ 518) × ((c .before .before .group-word .result ≤ 32) × (c .before .group-word2 .result ≤ 8))
+    → (c .group-at .result ≤ 966) × ((c .before .before .group-word .result ≤ 96) × (c .before .group-word2 .result ≤ 8))
 unfolding groupAddress
 known c =
     let s = c .before .before .before .before in

@@ -8,14 +8,14 @@ pub send-cases : SendCases
 unfolding computes
 send-cases =
     record {
-      frames-first = refl;
+      crowded-words = same-words _ _ refl;
+      packed-words = same-words _ _ refl;
       first-out = refl;
       third-out = refl;
-      crowded-words = same-words _ _ refl;
       not-renewed-by-writing = refl;
       runner-spared = refl;
       second-not-spared = refl;
-      nobody-spared = refl;
+      other-not-spared = refl;
       new-runner-spared = refl;
       timeout-sends = refl;
       whole = refl;

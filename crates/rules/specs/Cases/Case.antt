@@ -9,7 +9,7 @@ use lib.Dec.{eqb}
 use lib.ListN.{length, take, drop, replicate}
 use Rattle.rules.specs.Lists.{concatMap, upFrom, pad}
 use Rattle.rules.specs.Build.{paper01}
-use Rattle.rules.specs.Node.{Place, Node, emptyFrame, emptyGroup, withBuffer}
+use Rattle.rules.specs.Node.{Place, Group, Node, emptyPlace, emptyFrame, emptyGroup, withBuffer}
 use Rattle.rules.specs.Memory.{words}
 use Rattle.rules.specs.Text.{bytes, decimal}
 use Rattle.rules.specs.Script.{scriptLines, listFrom, listing}
@@ -77,24 +77,38 @@ Leaves s ps = allStand 0 ps (memoryAfter s) ≡ true
 abbrev pub oneWord : ℕ → Place
 oneWord w = record { len = 1; words = pad 8 (w ∷ []) }
 
--- nobody runs, and group 2 has k pages, 32 to 96, full of messages of the word 7: the last 32 pages are in the frames 0 to 31, the others were
--- sent out to the first swap pages. After 256, 512 and 768 times A,2,7 the node is this
-abbrev pub crowded : ℕ → Node
-crowded k =
+-- a group with these messages of one word in these pages, none used up
+abbrev pub withPages : List ℕ → List ℕ → Group
+withPages fs ws =
+    withBuffer
+    (record {
+      used = 0;
+      count = length ws;
+      frames = fs;
+      places = map oneWord ws ++ replicate (8 * length fs - length ws) emptyPlace;
+    })
+    emptyGroup
+
+-- nobody runs, no frame is free, and the order of entry is that of their numbers; the swap pages from number k on are free, and these are
+-- groups 1 and 2
+abbrev pub full : ℕ → Group → Group → Node
+full k G1 G2 =
     record {
       running = 0;
       timer = 0;
       queue = [];
       free = [];
-      paging =
-          record { swap = map (emptyFrame paper01) (upFrom k (96 - k)); entered = upFrom 0 32; out = k - 32; brought = 0 };
-      groups =
-          emptyGroup
-          ∷ withBuffer
-          (record { used = 0; count = 8 * k; frames = upFrom 32 (k - 32) ++ upFrom 0 32; places = replicate (8 * k) (oneWord 7) })
-          emptyGroup
-          ∷ replicate 6 emptyGroup;
+      paging = record { swap = map (emptyFrame paper01) (upFrom k (96 - k)); entered = upFrom 0 32; out = k - 32; brought = 0 };
+      groups = G1 ∷ G2 ∷ replicate 6 emptyGroup;
     }
+
+-- group 2 has k pages, 32 to 96, full of the word 7: the last 32 are in the frames, the others were sent out to the first swap pages
+abbrev pub crowded : ℕ → Node
+crowded k = full k emptyGroup (withPages (upFrom 32 (k - 32) ++ upFrom 0 32) (replicate (8 * k) 7))
+
+-- group 2 has these messages in the frames below k, and group 1 the other frames, full of the word 7
+abbrev pub packed : ℕ → List ℕ → Node
+packed k ws = full 32 (withPages (upFrom k (32 - k)) (replicate (8 * (32 - k)) 7)) (withPages (upFrom 0 k) ws)
 
 -- the lines played from this node on have these reports
 abbrev pub ListsFrom : Node → List Line → Type 0

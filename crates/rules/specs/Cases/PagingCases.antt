@@ -1,16 +1,17 @@
--- Order 1, swap space: which page is where, as words in memory after a script. Addresses are docs/MEMORY.md's: the count of free frames is at 3
--- and the free line at 164; groups 1 to 5 have h, n and the count of their pages from 198, 308, 418, 528 and 638 on, and their lists from 210, 320,
--- 430, 540 and 650 on; frame 0 is at 1076, frame 1 at 1148, the first swap page, number 32, at 3380; from 7988 on stand the counts of free swap
--- pages, of frames in use, of pages sent out and of pages brought in, from 7992 on the swap line, from 8056 on the order of entry. Assumes nothing.
+-- Order 1, swap space: which page is where, as words in memory after a script, from power-on or from a node of Case that has no free frame.
+-- Addresses are docs/MEMORY.md's: the count of free frames is at 3 and the free line at 164; groups 1 to 5 have h, n and the count of their pages
+-- from 198, 308, 418, 528 and 638 on, and their lists from 210, 320, 430, 540 and 650 on; frame 0 is at 1076, frame 1 at 1148, the first swap page,
+-- number 32, at 3380; from 7988 on stand the counts of free swap pages, of frames in use, of pages sent out and of pages brought in, from 7992 on
+-- the swap line, from 8056 on the order of entry. Assumes nothing.
 use Prim.Native.Nat.{ℕ}
 use mathlib.Core.Path.{_≡_}
 use mathlib.Core.List.{List, [], _∷_, _++_, map}
 use lib.ListN.{replicate}
 use Rattle.rules.specs.Lists.{concatMap, upFrom}
-use Rattle.rules.specs.Node.{Place, Node, emptyGroup, withPaging, withGroups, withBuffer}
+use Rattle.rules.specs.Node.{Place, Node, emptyGroup, withPaging, withBuffer}
 use Rattle.rules.specs.Memory.{words}
 use Rattle.rules.specs.Text.{bytes}
-use Rattle.rules.specs.Cases.Case.{copies, memoryAfter, _holds_, Leaves, oneWord, crowded, LeavesFrom}
+use Rattle.rules.specs.Cases.Case.{copies, memoryAfter, _holds_, Leaves, oneWord, withPages, full, crowded, packed, LeavesFrom}
 
 -- the words of a place with a message of one word
 abbrev pub kept : ℕ → List ℕ
@@ -24,23 +25,18 @@ older l w = l ∷ replicate 8 w
 abbrev pub olderPlace : ℕ → ℕ → Place
 olderPlace l w = record { len = l; words = replicate 8 w }
 
--- no frame is free; group 3 has frame 0, in which its one message is behind 2 used-up places and before 5 that keep words of old, and group 2
--- has the others
+-- group 2 has frame 0, in which its one message is behind 2 used-up places and before 5 that keep words of old; group 1 has the others
 abbrev pub oldWords : Node
 oldWords =
-    withGroups
-    (emptyGroup
-    ∷ withBuffer (record { used = 0; count = 248; frames = upFrom 1 31; places = replicate 248 (oneWord 7) }) emptyGroup
-    ∷ withBuffer
+    full 32 (withPages (upFrom 1 31) (replicate 248 7))
+    (withBuffer
     (record {
       used = 2;
       count = 1;
       frames = 0 ∷ [];
       places = olderPlace 2 8 ∷ olderPlace 3 9 ∷ oneWord 5 ∷ map (olderPlace 99) (upFrom 11 5);
     })
-    emptyGroup
-    ∷ replicate 5 emptyGroup)
-    (crowded 32)
+    emptyGroup)
 
 -- the node, with these counts of pages sent out and brought in
 abbrev pub counting : ℕ → ℕ → Node → Node
@@ -48,12 +44,9 @@ counting out brought n = withPaging (record { swap = n .paging .swap; entered = 
 
 -- a new page
 pub record SendCases : Type 0 where
-  -- "A page needed when no frame is free": as long as one is, none is sent out
-  pub frames-first : Leaves (copies 256 "A,1,7\n")
-      (3 holds (0 ∷ [])
-      ∷ 210 holds (upFrom 0 32 ++ (0 ∷ []))
-      ∷ 7988 holds (64 ∷ 32 ∷ 0 ∷ 0 ∷ upFrom 32 64 ++ upFrom 0 32)
-      ∷ [])
+  -- "A page needed when no frame is free": as long as one is, none is sent out, and the node is as Case says
+  pub crowded-words : memoryAfter (copies 256 "A,2,7\n") ≡ words (crowded 32)
+  pub packed-words : memoryAfter (bytes "A,2,5\n" ++ copies 248 "A,1,7\n") ≡ words (packed 1 (5 ∷ []))
   -- "sends out the page that has been in a frame longest": the one in frame 0, which the new page has now
   pub first-out : Leaves (copies 257 "A,1,7\n")
       (3 holds (0 ∷ [])
@@ -62,14 +55,13 @@ pub record SendCases : Type 0 where
       ∷ 7988 holds (63 ∷ 32 ∷ 1 ∷ 0 ∷ upFrom 33 63 ++ (0 ∷ upFrom 1 31 ++ (0 ∷ [])))
       ∷ [])
   -- "swap pages are taken .. in a line, as frames are"
-  pub third-out : Leaves (copies 273 "A,1,7\n")
-      (210 holds (32 ∷ 33 ∷ 34 ∷ upFrom 3 29 ++ (0 ∷ 1 ∷ 2 ∷ 0 ∷ []))
+  pub third-out : LeavesFrom (crowded 32) (copies 17 "A,2,7\n")
+      (308 holds (0 ∷ 273 ∷ 35 ∷ [])
+      ∷ 320 holds (32 ∷ 33 ∷ 34 ∷ upFrom 3 29 ++ (0 ∷ 1 ∷ 2 ∷ 0 ∷ []))
       ∷ 7988 holds (61 ∷ 32 ∷ 3 ∷ 0 ∷ upFrom 35 61 ++ (0 ∷ 0 ∷ 0 ∷ upFrom 3 29 ++ (0 ∷ 1 ∷ 2 ∷ [])))
       ∷ [])
-  -- after 512 arrivals every frame's page was sent out, in order, and the node is as Case says
-  pub crowded-words : memoryAfter (copies 512 "A,2,7\n") ≡ words (crowded 64)
   -- "has been in a frame longest": group 2's page was written last, and is the first to go
-  pub not-renewed-by-writing : Leaves (bytes "A,2,5\n" ++ (copies 248 "A,1,7\n" ++ bytes "A,2,6\nA,3,3\n"))
+  pub not-renewed-by-writing : LeavesFrom (packed 1 (5 ∷ [])) (bytes "A,2,6\nA,3,3\n")
       (210 holds (upFrom 1 31 ++ (0 ∷ []))
       ∷ 308 holds (0 ∷ 2 ∷ 1 ∷ [])
       ∷ 320 holds (32 ∷ 0 ∷ [])
@@ -77,41 +69,44 @@ pub record SendCases : Type 0 where
       ∷ 7990 holds (1 ∷ 0 ∷ [])
       ∷ 8056 holds (upFrom 1 31 ++ (0 ∷ []))
       ∷ [])
-  -- "except the running group's first page": frame 0 is group 1's, which runs; frame 1 is sent out
-  pub runner-spared : Leaves (bytes "S,1\nA,1,1\nT,256\n" ++ copies 249 "A,4,4\n")
-      (210 holds (0 ∷ 0 ∷ [])
-      ∷ 540 holds (32 ∷ upFrom 2 30 ++ (1 ∷ 0 ∷ []))
+  -- "except the running group's first page": frame 0 is group 2's, which runs; frame 1 is sent out
+  pub runner-spared : LeavesFrom (packed 1 (5 ∷ [])) (bytes "S,2\nA,3,3\n")
+      (210 holds (32 ∷ upFrom 2 30 ++ (0 ∷ []))
+      ∷ 320 holds (0 ∷ 0 ∷ [])
+      ∷ 430 holds (1 ∷ 0 ∷ [])
       ∷ 8056 holds (0 ∷ upFrom 2 30 ++ (1 ∷ []))
       ∷ [])
   -- its second page is sent out
-  pub second-not-spared : Leaves (copies 9 "A,1,1\n" ++ (copies 240 "A,4,4\n" ++ bytes "S,1\nA,4,4\n"))
-      (210 holds (0 ∷ 32 ∷ 0 ∷ [])
-      ∷ 540 holds (upFrom 2 30 ++ (1 ∷ 0 ∷ []))
+  pub second-not-spared : LeavesFrom (crowded 32) (bytes "S,2\nA,3,3\n")
+      (320 holds (0 ∷ 32 ∷ upFrom 2 30 ++ (0 ∷ []))
+      ∷ 430 holds (1 ∷ 0 ∷ [])
       ∷ 8056 holds (0 ∷ upFrom 2 30 ++ (1 ∷ []))
       ∷ [])
-  -- and the first page of a group that does not run
-  pub nobody-spared : Leaves (copies 9 "A,1,1\n" ++ copies 241 "A,4,4\n")
-      (210 holds (32 ∷ 1 ∷ 0 ∷ [])
-      ∷ 540 holds (upFrom 2 30 ++ (0 ∷ 0 ∷ []))
+  -- and so is the first page of a group that does not run
+  pub other-not-spared : LeavesFrom (crowded 32) (bytes "S,1\nA,3,3\n")
+      (320 holds (32 ∷ upFrom 1 31 ++ (0 ∷ []))
+      ∷ 430 holds (0 ∷ 0 ∷ [])
       ∷ 8056 holds (upFrom 1 31 ++ (0 ∷ []))
       ∷ [])
   -- while S settles, the running group is the new one
-  pub new-runner-spared : Leaves (bytes "A,1,1\n" ++ (copies 248 "A,4,4\n" ++ bytes "S,3\nA,3,3\nS,1\n"))
-      (210 holds (0 ∷ 0 ∷ [])
+  pub new-runner-spared : LeavesFrom (packed 1 (5 ∷ [])) (bytes "S,3\nA,3,3\nS,2\n")
+      (210 holds (32 ∷ upFrom 2 30 ++ (0 ∷ []))
+      ∷ 320 holds (0 ∷ 0 ∷ [])
       ∷ 430 holds (1 ∷ 0 ∷ [])
-      ∷ 540 holds (32 ∷ upFrom 2 30 ++ (0 ∷ []))
       ∷ 8056 holds (0 ∷ upFrom 2 30 ++ (1 ∷ []))
       ∷ [])
-  -- at a timeout the queue's messages need pages too: group 1's has the last free frame, group 2's that of the page sent out
-  pub timeout-sends : Leaves (copies 248 "A,4,4\n" ++ (bytes "S,1\nB\n" ++ (copies 8 "A,1,1\n" ++ (copies 8 "A,2,2\n" ++ bytes "T,256\n"))))
-      (210 holds (31 ∷ 0 ∷ [])
-      ∷ 320 holds (0 ∷ 0 ∷ [])
-      ∷ 540 holds (32 ∷ upFrom 1 30 ++ (0 ∷ []))
-      ∷ 7988 holds (63 ∷ 32 ∷ 1 ∷ 0 ∷ [])
-      ∷ 8056 holds (upFrom 1 31 ++ (0 ∷ []))
+  -- at a timeout the queue's messages need pages too
+  pub timeout-sends : LeavesFrom (packed 1 (5 ∷ [])) (bytes "S,3\nB\nA,3,3\nA,4,4\nA,3,2\nT,256\n")
+      (210 holds (33 ∷ upFrom 2 30 ++ (0 ∷ []))
+      ∷ 320 holds (32 ∷ 0 ∷ [])
+      ∷ 418 holds (0 ∷ 2 ∷ 1 ∷ [])
+      ∷ 430 holds (0 ∷ 0 ∷ [])
+      ∷ 540 holds (1 ∷ 0 ∷ [])
+      ∷ 7988 holds (62 ∷ 32 ∷ 2 ∷ 0 ∷ [])
+      ∷ 8056 holds (upFrom 2 30 ++ (0 ∷ 1 ∷ []))
       ∷ [])
   -- "Pages go whole": the used-up place too. The frame left behind keeps its words, where the new page's first message does not stand
-  pub whole : Leaves (bytes "A,2,5\nA,2,6\nS,2\nD\nS,0\n" ++ copies 249 "A,1,7\n")
+  pub whole : LeavesFrom (packed 1 (5 ∷ 6 ∷ [])) (bytes "S,2\nD\nS,0\nA,1,7\n")
       (308 holds (1 ∷ 1 ∷ 1 ∷ [])
       ∷ 320 holds (32 ∷ 0 ∷ [])
       ∷ 1076 holds (kept 7 ++ (kept 6 ++ replicate 54 0))
@@ -119,8 +114,8 @@ pub record SendCases : Type 0 where
       ∷ [])
   -- and places that were not written since the page was taken
   pub whole-old : LeavesFrom oldWords (bytes "A,4,6\n")
-      (418 holds (2 ∷ 1 ∷ 1 ∷ [])
-      ∷ 430 holds (32 ∷ 0 ∷ [])
+      (308 holds (2 ∷ 1 ∷ 1 ∷ [])
+      ∷ 320 holds (32 ∷ 0 ∷ [])
       ∷ 1076 holds (kept 6 ++ (older 3 9 ++ (kept 5 ++ concatMap (older 99) (upFrom 11 5))))
       ∷ 3380 holds (older 2 8 ++ (older 3 9 ++ (kept 5 ++ concatMap (older 99) (upFrom 11 5))))
       ∷ [])
@@ -129,7 +124,7 @@ pub record SendCases : Type 0 where
 pub record BringCases : Type 0 where
   -- "A swapped-out page is brought in before it is written", here to frame 1, which is free: the whole page, and it is the last in the order of
   -- entry. The swap page joins the end of its line and keeps its words, in which 6 is not written
-  pub write-brings : Leaves (bytes "A,2,5\n" ++ (copies 249 "A,1,7\n" ++ (bytes "S,1\n" ++ (copies 8 "D\n" ++ bytes "S,0\nA,2,6\n"))))
+  pub write-brings : LeavesFrom (packed 1 (5 ∷ [])) (bytes "A,1,7\nS,1\n" ++ (copies 8 "D\n" ++ bytes "S,0\nA,2,6\n"))
       (3 holds (0 ∷ [])
       ∷ 308 holds (0 ∷ 2 ∷ 1 ∷ [])
       ∷ 320 holds (1 ∷ 0 ∷ [])
@@ -138,14 +133,14 @@ pub record BringCases : Type 0 where
       ∷ 7988 holds (64 ∷ 32 ∷ 1 ∷ 1 ∷ upFrom 33 63 ++ (32 ∷ upFrom 2 30 ++ (0 ∷ 1 ∷ [])))
       ∷ [])
   -- "freed in a line, as frames are": the next page sent out takes the front, number 33
-  pub freed-to-the-end : Leaves (bytes "A,2,5\n" ++ (copies 249 "A,1,7\n" ++ (bytes "S,1\n" ++ (copies 8 "D\n" ++ bytes "S,0\nA,2,6\nA,3,3\n"))))
+  pub freed-to-the-end : LeavesFrom (packed 1 (5 ∷ [])) (bytes "A,1,7\nS,1\n" ++ (copies 8 "D\n" ++ bytes "S,0\nA,2,6\nA,3,3\n"))
       (210 holds (33 ∷ upFrom 3 29 ++ (0 ∷ 0 ∷ []))
       ∷ 430 holds (2 ∷ 0 ∷ [])
       ∷ 7988 holds (63 ∷ 32 ∷ 2 ∷ 1 ∷ upFrom 34 62 ++ (32 ∷ 0 ∷ upFrom 3 29 ++ (0 ∷ 1 ∷ 2 ∷ [])))
       ∷ [])
   -- "exchanged with the one so chosen if no frame is free": "in an exchange the two trade places", whole; no swap page is taken or freed, and
   -- frame 1 is the last in the order of entry
-  pub write-exchanges : Leaves (bytes "A,2,5\n" ++ (copies 249 "A,1,7\n" ++ bytes "A,2,6\n"))
+  pub write-exchanges : LeavesFrom (packed 1 (5 ∷ [])) (bytes "A,1,7\nA,2,6\n")
       (3 holds (0 ∷ [])
       ∷ 210 holds (32 ∷ upFrom 2 30 ++ (0 ∷ 0 ∷ []))
       ∷ 308 holds (0 ∷ 2 ∷ 1 ∷ [])
@@ -155,21 +150,22 @@ pub record BringCases : Type 0 where
       ∷ 7988 holds (63 ∷ 32 ∷ 2 ∷ 1 ∷ upFrom 33 63 ++ (0 ∷ upFrom 2 30 ++ (0 ∷ 1 ∷ [])))
       ∷ [])
   -- the running group writes to its second page, in swap: its first is spared again, though it has been in a frame longest
-  pub runner-writes : Leaves (copies 9 "A,1,1\n" ++ (copies 240 "A,4,4\n" ++ bytes "S,1\nA,4,4\nA,1,2\n"))
-      (210 holds (0 ∷ 2 ∷ 0 ∷ [])
-      ∷ 540 holds (32 ∷ upFrom 3 29 ++ (1 ∷ 0 ∷ []))
-      ∷ 1220 holds (kept 1 ++ (kept 2 ++ replicate 54 0))
+  pub runner-writes : LeavesFrom (packed 2 (replicate 9 5)) (bytes "S,2\nA,1,7\nA,2,6\n")
+      (210 holds (32 ∷ upFrom 3 29 ++ (1 ∷ 0 ∷ []))
+      ∷ 308 holds (0 ∷ 10 ∷ 2 ∷ [])
+      ∷ 320 holds (0 ∷ 2 ∷ 0 ∷ [])
+      ∷ 1220 holds (kept 5 ++ (kept 6 ++ replicate 54 0))
       ∷ 8056 holds (0 ∷ upFrom 3 29 ++ (1 ∷ 2 ∷ []))
       ∷ [])
   -- "and, once settling is done, a running group's first page", with frame 1 free
-  pub runner-brought : Leaves (bytes "A,2,5\n" ++ (copies 249 "A,1,7\n" ++ (bytes "S,1\n" ++ (copies 8 "D\n" ++ bytes "S,2\n"))))
+  pub runner-brought : LeavesFrom (packed 1 (5 ∷ [])) (bytes "A,1,7\nS,1\n" ++ (copies 8 "D\n" ++ bytes "S,2\n"))
       (3 holds (0 ∷ [])
       ∷ 320 holds (1 ∷ 0 ∷ [])
       ∷ 1148 holds (kept 5 ++ replicate 63 0)
       ∷ 7988 holds (64 ∷ 32 ∷ 1 ∷ 1 ∷ upFrom 33 63 ++ (32 ∷ upFrom 2 30 ++ (0 ∷ 1 ∷ [])))
       ∷ [])
   -- and with none
-  pub runner-exchanged : Leaves (bytes "A,2,5\n" ++ (copies 249 "A,1,7\n" ++ bytes "S,2\n"))
+  pub runner-exchanged : LeavesFrom (packed 1 (5 ∷ [])) (bytes "A,1,7\nS,2\n")
       (210 holds (32 ∷ upFrom 2 30 ++ (0 ∷ 0 ∷ []))
       ∷ 320 holds (1 ∷ 0 ∷ [])
       ∷ 7988 holds (63 ∷ 32 ∷ 2 ∷ 1 ∷ upFrom 33 63 ++ (0 ∷ upFrom 2 30 ++ (0 ∷ 1 ∷ [])))
@@ -180,16 +176,16 @@ pub record BringCases : Type 0 where
       ∷ 7988 holds (0 ∷ 32 ∷ 65 ∷ 1 ∷ replicate 64 0 ++ (upFrom 1 31 ++ (0 ∷ [])))
       ∷ [])
   -- "the page that has been in a frame longest", by its last entry: after an exchange into frame 1 the next to go is the page in frame 2
-  pub renewed-by-exchange : Leaves (copies 257 "A,1,7\n" ++ bytes "S,1\nS,0\nA,2,5\n")
-      (210 holds (1 ∷ 32 ∷ 33 ∷ upFrom 3 29 ++ (0 ∷ 0 ∷ []))
-      ∷ 320 holds (2 ∷ 0 ∷ [])
+  pub renewed-by-exchange : LeavesFrom (crowded 32) (bytes "A,2,7\nS,2\nS,0\nA,1,5\n")
+      (210 holds (2 ∷ 0 ∷ [])
+      ∷ 320 holds (1 ∷ 32 ∷ 33 ∷ upFrom 3 29 ++ (0 ∷ 0 ∷ []))
       ∷ 7988 holds (62 ∷ 32 ∷ 3 ∷ 1 ∷ upFrom 34 62 ++ (0 ∷ 0 ∷ upFrom 3 29 ++ (0 ∷ 1 ∷ 2 ∷ [])))
       ∷ [])
-  -- "once settling is done": first group 3's message has frame 1, then group 1's page is exchanged into frame 2
-  pub after-settling : Leaves (bytes "A,1,1\n" ++ (copies 249 "A,4,4\n" ++ bytes "S,3\nA,3,3\nS,1\n"))
-      (210 holds (2 ∷ 0 ∷ [])
+  -- "once settling is done": first group 3's message has frame 1, then group 2's page is exchanged into frame 2
+  pub after-settling : LeavesFrom (packed 1 (5 ∷ [])) (bytes "A,1,7\nS,3\nA,3,3\nS,2\n")
+      (210 holds (33 ∷ 32 ∷ upFrom 3 29 ++ (0 ∷ 0 ∷ []))
+      ∷ 320 holds (2 ∷ 0 ∷ [])
       ∷ 430 holds (1 ∷ 0 ∷ [])
-      ∷ 540 holds (33 ∷ 32 ∷ upFrom 3 29 ++ (0 ∷ 0 ∷ []))
       ∷ 7988 holds (62 ∷ 32 ∷ 3 ∷ 1 ∷ upFrom 34 62 ++ (0 ∷ 0 ∷ upFrom 3 29 ++ (0 ∷ 1 ∷ 2 ∷ [])))
       ∷ [])
   -- "the page being written" is so no more: group 2's, written as S settled, goes for group 1's
@@ -203,19 +199,19 @@ pub record BringCases : Type 0 where
       ∷ 8056 holds (upFrom 3 29 ++ (0 ∷ 1 ∷ 2 ∷ []))
       ∷ [])
   -- "a running group's first page" after D: the seventh leaves the second page in swap, the eighth uses up the page before it, whose frame it has
-  pub second-stays : Leaves (copies 257 "A,1,7\n" ++ (bytes "S,1\n" ++ copies 7 "D\n"))
-      (198 holds (7 ∷ 250 ∷ 33 ∷ [])
-      ∷ 210 holds (1 ∷ 32 ∷ upFrom 2 30 ++ (0 ∷ 0 ∷ []))
+  pub second-stays : LeavesFrom (crowded 32) (bytes "A,2,7\nS,2\n" ++ copies 7 "D\n")
+      (308 holds (7 ∷ 250 ∷ 33 ∷ [])
+      ∷ 320 holds (1 ∷ 32 ∷ upFrom 2 30 ++ (0 ∷ 0 ∷ []))
       ∷ 7988 holds (63 ∷ 32 ∷ 2 ∷ 1 ∷ [])
       ∷ [])
-  pub second-brought : Leaves (copies 257 "A,1,7\n" ++ (bytes "S,1\n" ++ copies 8 "D\n"))
+  pub second-brought : LeavesFrom (crowded 32) (bytes "A,2,7\nS,2\n" ++ copies 8 "D\n")
       (3 holds (0 ∷ [])
-      ∷ 198 holds (0 ∷ 249 ∷ 32 ∷ [])
-      ∷ 210 holds (upFrom 1 31 ++ (0 ∷ 0 ∷ []))
+      ∷ 308 holds (0 ∷ 249 ∷ 32 ∷ [])
+      ∷ 320 holds (upFrom 1 31 ++ (0 ∷ 0 ∷ []))
       ∷ 7988 holds (64 ∷ 32 ∷ 2 ∷ 2 ∷ upFrom 33 63 ++ (32 ∷ upFrom 2 30 ++ (0 ∷ 1 ∷ [])))
       ∷ [])
   -- with frame 3 free, the frame just freed, 2, joins the end of the line, and the page comes into the front
-  pub into-the-front : Leaves (copies 2 "A,2,2\n" ++ (copies 264 "A,1,7\n" ++ (bytes "S,1\nS,2\nD\nD\nS,1\n" ++ copies 8 "D\n")))
+  pub into-the-front : LeavesFrom (packed 1 (2 ∷ 2 ∷ [])) (copies 16 "A,1,7\n" ++ (bytes "S,1\nS,2\nD\nD\nS,1\n" ++ copies 8 "D\n"))
       (3 holds (1 ∷ [])
       ∷ 164 holds (2 ∷ 0 ∷ [])
       ∷ 210 holds (3 ∷ 32 ∷ upFrom 4 28 ++ (0 ∷ 1 ∷ 0 ∷ []))
@@ -231,4 +227,5 @@ pub record PageCountCases : Type 0 where
   -- both stay, in an exchange
   pub both-stay : LeavesFrom (counting 4294967295 4294967295 (crowded 64)) (bytes "S,2\n") (7990 holds (4294967295 ∷ 4294967295 ∷ []) ∷ [])
   -- and where a page is brought in with a frame free: group 2 uses up its first page, now in frame 0, and its next comes there
-  pub brought-stays : LeavesFrom (counting 7 4294967295 (crowded 64)) (bytes "S,2\n" ++ copies 8 "D\n") (3 holds (0 ∷ []) ∷ 320 holds (0 ∷ 34 ∷ []) ∷ 7990 holds (8 ∷ 4294967295 ∷ []) ∷ [])
+  pub brought-stays : LeavesFrom (counting 7 4294967295 (crowded 64)) (bytes "S,2\n" ++ copies 8 "D\n")
+      (3 holds (0 ∷ []) ∷ 320 holds (0 ∷ 34 ∷ []) ∷ 7990 holds (8 ∷ 4294967295 ∷ []) ∷ [])

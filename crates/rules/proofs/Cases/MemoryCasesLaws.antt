@@ -5,7 +5,7 @@ use mathlib.Core.List.{[], _∷_, _++_}
 use Rattle.rules.specs.Lists.{upFrom}
 use Rattle.rules.specs.Operation.{schedule, user, dispose}
 use Rattle.rules.specs.MemoryTest.{isMemory}
-use Rattle.rules.specs.Cases.MemoryCases.{fresh, busy, sevenUsed, swapped}
+use Rattle.rules.specs.Cases.MemoryCases.{fresh, busy, sevenUsed, swapped, firstSwapped}
 use Rattle.rules.specs.Cases.MemoryCases.{MapCases, StepOnMemoryCases, NodeCases, NoNodeCases, HeadCases, CountCases}
 use Rattle.rules.proofs.Cases.Computes.{computes}
 use Rattle.rules.proofs.Cases.TestComputes.{words-fail, node-fails, unused-fail, is-node, same-words, step-report, step-writes, step-refused, head-of, head-reads, head-none, counts-of, counts-none}
@@ -45,6 +45,11 @@ swapped-node : isMemory swapped ≡ true
 unfolding computes
 swapped-node = is-node _ (upFrom 0 4 ++ (upFrom 5 32 ++ (upFrom 38 58 ++ (4 ∷ 37 ∷ [])))) (upFrom 0 4 ++ (upFrom 5 27 ++ (4 ∷ []))) refl refl refl refl refl refl refl refl refl
 
+-- the one with a first page in swap
+first-swapped : isMemory firstSwapped ≡ true
+unfolding computes
+first-swapped = is-node _ (upFrom 0 4 ++ (upFrom 5 32 ++ (upFrom 38 58 ++ (37 ∷ 4 ∷ [])))) (upFrom 0 4 ++ (upFrom 5 27 ++ (4 ∷ []))) refl refl refl refl refl refl refl refl refl
+
 pub node-cases : NodeCases
 unfolding computes
 node-cases =
@@ -56,8 +61,7 @@ node-cases =
       edges = is-node _ (upFrom 2 30 ++ (upFrom 32 64 ++ (0 ∷ 1 ∷ []))) (upFrom 2 30 ++ (0 ∷ 1 ∷ [])) refl refl refl refl refl refl refl refl refl;
       anything = is-node _ (upFrom 2 30 ++ (upFrom 32 64 ++ (0 ∷ 1 ∷ []))) (upFrom 2 30 ++ (0 ∷ 1 ∷ [])) refl refl refl refl refl refl refl refl refl;
       swapped-node = swapped-node;
-      swapped-runs = is-node _ (upFrom 0 4 ++ (upFrom 5 32 ++ (upFrom 38 58 ++ (4 ∷ 37 ∷ [])))) (upFrom 0 4 ++ (upFrom 5 27 ++ (4 ∷ []))) refl refl refl refl refl refl refl refl refl;
-      first-swapped = is-node _ (upFrom 0 4 ++ (upFrom 5 32 ++ (upFrom 38 58 ++ (37 ∷ 4 ∷ [])))) (upFrom 0 4 ++ (upFrom 5 27 ++ (4 ∷ []))) refl refl refl refl refl refl refl refl refl;
+      first-swapped = first-swapped;
     }
 
 pub no-node-cases : NoNodeCases
@@ -175,7 +179,7 @@ head-cases =
       head-direct = head-of _ busy-node;
       head-buffered = head-of _ seven-used;
       head-words = head-reads _ _ seven-used refl;
-      head-nobody = head-of _ (is-node _ (upFrom 1 31 ++ (upFrom 32 64 ++ (0 ∷ []))) (upFrom 1 31 ++ (0 ∷ [])) refl refl refl refl refl refl refl refl refl);
+      head-nobody = head-of _ first-swapped;
       head-no-line = head-of _ (is-node _ (upFrom 0 96) (upFrom 0 32) refl refl refl refl refl refl refl refl refl);
       head-no-node = head-none _ (node-fails _ 1 refl);
     }

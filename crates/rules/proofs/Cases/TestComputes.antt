@@ -8,14 +8,14 @@ use borrow.Author.Tests.{eqb-true}
 use lib.Dec.{eqb, leb}
 use lib.ListN.{length, take, drop, getD}
 use native.Mathlib.Numerals.{add-one}
-use Rattle.rules.specs.Lists.{Every, passes, pad, all, upFrom}
+use Rattle.rules.specs.Lists.{Every, passes, pad, all, concatMap, upFrom}
 use Rattle.rules.specs.Build.{paper01, pageCount, groupCount, wordLimit}
 use Rattle.rules.specs.Operation.{Operation, notNode, refused}
 use Rattle.rules.specs.Step.{step}
-use Rattle.rules.specs.Node.{Node}
+use Rattle.rules.specs.Node.{Place, Group, Node}
 use Rattle.rules.specs.Valid.{frameNumbers, frameOrder, standsOnce, nodeTests, isNode}
-use Rattle.rules.specs.Memory.{runningAt, timerAt, queuedAt, freeCountAt, queueAt, queueStride, freeAt, groupsAt, heldOffset, describedOffset, descriptorOffset, listOffset, swapCountAt, enteredCountAt, outAt, broughtAt, swapAt, enteredAt, size}
-use Rattle.rules.specs.Memory.{word, wordsAt, groupAddress, messagesAt, frameAt, groupsFrom, pagingFrom, nodeAt}
+use Rattle.rules.specs.Memory.{runningAt, timerAt, queuedAt, freeCountAt, queueAt, queueStride, freeAt, groupsAt, groupStride, atomicOffset, pendingOffset, usedOffset, countOffset, heldOffset, describedOffset, descriptorOffset, listOffset, placeStride, swapCountAt, enteredCountAt, outAt, broughtAt, swapAt, enteredAt, size}
+use Rattle.rules.specs.Memory.{word, wordsAt, frameAddress, groupAddress, messagesAt, placeAt, placesAt, framePlaces, frameAt, flagAt, listAt, bufferAt, groupAt, groupsFrom, pagingFrom, nodeAt}
 use Rattle.rules.specs.MemoryTest.{zeroAt, countsInBounds, flagsAreFlags, queueUnused, freeUnused, swapUnused, enteredUnused, groupUnused, messageUnused, unusedAreZero, memoryTests, isMemory, replaced, stepMemory, emptyPart, runnerPart, headPart, headWords, pageCounts}
 
 -- a test that always passes
@@ -68,6 +68,55 @@ unfolding wordsAt word
 words-at m a zero = refl
 words-at m a (suc k) = rw (add-one, pad-drop) (ap (λ (ws : List ℕ). getD m a 0 ∷ ws) (words-at m (suc a) k))
 
+-- the places of a frame or swap page, the words of each read at one go
+abbrev pub placesBy : List ℕ → ℕ → ℕ → List Place
+placesBy m a zero = []
+placesBy m a (suc k) = record { len = word m a; words = pad wordLimit (drop (a + 1) m) } ∷ placesBy m (a + placeStride) k
+
+-- they are those
+pub places-by : (m : List ℕ) (a k : ℕ) → placesAt m a k ≡ placesBy m a k
+unfolding placesAt placeAt
+places-by m a zero = refl
+places-by m a (suc k) = rw (words-at, places-by m (a + placeStride) k)
+
+-- two functions that agree on each number give the same lists
+pub concat-same : {A : Type 0} (f g : ℕ → List A) → ((i : ℕ) → f i ≡ g i) → (xs : List ℕ) → concatMap f xs ≡ concatMap g xs
+concat-same f g e [] = refl
+concat-same f g e (x ∷ xs) = rw (e x, concat-same f g e xs)
+
+-- the group whose record is at address a, each stretch of it read at one go
+abbrev pub groupBy : List ℕ → ℕ → Group
+groupBy m a =
+    let list = pad (word m (a + heldOffset)) (drop (a + listOffset) m) in
+    record {
+      atomic = flagAt m (a + atomicOffset);
+      pending = flagAt m (a + pendingOffset);
+      buffer =
+          record {
+            used = word m (a + usedOffset);
+            count = word m (a + countOffset);
+            frames = list;
+            places = concatMap (λ f. placesBy m (frameAddress f) (paper01 .perFrame)) list;
+          };
+      descriptor = pad (word m (a + describedOffset)) (drop (a + descriptorOffset) m);
+    }
+
+-- it is that group
+pub group-by : (m : List ℕ) (a : ℕ) → groupAt m a ≡ groupBy m a
+unfolding groupAt bufferAt listAt framePlaces
+group-by m a = simp (words-at, concat-same (framePlaces m) (λ f. placesBy m (frameAddress f) (paper01 .perFrame)) (λ f. places-by m (frameAddress f) (paper01 .perFrame)))
+
+-- k groups from address a on
+abbrev pub groupsBy : List ℕ → ℕ → ℕ → List Group
+groupsBy m a zero = []
+groupsBy m a (suc k) = groupBy m a ∷ groupsBy m (a + groupStride) k
+
+-- they are those
+pub groups-by : (m : List ℕ) (a k : ℕ) → groupsFrom m a k ≡ groupsBy m a k
+unfolding groupsFrom
+groups-by m a zero = refl
+groups-by m a (suc k) = rw (group-by m a, groups-by m (a + groupStride) k)
+
 -- the node that the words hold, each line of numbers read at one go
 abbrev pub nodeBy : List ℕ → Node
 nodeBy m =
@@ -83,13 +132,13 @@ nodeBy m =
             out = word m outAt;
             brought = word m broughtAt;
           };
-      groups = groupsFrom m groupsAt groupCount;
+      groups = groupsBy m groupsAt groupCount;
     }
 
 -- it is that node
 pub node-by : (m : List ℕ) → nodeAt m ≡ nodeBy m
 unfolding nodeAt pagingFrom
-node-by m = simp words-at
+node-by m = simp (words-at, groups-by m groupsAt groupCount)
 
 -- memory is no node where the i-th clause on that node fails
 pub node-fails : (m : List ℕ) (i : ℕ) → getD (nodeTests paper01) i always (nodeBy m) ≡ false → isMemory m ≡ false

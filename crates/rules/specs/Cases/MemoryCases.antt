@@ -91,18 +91,32 @@ fullPages =
     ∷ 8056 holds upFrom 0 32
     ∷ [])
 
--- group 3 has two messages: one in the last place of its first page, in frame 4, and one in its second page, which has number 37 and is in
--- swap; 3 pages were sent out and 2 brought in
+-- group 3 runs and has two messages: one in the last place of its first page, in frame 4, and one in its second page, which has number 37 and
+-- is in swap; 3 pages were sent out and 2 brought in
 abbrev pub swapped : List ℕ
 swapped =
     laid 0
-    (3 holds (31 ∷ [])
+    (0 holds (3 ∷ 0 ∷ 0 ∷ 31 ∷ [])
     ∷ 164 holds (upFrom 0 4 ++ upFrom 5 27)
-    ∷ 418 holds (7 ∷ 2 ∷ 2 ∷ [])
+    ∷ 416 holds (1 ∷ 0 ∷ 7 ∷ 2 ∷ 2 ∷ [])
     ∷ 430 holds (4 ∷ 37 ∷ [])
     ∷ 1427 holds (1 ∷ 5 ∷ [])
     ∷ 3740 holds (2 ∷ 6 ∷ 7 ∷ [])
     ∷ 7988 holds (63 ∷ 1 ∷ 3 ∷ 2 ∷ upFrom 32 5 ++ upFrom 38 58)
+    ∷ 8056 holds (4 ∷ [])
+    ∷ [])
+
+-- nobody runs, and the first page of group 3 is in swap and its second in frame 4; both counts of pages are at their last number
+abbrev pub firstSwapped : List ℕ
+firstSwapped =
+    laid 0
+    (3 holds (31 ∷ [])
+    ∷ 164 holds (upFrom 0 4 ++ upFrom 5 27)
+    ∷ 416 holds (1 ∷ 0 ∷ 7 ∷ 2 ∷ 2 ∷ [])
+    ∷ 430 holds (37 ∷ 4 ∷ [])
+    ∷ 1364 holds (1 ∷ 5 ∷ [])
+    ∷ 3803 holds (1 ∷ 6 ∷ [])
+    ∷ 7988 holds (63 ∷ 1 ∷ 4294967295 ∷ 4294967295 ∷ upFrom 32 5 ++ upFrom 38 58)
     ∷ 8056 holds (4 ∷ [])
     ∷ [])
 
@@ -190,12 +204,10 @@ pub record NodeCases : Type 0 where
   -- has a line and is not atomic
   pub anything :
       isMemory (put 416 (0 ∷ []) (put 1076 (replicate 18 9) (put 1166 (replicate 54 9) (put 1220 (replicate 6768 9) busy)))) ≡ true
-  -- a page in swap; the first page of a group that runs is in a frame
+  -- a page in swap, and the first page of the group, which runs, in a frame
   pub swapped-node : isMemory swapped ≡ true
-  pub swapped-runs : isMemory (put 0 (3 ∷ []) (put 416 (1 ∷ []) swapped)) ≡ true
   -- the first page of a group that does not run, in swap; "each count staying at 4,294,967,295 once there"
-  pub first-swapped :
-      isMemory (put 430 (37 ∷ 4 ∷ []) (put 1364 (1 ∷ 5 ∷ []) (put 3803 (1 ∷ 6 ∷ []) (put 7990 (4294967295 ∷ 4294967295 ∷ []) swapped)))) ≡ true
+  pub first-swapped : isMemory firstSwapped ≡ true
 
 -- "Memory is a node when", clause by clause: each of these is a node but for one clause
 pub record NoNodeCases : Type 0 where
@@ -245,7 +257,7 @@ pub record NoNodeCases : Type 0 where
   pub page-97th : isMemory (put 7988 (64 ∷ []) (put 8055 (96 ∷ []) swapped)) ≡ false
   -- a frame in the swap line, and in no other: swap page 0 is in its stead in the list of group 3, which has one message
   pub frame-in-swap-line :
-      isMemory (put 418 (0 ∷ 1 ∷ 1 ∷ []) (put 430 (32 ∷ 0 ∷ []) (put 3380 (1 ∷ 5 ∷ []) (put 7988 (64 ∷ 1 ∷ 3 ∷ 2 ∷ 4 ∷ upFrom 33 63) swapped))))
+      isMemory (put 0 (0 ∷ []) (put 418 (0 ∷ 1 ∷ 1 ∷ []) (put 430 (32 ∷ 0 ∷ []) (put 3380 (1 ∷ 5 ∷ []) (put 7988 (64 ∷ 1 ∷ 3 ∷ 2 ∷ 4 ∷ upFrom 33 63) swapped)))))
       ≡ false
   -- a swap page in the free line, and in no other: it stands for frame 4, which group 3 holds
   pub swap-in-free-line : isMemory (put 3 (32 ∷ []) (put 195 (32 ∷ []) (put 7988 (62 ∷ []) (put 7992 (upFrom 33 4 ++ (upFrom 38 58 ++ (0 ∷ []))) swapped)))) ≡ false
@@ -317,9 +329,8 @@ pub record NoNodeCases : Type 0 where
       isMemory (put 3 (29 ∷ []) (put 193 (0 ∷ []) (put 199 (1 ∷ 1 ∷ []) (put 210 (31 ∷ []) (put 3308 (1 ∷ 5 ∷ []) (put 7989 (3 ∷ []) (put 8058 (31 ∷ []) busy))))))) ≡ false
   -- "if it is empty the timer is 0"
   pub timer-idle : isMemory (put 1 (1 ∷ []) fresh) ≡ false
-  -- "a running group's first page is in a frame": the one of first-swapped, running
-  pub runner-swapped :
-      isMemory (put 0 (3 ∷ []) (put 416 (1 ∷ []) (put 430 (37 ∷ 4 ∷ []) (put 1364 (1 ∷ 5 ∷ []) (put 3803 (1 ∷ 6 ∷ []) swapped))))) ≡ false
+  -- "a running group's first page is in a frame"
+  pub runner-swapped : isMemory (put 0 (3 ∷ []) firstSwapped) ≡ false
 
 -- "the words of the head message as a part of the lent memory": where they begin, and how many they are
 pub record HeadCases : Type 0 where
@@ -328,10 +339,8 @@ pub record HeadCases : Type 0 where
   -- from a frame's: in the list's first, behind the used-up places
   pub head-buffered : headPart sevenUsed ≡ record { start = 1212; len = 8 }
   pub head-words : headWords sevenUsed ≡ replicate 8 16
-  -- "the running group's first, an empty part if there is none": nobody runs, and group 1 has a message; or a group with no line runs
-  pub head-nobody :
-      headPart (put 3 (31 ∷ []) (put 164 (upFrom 1 31 ++ (0 ∷ [])) (put 199 (1 ∷ 1 ∷ []) (put 1076 (1 ∷ 5 ∷ []) (put 7989 (1 ∷ []) fresh)))))
-      ≡ record { start = 0; len = 0 }
+  -- "the running group's first, an empty part if there is none": nobody runs, and group 3 has messages; or a group with no line runs
+  pub head-nobody : headPart firstSwapped ≡ record { start = 0; len = 0 }
   pub head-no-line : headPart (put 0 (1 ∷ []) fresh) ≡ record { start = 0; len = 0 }
   -- "or the memory is no node"
   pub head-no-node : headPart (put 1 (256 ∷ []) busy) ≡ record { start = 0; len = 0 }

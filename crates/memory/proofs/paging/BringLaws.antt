@@ -20,7 +20,7 @@ use Rattle.rules.proofs.Steps.PagingLaws.{bring-sound, count-in, entered-below,
 use Rattle.rules.proofs.Steps.SoundLaws.{line-lengths, sound-mapped}
 use Rattle.memory.specs.Holds.{Holds, InOrder, OrderRoom, departing, entering}
 use Rattle.memory.specs.Lines.{InLine, Joined, Left, indexOf}
-use Rattle.memory.specs.Paging.{Away, Exchanging, Fetching, Listing, PageMoved, PagesSwapped, bringing}
+use Rattle.memory.specs.Paging.{Exchanging, Fetching, Listing, PageMoved, PagesSwapped, bringing}
 use Rattle.memory.specs.Writes.{Wrote}
 use Rattle.memory.proofs.LinePieces.{free-line, free-put, swap-line, swap-wrote}
 use Rattle.memory.proofs.PieceLaws.{FrameStands, Pieces, holds-pieces, pieces-hold}
@@ -31,10 +31,6 @@ use Rattle.memory.proofs.paging.IdleLaws.{leaving-stands, mapped-laid, 
 use Rattle.memory.proofs.paging.MoveLaws.{stands-below}
 use Rattle.memory.proofs.paging.PiecesLaws.{Laid, laid-listing}
 use Rattle.memory.proofs.paging.SendLaws.{brought-held, broughtMore, free-alone, listed-apart, out-held, outMore}
-
--- what is brought in can be mapped
-pub brought-mapped : {p : ℕ} {n : Node} → Away p n → Mapped (bringing p n)
-brought-mapped {p} a = sound-mapped (bring-sound (a .owned .sound) p (a .high) (a .owned .listed))
 
 -- Into a free frame.
 
@@ -158,7 +154,9 @@ module _ {p : ℕ} {n : Node} (c : Fetching p n) where
 
     pub fetched-held : {m₃ : List ℕ} → Joined m₂ m₃ swapCountAt swapAt p → Holds m₃ (bringing p n) r
     unfolding entered bringIn trading withGroups withFree withPaging frameNumber leaving
-    fetched-held {m₃} came = go (n .free) (t .line) (brought-mapped (c .away))
+    fetched-held {m₃} came =
+        let a = c .away in
+        go (n .free) (t .line) (sound-mapped (bring-sound (a .owned .sound) p (a .high) (a .owned .listed)))
       where
         go : (fs : List Frame) → fs ≡ t .front ∷ t .behind → Mapped (bringIn paper01 p fs n) → Holds m₃ (bringIn paper01 p fs n) r
         go [] e mapped = absurd (omega (arith, ap length e))
@@ -232,7 +230,7 @@ module _ {p : ℕ} {n : Node} (c : Exchanging p n) where
 
     pub exchanged-held : {m₁ : List ℕ} → PagesSwapped m m₁ (victim n) p → Holds m₁ (bringing p n) r
     unfolding renewed bringIn exchange trading withGroups withPaging
-    exchanged-held {m₁} swapped = go (n .free) (c .full) (brought-mapped (c .away))
+    exchanged-held {m₁} swapped = go (n .free) (c .full) (sound-mapped (bring-sound sound p (c .away .high) (c .away .owned .listed)))
       where
         go : (fs : List Frame) → fs ≡ [] → Mapped (bringIn paper01 p fs n) → Holds m₁ (bringIn paper01 p fs n) r
         go [] e mapped =

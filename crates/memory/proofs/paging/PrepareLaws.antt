@@ -37,8 +37,8 @@ module _ {m : List ℕ} {n : Node} {r : List ℕ} (h : Holds m n r) where
   pub none-free : word m freeCountAt ≡ 0 → n .free ≡ []
   none-free e = no-frame (n .free) (sym (holds-pieces h .free-count) ∙ e)
 
-  pub some-free : word m freeCountAt ≢ 0 → 1 ≤ length (n .free)
-  some-free d = omega (arith, d, holds-pieces h .free-count)
+  pub some-free : 1 ≤ word m freeCountAt → 1 ≤ length (n .free)
+  some-free l = omega (arith, holds-pieces h .free-count)
 
 -- Whether a page is in a frame.
 
@@ -108,7 +108,7 @@ module _ {g : ℕ} (low : 1 ≤ g) (high : g ≤ groupCount) {n : Node} (c : Wan
       full-ready d = go (n .free) refl ∙ prepared-full is-full
         where
           go : (fs : List Frame) → n .free ≡ fs → n ≡ freed paper01 (n .free) n
-          go [] e = absurd (omega (arith, some-free h d, ap length e))
+          go [] e = absurd (omega (arith, some-free h (omega (arith, d)), ap length e))
           go (f ∷ fs) e = sym (ap (λ (l : List Frame). freed paper01 l n) e)
 
   -- it can be stored then

@@ -53,7 +53,7 @@ module _ {n : Node} (runs : Running n) (q : Request) where
     request-finished e fine same = stepping-finished (user q) e (request-refusal ∙ fine) same
 
     -- accepted, with nothing to settle and no upcall due
-    pub request-quiet : refuseRequest n q ≡ accepted → Quiet (serve paper01 n q .node)
+    pub request-quiet : refuseRequest n q ≡ accepted → Quiet paper01 (serve paper01 n q .node)
         → rep ≡ reportOf (ownReport (serve paper01 n q)) → Holds m (serve paper01 n q .node) r → Stepping m n r (user q) rep
     unfolding act ownReport
     request-quiet e quiet report h = stepping-quiet (user q) (serve paper01 n q) (request-refusal ∙ e) refl quiet h report

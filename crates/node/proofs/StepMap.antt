@@ -27,14 +27,14 @@ module _ {m : List ℕ} {n : Node} {r : List ℕ} (op : Operation) {rep : Report
   -- an accepted one is finished
   pub stepping-finished : (e : Effect) → refusal paper01 n op ≡ accepted → act paper01 n op ≡ e → Finished m e r rep → Stepping m n r op rep
   stepping-finished e in-order same f =
-      let s : step paper01 n op ≡ finish e = step-accepted paper01 n op in-order ∙ ap finish same in
+      let s : step paper01 n op ≡ finish paper01 e = step-accepted paper01 n op in-order ∙ ap (finish paper01) same in
       record {
         report = f .report ∙ ap (λ (t : Stepped). reportOf (t .report)) (sym s);
         holds = subst (λ (t : Stepped). Holds m (t .node) r) (sym s) (f .holds);
       }
 
   -- and where nothing settles and no upcall is due, it is what the operation did
-  pub stepping-quiet : (e : Effect) → refusal paper01 n op ≡ accepted → act paper01 n op ≡ e → Quiet (e .node) → Holds m (e .node) r
+  pub stepping-quiet : (e : Effect) → refusal paper01 n op ≡ accepted → act paper01 n op ≡ e → Quiet paper01 (e .node) → Holds m (e .node) r
       → rep ≡ reportOf (record { answer = accepted; value = e .value; trap = e .trap; upcall = 0; moved = e .moved; sent = e .sent }) → Stepping m n r op rep
   stepping-quiet e in-order same q h same-report =
       stepping-finished e in-order same

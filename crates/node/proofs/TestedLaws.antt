@@ -1,14 +1,14 @@
 -- The tested calls: memory that fails the test is refused and left, and memory that passes it holds the node that is read from it.
 -- Assumes nothing.
 use Rattle.node.specs.declared.message.Part.{Part as Part·rt}
-use Rattle.rules.specs.MemoryTest.{stepMemory, headPart, MemoryStep, emptyPart, isMemory, replaced}
+use Rattle.rules.specs.MemoryTest.{stepMemory, headPart, MemoryStep, emptyPart, isMemory, pageCounts, replaced}
 use Prim.Native.Nat.{ℕ}
 use mathlib.Core.Bool.{false, true}
 use mathlib.Core.List.{List, map}
 use mathlib.Core.Path.{_∙_, _≡_, ap, refl, sym}
 use lib.ListN.{drop}
 use Rattle.rules.specs.Build.{paper01}
-use Rattle.rules.specs.Memory.{nodeAt, size}
+use Rattle.rules.specs.Memory.{broughtAt, nodeAt, outAt, size, word}
 use Rattle.rules.specs.Node.{powerOn}
 use Rattle.rules.specs.Operation.{Operation, notNode, refused}
 use Rattle.rules.specs.Types.{reportOf}
@@ -64,3 +64,9 @@ untested-part m e = rw (e, headPart)
 
 pub tested-part : (m : List ℕ) {p : Part·rt} → isMemory m ≡ true → FirstPart m p → p ≡ partOf (headPart m)
 tested-part m e f = f (nodeAt m) (drop size m) (tested-holds m e) (test-valid m e) ∙ ap partOf (sym (head-tested (tested-holds m e) (test-valid m e)))
+
+-- The counts of pages.
+
+pub tested-counts : (m : List ℕ) → isMemory m ≡ true → pageCounts m ≡ record { out = word m outAt; brought = word m broughtAt }
+unfolding pageCounts
+tested-counts m e = rw (e, pageCounts)

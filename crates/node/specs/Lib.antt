@@ -1,4 +1,5 @@
 pub mod Steps
 pub mod Parts
+pub mod Counts
 pub mod Sending
 pub mod Calls

@@ -5,10 +5,10 @@ use mathlib.Core.List.{List, [], _∷_}
 use mathlib.Core.Path.{_≡_}
 use lib.ListN.{length, getD}
 use Rattle.rules.specs.Build.{paper01}
-use Rattle.rules.specs.Frames.{store}
 use Rattle.rules.specs.Lists.{isEmpty}
 use Rattle.rules.specs.Node.{Message, Node, buffered, line}
 use Rattle.rules.specs.Operation.{Request, Operation, user, disposeExtend, noTrap}
+use Rattle.rules.specs.Paging.{store}
 use Rattle.rules.specs.Settling.{mayStay, settle, drain, upcall, upcallGroup}
 use Rattle.rules.specs.Step.{Effect, finish, step, removed}
 use Rattle.rules.specs.Types.{operationOf, reportOf}
@@ -59,17 +59,17 @@ headOf n = getD (n .queue) 0 blank
 
 -- it moves to the end of its group's buffer
 unfoldable pub movingHead : Node → Node
-movingHead n = dropping 1 (store (headOf n) n)
+movingHead n = dropping 1 (store paper01 (headOf n) n)
 
 -- what settling does
 pub record Settled (m′ : List ℕ) (n : Node) (rest : List ℕ) (moved : ℕ) : Type 0 where
-  pub count : moved ≡ settle n .moved
-  pub holds : Holds m′ (settle n .node) rest
+  pub count : moved ≡ settle paper01 n .moved
+  pub holds : Holds m′ (settle paper01 n .node) rest
 
 -- what a drain does
 pub record Drained (m′ : List ℕ) (n : Node) (rest : List ℕ) (moved : ℕ) : Type 0 where
   pub count : moved ≡ length (n .queue)
-  pub holds : Holds m′ (drain (n .queue) n) rest
+  pub holds : Holds m′ (drain paper01 (n .queue) n) rest
 
 -- settled: the queue's head may stay
 pub record Settles (n : Node) : Type 0 where
@@ -87,8 +87,8 @@ effect n value trap moved = record { node = n; value = value; trap = trap; moved
 
 -- what comes after an operation with this effect
 pub record Finished (m′ : List ℕ) (e : Effect) (rest : List ℕ) (rep : Report·rt) : Type 0 where
-  pub report : rep ≡ reportOf (finish e .report)
-  pub holds : Holds m′ (finish e .node) rest
+  pub report : rep ≡ reportOf (finish paper01 e .report)
+  pub holds : Holds m′ (finish paper01 e .node) rest
 
 -- whatever node in the middle of a step m held, what comes after is that of this effect on it
 abbrev pub Finishes : List ℕ → List ℕ → (Node → Effect) → Report·rt → Type 0

@@ -51,7 +51,7 @@ pub fn tick(m: &mut [u32], k: u32) -> Report
 // The whole queue moves to the buffers, and the timer is 0.
 pub fn timeout(m: &mut [u32]) -> Report
     requires { ⌜ Some (now m) (Sound paper01) ⌝ }
-    ensures { λ rep. ⌜ Finishes (now (m .entry)) (now (m .exit)) (λ n. timedOut (valued 0 n)) rep ⌝ }
+    ensures { λ rep. ⌜ Finishes (now (m .entry)) (now (m .exit)) (λ n. timedOut paper01 (valued 0 n)) rep ⌝ }
 {
     let moved = settling::drain(m);
     m[map::TIMER] = 0;

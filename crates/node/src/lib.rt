@@ -12,9 +12,10 @@ use rules::Operation;
 use rules::Report;
 use validate::is_node;
 ghost use mathlib.Core.Path.{_≡_};
-ghost use Rattle.rules.specs.MemoryTest.{isMemory, stepMemory, headPart, headWords};
+ghost use Rattle.rules.specs.MemoryTest.{isMemory, stepMemory, headPart, headWords, pageCounts};
 ghost use Rattle.rules.specs.Types.{operationOf};
 ghost use Rattle.memory.specs.Answers.{Answers};
+ghost use Rattle.node.specs.Counts.{countsOf};
 ghost use Rattle.node.specs.Parts.{partOf};
 ghost use Rattle.node.specs.Steps.{IsNode, Steps, Requests};
 
@@ -44,6 +45,25 @@ pub fn head_part(memory: &[u32]) -> Part
         return Part { start: 0, len: 0 };
     }
     message::first(memory)
+}
+
+// Pages sent out and pages brought in so far.
+pub struct PageCounts {
+    pub out: u32,
+    pub brought: u32,
+}
+
+// These counts, zeros if the memory is no node.
+pub fn page_counts(memory: &[u32]) -> PageCounts
+    ensures { λ c. ⌜ c ≡ countsOf (pageCounts (now (memory .entry))) ⌝ }
+{
+    if !is_node(memory) {
+        return PageCounts { out: 0, brought: 0 };
+    }
+    PageCounts {
+        out: memory[map::OUT],
+        brought: memory[map::BROUGHT],
+    }
 }
 
 // A step on memory of which it is known whether it is a node.

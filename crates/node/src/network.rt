@@ -81,10 +81,10 @@ pub fn refusal(m: &[u32], g: u32, words: &[u32]) -> u32
     if m[map::QUEUED] >= memory::Node::PLACES {
         return Report::QUEUE_FULL;
     }
-    if m[map::FREE_COUNT] > m[map::QUEUED] {
+    if m[map::FREE_COUNT] + m[map::SWAP_COUNT] > m[map::QUEUED] {
         return 0;
     }
-    if pledges(m, g) > memory::Node::FRAMES {
+    if pledges(m, g) > memory::Node::FRAMES + memory::Node::SWAP {
         return Report::NO_FRAMES;
     }
     0

@@ -1,7 +1,8 @@
-// What comes after an accepted operation: settling and the upcall; and the drain at a timeout.
+// What comes after an accepted operation: settling, the running group's first page in a frame, and the upcall; and the drain at a timeout.
 use memory::buffer;
 use memory::group;
 use memory::map;
+use memory::paging;
 use memory::queue;
 use memory::words;
 use rules::Report;
@@ -37,7 +38,7 @@ pub fn move_head(m: &mut [u32])
     let g = m[map::QUEUE_AT];
     let len = m[map::QUEUE_AT + 1];
     let words = words::eight(m, map::QUEUE_AT + 2);
-    buffer::append(m, g, len, words);
+    buffer::store(m, g, len, words);
     queue::drop_head(m);
 }
 
@@ -102,13 +103,14 @@ pub fn upcall(m: &mut [u32]) -> u32
     g
 }
 
-// Settling and the upcall, and the report of the operation before them.
+// Settling, the running group's first page brought in, and the upcall; and the report of the operation before them.
 pub fn finish(m: &mut [u32], value: u32, trap: u32, moved: u32) -> Report
     requires { ⌜ Some (now m) (Sound paper01) ⌝ }
     requires { ⌜ moved ≤ 16 ⌝ }
     ensures { λ rep. ⌜ Finishes (now (m .entry)) (now (m .exit)) (λ n. effect n value trap moved) rep ⌝ }
 {
     let settled = settle(m);
+    paging::runner_resident(m);
     let up = upcall(m);
     Report::accepted(value, trap, up, moved + settled)
 }

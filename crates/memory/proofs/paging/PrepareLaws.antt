@@ -115,13 +115,14 @@ module _ {g : ℕ} (low : 1 ≤ g) (high : g ≤ groupCount) {n : Node} (c : Wan
   pub prepared-storable : Storable g (prepared paper01 g n)
   prepared-storable =
       let sound = prepared-sound (c .sound) g low high in
-      let same = prepared-repaged paper01 g n .groups g in
-      (fits (group-good sound g low high .buffer),
-      λ full.
-          record {
-            some = prepared-left (c .sound) g low high (c .queued) (rw (same .used, same .count, same .places) at full);
-            order = omega (arith, line-lengths sound);
-          })
+      let same = prepared-repaged paper01 g n .groups g in (
+        fits (group-good sound g low high .buffer),
+        λ full.
+            record {
+              some = prepared-left (c .sound) g low high (c .queued) (rw (same .used, same .count, same .places) at full);
+              order = omega (arith, line-lengths sound);
+            },
+      )
 
 -- The running group's first page.
 

@@ -73,21 +73,22 @@ module _ {n : Node} (v : Valid paper01 n) (k : ℕ) where
   tick-counted some below = ticks-counted paper01 k n (length-some (n .queue) some) below
 
   -- else there is a timeout
-  pub tick-timeout : 1 ≤ length (n .queue) → paper01 .timeout ≤ n .timer + k → act paper01 n (tick k) ≡ timedOut (valued 0 n)
+  pub tick-timeout : 1 ≤ length (n .queue) → paper01 .timeout ≤ n .timer + k → act paper01 n (tick k) ≡ timedOut paper01 (valued 0 n)
   unfolding act
   tick-timeout some reached = ticks-timeout paper01 k n (length-some (n .queue) some) (v .timer-bound) reached
 
 -- a timer that goes on makes nothing due
-pub counted-quiet : {n : Node} → Valid paper01 n → 1 ≤ length (n .queue) → (t : ℕ) → Quiet (withTimer t n)
+pub counted-quiet : {n : Node} → Valid paper01 n → 1 ≤ length (n .queue) → (t : ℕ) → Quiet paper01 (withTimer t n)
 unfolding withTimer mayStay buffered groupOf calls line inBuffer inQueue
 counted-quiet {n} v some t =
     record {
       head = v .head-stays;
       idle = λ e. absurd (let l = ap length e in omega arith);
+      resident = v .runner-resident;
       uncalled = valid-quiet v .uncalled;
     }
 
 -- a timeout leaves a sound node
-pub timeout-sound : {n : Node} → Sound paper01 n → Sound paper01 (withTimer 0 (drain (n .queue) n))
+pub timeout-sound : {n : Node} → Sound paper01 n → Sound paper01 (withTimer 0 (drain paper01 (n .queue) n))
 unfolding withQueue
 timeout-sound {n} s = sound-timer (drain-sound (n .queue) n s) 0 (omega arith)

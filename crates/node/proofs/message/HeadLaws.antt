@@ -11,7 +11,7 @@ use lib.Dec.{eqb}
 use lib.ListN.{length, take, drop, getD, length-drop}
 use lib.Seq.{getD-drop, getD-take, length-take-le}
 use borrow.Author.Tests.{eq-eqb, lt-ltb, le-ltb, ne-eqb}
-use Rattle.rules.specs.Build.{paper01, wordLimit}
+use Rattle.rules.specs.Build.{paper01, pageCount, wordLimit}
 use Rattle.rules.specs.Lists.{isEmpty}
 use Rattle.rules.specs.Memory.{bufferAt, groupAddress, listOffset, nodeAt, placeAt, usedOffset, word, placeWords, size}
 use Rattle.rules.specs.MemoryTest.{Part, bufferPart, emptyPart, headPart, headWords, isMemory, queuePart, runnerPart}
@@ -99,8 +99,8 @@ module _ {m : List ℕ} {n : Node} {r : List ℕ} (h : Holds m n r) (v : Valid p
       read-some : 1 ≤ groupOf (nodeAt m) (n .running) .buffer .count
       read-some = rw held-node some
 
-      -- the first frame of its list, and the used-up places of that
-      pub first-frame : (word m (groupAddress (n .running) + listOffset) < paper01 .frames) × (word m (groupAddress (n .running) + usedOffset) < paper01 .perFrame)
+      -- the first page of its list, and the used-up places of that
+      pub first-frame : (word m (groupAddress (n .running) + listOffset) < pageCount paper01) × (word m (groupAddress (n .running) + usedOffset) < paper01 .perFrame)
       unfolding bufferAt
       first-frame =
           (first-bounded m held-test (n .running) low (v .running-bound) read-some, good-buffer m held-test (n .running) low (v .running-bound) read-some .used-bound)

@@ -8,7 +8,7 @@ use mathlib.Core.Path.{_≡_, refl, sym, ap, _∙_}
 use lib.Dec.{eqb, leb, ltb}
 use lib.ListN.{length, length-append}
 use borrow.Author.Tests.{eq-eqb, le-leb, le-ltb, lt-leb, lt-ltb, ne-eqb}
-use Rattle.rules.specs.Build.{Build, paper01, groupCount, wordLimit}
+use Rattle.rules.specs.Build.{Build, paper01, pageCount, groupCount, wordLimit}
 use Rattle.rules.specs.Frames.{pledges}
 use Rattle.rules.specs.Lists.{isEmpty}
 use Rattle.rules.specs.Node.{Message, Node, withQueue}
@@ -43,7 +43,7 @@ module _ (b : Build) (n : Node) (g : ℕ) (ws : List ℕ) where
 
   -- 6, or accepted
   abbrev by-pledges : ℕ
-  by-pledges = cond (ltb (b .frames) (pledges b (queued message n))) noFrames accepted
+  by-pledges = cond (ltb (pageCount b) (pledges b (queued message n))) noFrames accepted
 
   -- 5, or what comes after
   abbrev by-queue : ℕ
@@ -96,13 +96,13 @@ module _ (b : Build) (n : Node) (g : ℕ) (ws : List ℕ) where
       queue-room : refusal b n (arrive g ws) ≡ by-pledges
       queue-room = good-words ∙ ap (λ (t : Bool). cond t queueFull by-pledges) (lt-leb (b .places) (length (n .queue)) room)
 
-      -- "6: with this message the pledges would sum to above 32."
-      pub above-frames : b .frames < pledges b (queued message n) → refusal b n (arrive g ws) ≡ noFrames
-      above-frames h = queue-room ∙ ap (λ (t : Bool). cond t noFrames accepted) (lt-ltb (b .frames) (pledges b (queued message n)) h)
+      -- "6: with this message the pledges would sum to above 32", which now reads 96
+      pub above-pages : pageCount b < pledges b (queued message n) → refusal b n (arrive g ws) ≡ noFrames
+      above-pages h = queue-room ∙ ap (λ (t : Bool). cond t noFrames accepted) (lt-ltb (pageCount b) (pledges b (queued message n)) h)
 
       -- accepted
-      pub within-frames : pledges b (queued message n) ≤ b .frames → refusal b n (arrive g ws) ≡ accepted
-      within-frames h = queue-room ∙ ap (λ (t : Bool). cond t noFrames accepted) (le-ltb (b .frames) (pledges b (queued message n)) h)
+      pub within-pages : pledges b (queued message n) ≤ pageCount b → refusal b n (arrive g ws) ≡ accepted
+      within-pages h = queue-room ∙ ap (λ (t : Bool). cond t noFrames accepted) (le-ltb (pageCount b) (pledges b (queued message n)) h)
 
 -- an accepted arrival: the message is good, the queue has room for it, and the node with it is sound
 pub record Arriving (b : Build) (n : Node) (x : Message) : Type 0 where

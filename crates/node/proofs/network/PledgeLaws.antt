@@ -1,6 +1,6 @@
--- Pledges with one message more, and the law of early acceptance. A group's messages in the queue add no more frames to those it holds
--- than they are many; the queue's messages are each of one group; the frames that the groups hold and the free ones are all frames. So
--- where more frames are free than messages are queued, no arrival brings the pledges above the frames. Assumes nothing.
+-- Pledges with one message more, and the law of early acceptance. A group's messages in the queue add no more pages to those it holds
+-- than they are many; the queue's messages are each of one group; the pages that the groups hold and the free ones are all pages. So
+-- where more pages are free than messages are queued, no arrival brings the pledges above the pages. Assumes nothing.
 use Prim.Native.Nat.{ℕ, suc, _+_, _≤_, _<_}
 use native.Mathlib.Decide.{ℕ-discrete}
 use native.Mathlib.Nat.{le-mul-of-pos-right, lt-of-mul-lt-mul-right}
@@ -11,12 +11,12 @@ use mathlib.Core.Logic.{_≢_}
 use mathlib.Core.Path.{_≡_, refl, sym, ap, _∙_}
 use lib.ListN.{length, getD, length-append, length-map}
 use borrow.Author.Tests.{eq-eqb, ne-eqb}
-use Rattle.rules.specs.Build.{Build, groupCount}
+use Rattle.rules.specs.Build.{Build, groupCount, pageCount}
 use Rattle.rules.specs.Frames.{ceilDiv, pledge, pledges}
 use Rattle.rules.specs.Lists.{Every, filter, concatMap, sum, upFrom}
 use Rattle.rules.specs.Node.{Group, Message, Node, emptyGroup, groupOf, inQueue, isOf, withQueue}
 use Rattle.rules.specs.Refusal.{queued}
-use Rattle.rules.specs.Valid.{GoodMessage, frameList, frameNumber, frameNumbers}
+use Rattle.rules.specs.Valid.{GoodMessage, frameList, frameNumber, frameNumbers, idle}
 use Rattle.rules.proofs.Steps.EveryLaws.{every-append}
 use Rattle.rules.proofs.Steps.FrameLaws.{ceil-enough, ceil-least}
 use Rattle.rules.proofs.Steps.ListLaws.{count-weight, count-within, filter-append, filter-fail, filter-pass, hit, length-concatMap, map-upFrom, sum-le}
@@ -80,9 +80,9 @@ queue-by-group (x ∷ q) good =
       queue-by-group q (good .1),
     )
 
--- Pledges and frames.
+-- Pledges and pages.
 
--- k messages more want at most k frames more
+-- k messages more want at most k pages more
 ceil-more : (a k d : ℕ) → 1 ≤ d → ceilDiv (a + k) d ≤ ceilDiv a d + k
 ceil-more a k d some =
     omega (
@@ -91,11 +91,11 @@ ceil-more a k d some =
           (omega (arith, ceil-least (a + k) d some, ceil-enough a d some, le-mul-of-pos-right {m = d} k some)),
     )
 
--- the frames that group g holds
+-- the pages that group g holds
 abbrev pub held : Node → ℕ → ℕ
 held n g = length (groupOf n g .buffer .frames)
 
--- a pledge is at most the frames held and the messages queued
+-- a pledge is at most the pages held and the messages queued
 pub pledge-held : {b : Build} {n : Node} → Sound b n → (q : List Message) (g : ℕ) → 1 ≤ g → g ≤ groupCount
     → pledge b (withQueue q n) g ≤ held n g + length (filter (isOf g) q)
 unfolding pledge withQueue inQueue groupOf
@@ -103,7 +103,7 @@ pledge-held {b} {n} s q g low high =
     let good = group-good s g low high .buffer in
     omega (arith, good .list-length, ceil-more (filled n g) (length (filter (isOf g) q)) (b .perFrame) (omega (arith, good .used-bound)))
 
--- the frames of all groups, group by group
+-- the pages of all groups, group by group
 held-all : {b : Build} {n : Node} → Sound b n → sum (map (held n) (upFrom 1 groupCount)) ≡ length (concatMap frameList (n .groups))
 unfolding groupOf frameList
 held-all {b} {n} s =
@@ -115,7 +115,7 @@ held-all {b} {n} s =
     ∙ ap sum (map-map (λ G. length (frameList G)) (groupOf n) (upFrom 1 (length (n .groups))))
     ∙ ap (λ (k : ℕ). sum (map (held n) (upFrom 1 k))) (s .group-count))
 
--- the pledges are at most the frames held and the messages queued
+-- the pledges are at most the pages held and the messages queued
 pledges-held : {b : Build} {n : Node} → Sound b n → (q : List Message) → Every GoodMessage q
     → pledges b (withQueue q n) ≤ length (concatMap frameList (n .groups)) + length q
 unfolding pledges
@@ -129,16 +129,17 @@ pledges-held {b} {n} s q good =
       queue-by-group q good,
     )
 
--- early acceptance: where more frames are free than messages queued, the pledges with one message more are within the frames
-pub early : {b : Build} {n : Node} → Sound b n → (x : Message) → GoodMessage x → length (n .queue) < length (n .free)
-    → pledges b (queued x n) ≤ b .frames
-unfolding queued frameNumbers
+-- early acceptance: where more frames and swap pages are free than messages queued, the pledges with one message more are within the pages
+pub early : {b : Build} {n : Node} → Sound b n → (x : Message) → GoodMessage x → length (n .queue) < length (n .free) + length (n .paging .swap)
+    → pledges b (queued x n) ≤ pageCount b
+unfolding queued frameNumbers idle
 early {b} {n} s x good free =
     omega (
       arith,
       pledges-held s (n .queue ++ (x ∷ [])) (every-append GoodMessage (n .queue) (x ∷ []) .1 (s .queue-good, (good, tt))),
       length-append (n .queue) (x ∷ []),
-      length-append (map frameNumber (n .free)) (concatMap frameList (n .groups)),
-      length-map (n .free) frameNumber,
+      length-append (map frameNumber (idle n)) (concatMap frameList (n .groups)),
+      length-map (idle n) frameNumber,
+      length-append (n .free) (n .paging .swap),
       s .frames-all,
     )

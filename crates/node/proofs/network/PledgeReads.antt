@@ -11,7 +11,7 @@ use lib.Seq.{take-all, take-suc}
 use Rattle.rules.specs.Build.{Build, groupCount, paper01}
 use Rattle.rules.specs.Frames.{ceilDiv, pledge, pledges}
 use Rattle.rules.specs.Lists.{filter, upFrom}
-use Rattle.rules.specs.Memory.{countOffset, groupAddress, queueAt, queueStride, queuedAt, size, usedOffset, word}
+use Rattle.rules.specs.Memory.{countOffset, freeCountAt, groupAddress, queueAt, queueStride, queuedAt, size, swapCountAt, usedOffset, word}
 use Rattle.rules.specs.Node.{Message, Node, groupOf, inQueue, isOf, withQueue}
 use Rattle.rules.specs.Refusal.{queued}
 use Rattle.rules.proofs.Steps.ListLaws.{weight, weight-append}
@@ -19,6 +19,7 @@ use Rattle.rules.specs.Sound.{Sound}
 use Rattle.memory.specs.Holds.{Holds, blank}
 use Rattle.memory.proofs.CountLaws.{lists-short}
 use Rattle.memory.proofs.group.GroupLaws.{group-words}
+use Rattle.memory.proofs.LinePieces.{paging-words}
 use Rattle.memory.proofs.PieceLaws.{holds-pieces}
 use Rattle.memory.proofs.PowerOnLaws.{upFrom-more}
 use Rattle.memory.proofs.queue.QueueLaws.{message-read, queue-count}
@@ -58,6 +59,11 @@ pub record Places (m : List ℕ) : Type 0 where
 pub places : {m : List ℕ} {n : Node} {r : List ℕ} → Holds m n r → Places m
 places h = record { long = holds-pieces h .long; few = omega (arith, queue-count h) }
 
+-- the free frames and the free swap pages are counted
+pub free-counts : {m : List ℕ} {n : Node} {r : List ℕ} → Holds m n r
+    → (word m freeCountAt ≡ length (n .free)) × (word m swapCountAt ≡ length (n .paging .swap))
+free-counts h = (holds-pieces h .free-count, paging-words (holds-pieces h) (h .mapped .swap-short) (h .mapped .entered-short) .swap-count)
+
 -- Pledges with one message more.
 
 module _ {m : List ℕ} {n : Node} {r : List ℕ} (h : Holds m n r) (g : ℕ) where
@@ -75,8 +81,8 @@ module _ {m : List ℕ} {n : Node} {r : List ℕ} (h : Holds m n r) (g : ℕ) wh
         let words = group-words (holds-pieces h) (h .mapped) g low high in
         ap (λ (a : ℕ). ceilDiv a (paper01 .perFrame)) (omega (arith, words .used, words .count))
 
-    -- it is at most the 32 frames and 17 messages
-    pub pledge-few : Sound paper01 n → pledge paper01 (queued x n) g ≤ 49
+    -- it is at most the 96 pages and 17 messages
+    pub pledge-few : Sound paper01 n → pledge paper01 (queued x n) g ≤ 113
     unfolding queued
     pledge-few s =
         omega (

@@ -20,7 +20,8 @@ use Rattle.rules.proofs.Steps.FrameLaws.{held}
 use Rattle.rules.proofs.Steps.LineLaws.{direct-head, removed-running, without-running}
 use Rattle.rules.proofs.Map.MapParts.{GroupStands}
 use Rattle.rules.proofs.Steps.NodeLaws.{group-good}
-use Rattle.rules.proofs.Steps.SoundLaws.{valid-sound}
+use Rattle.rules.proofs.Steps.PagingLaws.{first-entered}
+use Rattle.rules.proofs.Steps.SoundLaws.{line-lengths, valid-sound}
 use Rattle.memory.specs.Holds.{Holds, Queued, Waits, dropping, flagging, removing}
 use Rattle.memory.specs.Writes.{InGroup, groupRead}
 use Rattle.memory.proofs.group.GroupLaws.{group-words}
@@ -110,13 +111,20 @@ pub removed-direct : {n : Node} → Valid paper01 n → buffered n (n .running) 
 unfolding removed dropping
 removed-direct v e = rw (e, without-running v)
 
--- a buffered group has a message to remove
+-- a buffered group has a message to remove, and its first page is in a frame
 pub buffered-waits : {n : Node} → Running n → buffered n (n .running) ≡ true → Waits (n .running) n
 unfolding buffered ceilDiv
 buffered-waits {n} run e =
     let good = group-good (valid-sound (run .valid)) (n .running) (run .some) (run .valid .running-bound) .buffer in
     let some = ltb-true 0 (groupOf n (n .running) .buffer .count) e in
-    record { some = some; used = good .used-bound; held = let l = good .list-length in omega arith }
+    let held : 1 ≤ length (groupOf n (n .running) .buffer .frames) = omega (arith, good .list-length, good .used-bound) in
+    record {
+      some = some;
+      used = good .used-bound;
+      held = held;
+      entered = first-entered (valid-sound (run .valid)) (n .running) (run .some) (run .valid .running-bound) held (run .valid .runner-resident (run .some));
+      order = omega (arith, line-lengths (valid-sound (run .valid)));
+    }
 
 -- and a direct one with a line the queue's head
 pub direct-queued : {n : Node} → Valid paper01 n → buffered n (n .running) ≡ false → isEmpty (line n (n .running)) ≡ false → Queued 1 n

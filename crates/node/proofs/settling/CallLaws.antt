@@ -12,12 +12,15 @@ use Rattle.rules.specs.Build.{groupCount, paper01}
 use Rattle.rules.specs.Lists.{isEmpty}
 use Rattle.rules.specs.Memory.{atomicOffset, countOffset, flagWord, groupAddress, queuedAt, word}
 use Rattle.rules.specs.Node.{line, Group, Message, Node, buffered, groupOf, inBuffer, inQueue, isOf, messageOf, waiting}
+use Rattle.rules.specs.Paging.{runnerResident}
 use Rattle.rules.specs.Settling.{settle, upcall, calls, upcallGroup}
 use Rattle.rules.proofs.Steps.FrameLaws.{fits}
 use Rattle.rules.proofs.Steps.LineLaws.{stays, direct-line}
 use Rattle.rules.proofs.Steps.ListLaws.{filter-pass, length-some, some-append}
 use Rattle.rules.proofs.Steps.NodeLaws.{group-good, is-of}
+use Rattle.rules.proofs.Steps.PagingLaws.{runner-repaged, runner-sound}
 use Rattle.rules.proofs.Steps.SettlingLaws.{settle-head, settle-sound}
+use Rattle.rules.proofs.Steps.StepLaws.{repaged-stays}
 use Rattle.rules.specs.Sound.{Sound}
 use Rattle.memory.specs.Holds.{Holds, flagging}
 use Rattle.memory.proofs.group.GroupLaws.{group-words}
@@ -139,6 +142,12 @@ module _ {m : List ℕ} {n : Node} {r : List ℕ} (h : Holds m n r) (s : Settles
       called-queued none more =
           called (line-queued s (sym count-read ∙ none) (let c = holds-pieces h .queued in omega arith))
 
--- Settling leaves a node for which an upcall can be told.
-pub settled-settles : {n : Node} → Sound paper01 n → Settles (settle n .node)
-settled-settles {n} s = record { sound = settle-sound s; head = settle-head n }
+-- Settling leaves a node for which an upcall can be told, wherever its pages are.
+pub settled-settles : {n : Node} → Sound paper01 n → Settles (runnerResident paper01 (settle paper01 n .node))
+settled-settles {n} s =
+    let k = settle paper01 n .node in
+    let same = runner-repaged paper01 k in
+    record {
+      sound = runner-sound (settle-sound s);
+      head = λ x q e. repaged-stays same x ∙ settle-head paper01 n x q (sym (same .queue) ∙ e);
+    }

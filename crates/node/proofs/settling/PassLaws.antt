@@ -27,7 +27,7 @@ pub record Passing (m : List ℕ) (n : Node) (r : List ℕ) (i : ℕ) : Type 0 w
   pub node : Node
   pub holds : Holds m node r
   pub sound : Sound paper01 node
-  pub passed : pass (n .queue) n ≡ more i (pass (node .queue) node)
+  pub passed : pass paper01 (n .queue) n ≡ more i (pass paper01 (node .queue) node)
   pub queued : i + length (node .queue) ≡ length (n .queue)
 
 -- none has
@@ -37,7 +37,7 @@ passing-start {n = n} h s =
       node = n;
       holds = h;
       sound = s;
-      passed = λ i. record { node = pass (n .queue) n .node; moved = sym (zero-add (pass (n .queue) n .moved)) i };
+      passed = λ i. record { node = pass paper01 (n .queue) n .node; moved = sym (zero-add (pass paper01 (n .queue) n .moved)) i };
       queued = omega arith;
     }
 
@@ -45,7 +45,7 @@ passing-start {n = n} h s =
 pub record Passed (m : List ℕ) (n : Node) (r : List ℕ) (i : ℕ) : Type 0 where
   pub node : Node
   pub holds : Holds m node r
-  pub passed : pass (n .queue) n ≡ record { node = node; moved = i }
+  pub passed : pass paper01 (n .queue) n ≡ record { node = node; moved = i }
 
 module _ {m : List ℕ} {n : Node} {r : List ℕ} {i : ℕ} (p : Passing m n r i) where
   -- the queue's count is read
@@ -84,7 +84,7 @@ module _ {m : List ℕ} {n : Node} {r : List ℕ} {i : ℕ} (p : Passing m n r i
     passing-on moves becomes =
         let k = p .node in
         let h = passing-headed in
-        let s = pass (movingHead k .queue) (movingHead k) in
+        let s = pass paper01 (movingHead k .queue) (movingHead k) in
         record {
           node = movingHead k;
           holds = becomes k r (p .holds) h;
@@ -120,7 +120,7 @@ pub record Draining (m : List ℕ) (n : Node) (r : List ℕ) : Type 0 where
   pub node : Node
   pub holds : Holds m node r
   pub sound : Sound paper01 node
-  pub drained : drain (n .queue) n ≡ drain (node .queue) node
+  pub drained : drain paper01 (n .queue) n ≡ drain paper01 (node .queue) node
 
 pub draining-start : {m : List ℕ} {n : Node} {r : List ℕ} → Holds m n r → Sound paper01 n → Draining m n r
 draining-start {n = n} h s = record { node = n; holds = h; sound = s; drained = refl }
@@ -137,7 +137,7 @@ module _ {m : List ℕ} {n : Node} {r : List ℕ} (d : Draining m n r) where
       let h = draining-headed some in
       record { node = movingHead (d .node); holds = becomes (d .node) r (d .holds) h; sound = moving-sound h; drained = d .drained ∙ drain-on h }
 
-  pub draining-ends : word m queuedAt ≡ 0 → Holds m (drain (n .queue) n) r
+  pub draining-ends : word m queuedAt ≡ 0 → Holds m (drain paper01 (n .queue) n) r
   draining-ends none =
       subst (λ (k : Node). Holds m k r) (sym (d .drained ∙ drain-ends (d .node) (sym draining-count ∙ none))) (d .holds)
 

@@ -191,8 +191,10 @@ is-node m ps es long counts flags unused pages once frames ordered others =
   where
     stand : allOnce (pageCount paper01) (frameNumbers (nodeBy m)) ≡ true
     stand = rw (same-words (frameNumbers (nodeBy m)) ps pages) once
+
     order : allOnce (paper01 .frames) (frameOrder (nodeBy m)) ≡ true
     order = rw (same-words (frameOrder (nodeBy m)) es frames) ordered
+
     holds : isNode paper01 (nodeBy m) ≡ true
     holds = pass-at (nodeTests paper01) (nodeBy m) 8 stand (pass-at (lacking 8 (nodeTests paper01)) (nodeBy m) 10 order others)
 

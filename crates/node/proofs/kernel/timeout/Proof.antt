@@ -22,7 +22,7 @@ use Rattle.node.proofs.kernel.timeout.Statement.{statement}
 use Rattle.node.proofs.kernel.timeout.Tie as tie
 
 -- drained, and the timer set
-drained : (c : tie.After-drain) (n : Node) (r : List ℕ) → Holds (c .before .before .before .args .m .now) n r → Sound paper01 n → Holds (set (c .drain .last .0) timerAt 0) (withTimer 0 (drain (n .queue) n)) r
+drained : (c : tie.After-drain) (n : Node) (r : List ℕ) → Holds (c .before .before .before .args .m .now) n r → Sound paper01 n → Holds (set (c .drain .last .0) timerAt 0) (withTimer 0 (drain paper01 (n .queue) n)) r
 drained c n r h s =
     let d = c .drain .ensures n r h s .holds in
     timer-held d 0 (wrote-set (c .drain .last .0) timerAt 0 (let l = holds-pieces d .long in omega arith))
@@ -48,7 +48,7 @@ unfolding valued timedOut
 returns c n r h s =
     let d = c .before .before .before .before .before .before .drain .ensures n r h s in
     let f = c .before .before .finish in
-    subst (λ (k : ℕ). Finished (f .last .0) (effect (withTimer 0 (drain (n .queue) n)) 0 3 k) r (f .result)) (d .count ∙ sym (zero-add (length (n .queue))))
+    subst (λ (k : ℕ). Finished (f .last .0) (effect (withTimer 0 (drain paper01 (n .queue) n)) 0 3 k) r (f .result)) (d .count ∙ sym (zero-add (length (n .queue))))
     (f .ensures _ r (drained (c .before .before .before .before .before .before) n r h s) (timeout-sound s))
 
 pub timeout-spec : {M : Type 1} → statement M

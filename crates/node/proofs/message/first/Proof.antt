@@ -6,7 +6,7 @@ use mathlib.Core.List.{List}
 use mathlib.Core.Path.{_∙_, _≡_, ap, sym}
 use lib.ListN.{getD, length}
 use borrow.Author.Needs.{needs}
-use Rattle.rules.specs.Build.{paper01}
+use Rattle.rules.specs.Build.{paper01, pageCount}
 use Rattle.rules.specs.Memory.{countOffset, frameAddress, groupAddress, groupStride, size, word}
 use Rattle.rules.specs.MemoryTest.{bufferPart, firstPlace, queuePart}
 use Rattle.rules.specs.Node.{Node, groupOf}
@@ -38,7 +38,7 @@ in-group c k l =
     record { long = holds-pieces (p .holds) .long; low = omega (arith, c .if1 .left); high = omega arith; inside = l }
 
 -- the frame and the place in it
-first-there : (c : tie.After-group-word3) → (c .before .group-word2 .result < paper01 .frames) × (c .group-word3 .result < paper01 .perFrame)
+first-there : (c : tie.After-group-word3) → (c .before .group-word2 .result < pageCount paper01) × (c .group-word3 .result < paper01 .perFrame)
 first-there c =
     let p = c .before .before .before .before .before .before .before .pre in
     let e = runner (p .holds) in

@@ -7,6 +7,7 @@ use mathlib.Core.Path.{sym, ap, _∙_}
 use borrow.Author.Needs.{needs}
 use Rattle.rules.specs.Build.{paper01}
 use Rattle.rules.specs.Frames.{ceilDiv}
+use Rattle.rules.specs.Memory.{groupStride}
 use Rattle.rules.proofs.Steps.FrameLaws.{fits}
 use Rattle.rules.proofs.Steps.NodeLaws.{group-good}
 use Rattle.memory.specs.Writes.{InGroup}
@@ -22,7 +23,7 @@ facts c =
     let g = c .args .i in
     ends (p .holds) g (c .pre .0 .0) (c .pre .0 .1) (fits (group-good (p .fact) g (c .pre .0 .0) (c .pre .0 .1) .buffer))
 
-in-group : (c : tie.Start) (k : ℕ) → k < 46 → InGroup (c .args .m .now) (c .args .i) k
+in-group : (c : tie.Start) (k : ℕ) → k < groupStride → InGroup (c .args .m .now) (c .args .i) k
 in-group c k h = record { long = facts c .long; low = c .pre .0 .0; high = c .pre .0 .1; inside = h }
 
 -- what is counted in the queue is small
@@ -30,7 +31,7 @@ few : (c : tie.After-queued-of) → c .queued-of .result ≤ 16
 few c = let p = c .before .before .before .before .pre .1 in omega (arith, c .queued-of .ensures (p .node) (p .rest) (p .holds), queue-few (p .holds) (c .before .before .before .before .args .i))
 
 -- and so is all that waits, where the arms meet
-small : (c : tie.Joined1) → c .before .before .before .group-word .result + c .before .before .group-word2 .result + c .if1 .k ≤ 273
+small : (c : tie.Joined1) → c .before .before .before .group-word .result + c .before .before .group-word2 .result + c .if1 .k ≤ 785
 small c =
     let f = facts (c .before .before .before .before .before) in
     let q = few (c .before) in

@@ -17,14 +17,14 @@ use Rattle.node.proofs.network.pledges.Tie as tie
 abbrev Inv-loop : tie.InvT-loop
 Inv-loop m g sum₀ i₀ sum i =
     (i ≤ 8)
-    × ((sum ≤ 49 * i)
+    × ((sum ≤ 113 * i)
     × ((n : Node) (r : List ℕ) → Holds m n r → (x : Message) → x .group ≡ g → sum ≡ weight (pledge paper01 (queued x n)) (upFrom 1 i)))
 
 abbrev μ-loop : tie.MeasureT-loop
 μ-loop m g sum₀ i₀ sum i = 8 - i
 
 -- a pledge is small
-few : (c : tie.After-pledge-of Inv-loop μ-loop) → c .pledge-of .result ≤ 49
+few : (c : tie.After-pledge-of Inv-loop μ-loop) → c .pledge-of .result ≤ 113
 few c =
     let p = c .before .before .before .before .pre in
     let x : Message = record { group = c .before .before .before .before .args .g; words = [] } in

@@ -1,7 +1,7 @@
 -- `node::network::refusal` meets its contract: it asks in the paper's order, and what it reads is what the definition asks of. Where more
--- frames are free than messages queued, the pledges are within the frames by the law of early acceptance, so they are not summed. Assumes
--- nothing.
-use Prim.Native.Nat.{ℕ, _≤_, _<_}
+-- frames and swap pages are free than messages queued, the pledges are within the pages by the law of early acceptance, so they are not
+-- summed. Assumes nothing.
+use Prim.Native.Nat.{ℕ, _+_, _≤_, _<_}
 use native.Mathlib.Omega.{arith}
 use mathlib.Core.List.{List}
 use mathlib.Core.Path.{refl, sym}
@@ -15,9 +15,9 @@ use Rattle.rules.proofs.Steps.SoundLaws.{valid-sound}
 use Rattle.memory.specs.Holds.{Holds}
 use Rattle.memory.proofs.PieceLaws.{holds-pieces}
 use Rattle.memory.proofs.queue.QueueLaws.{queue-count}
-use Rattle.node.proofs.network.ArriveLaws.{above-frames, full-queue, high-group, many-words, no-group, no-words, within-frames}
+use Rattle.node.proofs.network.ArriveLaws.{above-pages, full-queue, high-group, many-words, no-group, no-words, within-pages}
 use Rattle.node.proofs.network.PledgeLaws.{early}
-use Rattle.node.proofs.network.PledgeReads.{places}
+use Rattle.node.proofs.network.PledgeReads.{free-counts, places}
 use Rattle.node.proofs.network.refusal.Statement.{statement}
 use Rattle.node.proofs.network.refusal.Tie as tie
 
@@ -77,30 +77,41 @@ shared-slice-read-if6 c = omega (arith, long (c .before .before .before .before 
 shared-slice-read-if6-2 : tie.Need-shared-slice-read-if6-2
 shared-slice-read-if6-2 c = omega (arith, long (c .before .before .before .before .before .before .before .before .before .before))
 
+-- the free frames and swap pages are few
+add-if6 : tie.Need-add-if6
+unfolding word
+add-if6 c = let p = c .before .before .before .before .before .before .before .before .before .before .pre in omega (arith, free-counts (p .holds), p .holds .mapped .free-short, p .holds .mapped .swap-short)
+
+shared-slice-read-if6-3 : tie.Need-shared-slice-read-if6-3
+shared-slice-read-if6-3 c = omega (arith, long (c .before .before .before .before .before .before .before .before .before .before .before))
+
 returns-6 : tie.Need-returns-6
 unfolding word
 returns-6 c n r h v =
-    let s = c .before .before .before .before .before .before .before .before .before .before .before .args in
-    let x = good (c .before .before .before .before .before) in
-    let free : length (n .queue) < length (n .free) = omega (arith, queue-count h, holds-pieces h .free-count, c .if6 .taken) in
-    sym (within-frames paper01 n (s .g) (s .words .now) x (room (c .before .before .before) n r h) (early (valid-sound v) (message (c .before .before .before .before .before .before .before .before .before .before .before)) x free))
+    let s = c .before .before .before .before .before .before .before .before .before .before .before .before .args in
+    let x = good (c .before .before .before .before .before .before) in
+    let free : length (n .queue) < length (n .free) + length (n .paging .swap) = omega (arith, queue-count h, free-counts h, c .if6 .taken) in
+    sym (within-pages paper01 n (s .g) (s .words .now) x (room (c .before .before .before .before) n r h) (early (valid-sound v) (message (c .before .before .before .before .before .before .before .before .before .before .before .before)) x free))
 
 pledges-requires : tie.Need-pledges-requires
 pledges-requires c κs = search needs
 
+add-if7 : tie.Need-add-if7
+add-if7 c = search needs
+
 returns-7 : tie.Need-returns-7
 returns-7 c n r h v =
-    let s = c .before .before .before .before .before .before .before .before .before .before .before .before .before .args in
-    let total = c .before .pledges .ensures n r h (message (c .before .before .before .before .before .before .before .before .before .before .before .before .before)) refl in
-    sym (above-frames paper01 n (s .g) (s .words .now) (good (c .before .before .before .before .before .before .before)) (room (c .before .before .before .before .before) n r h) (omega (arith, c .if7 .taken)))
+    let s = c .before .before .before .before .before .before .before .before .before .before .before .before .before .before .args in
+    let total = c .before .pledges .ensures n r h (message (c .before .before .before .before .before .before .before .before .before .before .before .before .before .before)) refl in
+    sym (above-pages paper01 n (s .g) (s .words .now) (good (c .before .before .before .before .before .before .before .before)) (room (c .before .before .before .before .before .before) n r h) (omega (arith, c .if7 .taken)))
 
 returns-8 : tie.Need-returns-8
 returns-8 c n r h v =
-    let s = c .before .before .before .before .before .before .before .before .before .before .before .before .before .args in
-    let total = c .before .pledges .ensures n r h (message (c .before .before .before .before .before .before .before .before .before .before .before .before .before)) refl in
-    sym (within-frames paper01 n (s .g) (s .words .now) (good (c .before .before .before .before .before .before .before)) (room (c .before .before .before .before .before) n r h) (omega (arith, c .if7 .left)))
+    let s = c .before .before .before .before .before .before .before .before .before .before .before .before .before .before .args in
+    let total = c .before .pledges .ensures n r h (message (c .before .before .before .before .before .before .before .before .before .before .before .before .before .before)) refl in
+    sym (within-pages paper01 n (s .g) (s .words .now) (good (c .before .before .before .before .before .before .before .before)) (room (c .before .before .before .before .before .before) n r h) (omega (arith, c .if7 .left)))
 
 pub refusal-spec : {M : Type 1} → statement M
 refusal-spec =
     tie.close
-    (tie.spec returns returns-2 returns-3 cast-if4 returns-4 shared-slice-read-if5 returns-5 shared-slice-read-if6 shared-slice-read-if6-2 returns-6 pledges-requires returns-7 returns-8)
+    (tie.spec returns returns-2 returns-3 cast-if4 returns-4 shared-slice-read-if5 returns-5 shared-slice-read-if6 shared-slice-read-if6-2 add-if6 shared-slice-read-if6-3 returns-6 pledges-requires add-if7 returns-7 returns-8)

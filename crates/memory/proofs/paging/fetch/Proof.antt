@@ -10,7 +10,7 @@ use Rattle.memory.specs.Holds.{Holds, entering}
 use Rattle.memory.specs.Paging.{Fetching}
 use Rattle.memory.proofs.PieceLaws.{holds-pieces}
 use Rattle.memory.proofs.paging.PiecesLaws.{laid-listing}
-use Rattle.memory.proofs.paging.BringLaws.{Opened, entered, entered-more, entered-ready, fetched-held, fetched-ready, fetching-front, fetching-room, opened}
+use Rattle.memory.proofs.paging.FetchLaws.{Opened, entered, entered-more, entered-ready, fetched-held, fetched-ready, fetching-front, fetching-room, opened}
 use Rattle.memory.proofs.paging.fetch.Statement.{statement}
 use Rattle.memory.proofs.paging.fetch.Tie as tie
 

@@ -43,4 +43,10 @@ bring-cases =
 
 pub page-count-cases : PageCountCases
 unfolding computes
-page-count-cases = record { out-stays = refl; both-counted = refl; both-stay = refl; brought-stays = refl }
+page-count-cases =
+    record {
+      out-stays = refl;
+      both-counted = refl;
+      both-stay = refl;
+      brought-stays = refl;
+    }

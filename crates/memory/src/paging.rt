@@ -145,11 +145,11 @@ pub fn fetch(m: &mut [u32], p: u32)
     requires { ⌜ Some (now m) (Fetching p) ⌝ }
     ensures { λ _. ⌜ Becomes (now (m .entry)) (now (m .exit)) (Fetching p) (bringing p) ⌝ }
 {
-    let f = m[map::FREE_AT];
-    frames::enter(m, f);
+    let front = m[map::FREE_AT];
+    frames::enter(m, front);
     count(m, map::BROUGHT);
     lines::leave(m, map::FREE_COUNT, map::FREE_AT, 0);
-    move_page(m, p, f);
+    move_page(m, p, front);
     lines::join(m, map::SWAP_COUNT, map::SWAP_AT, p);
 }
 
@@ -171,11 +171,11 @@ pub fn bring_in(m: &mut [u32], p: u32)
     requires { ⌜ Some (now m) (Away p) ⌝ }
     ensures { λ _. ⌜ Becomes (now (m .entry)) (now (m .exit)) (Away p) (bringing p) ⌝ }
 {
-    if m[map::FREE_COUNT] == 0 {
-        exchange(m, p);
+    if m[map::FREE_COUNT] > 0 {
+        fetch(m, p);
         return;
     }
-    fetch(m, p);
+    exchange(m, p);
 }
 
 // Page p is in a frame from now on.
@@ -197,8 +197,8 @@ pub fn prepare(m: &mut [u32], g: u32)
 {
     let end = map::group_word(m, g, map::USED) + map::group_word(m, g, map::COUNT);
     if end < Node::PER_FRAME * map::group_word(m, g, map::HELD) {
-        let p = map::group_word(m, g, map::LIST + (end / Node::PER_FRAME) as usize);
-        resident(m, p);
+        let last = map::group_word(m, g, map::LIST + (end / Node::PER_FRAME) as usize);
+        resident(m, last);
         return;
     }
     if m[map::FREE_COUNT] == 0 {

@@ -1,10 +1,10 @@
 -- A page goes to an idle one, or trades places with another: from words to the pieces of the node. Each number stands once, so that the pages
 -- of the lines and the lists are others than the one written over. Assumes nothing.
-use Prim.Native.Nat.{ℕ, suc, pred, _+_, _≤_, _<_}
+use Prim.Native.Nat.{ℕ, suc, _<_}
 use native.Mathlib.Omega.{arith}
-use mathlib.Core.List.{List, [], _∷_, _++_, map}
+use mathlib.Core.List.{List, [], _∷_, map}
 use mathlib.Core.Logic.{_≢_}
-use mathlib.Core.Path.{_≡_, refl, sym, ap, _∙_, subst}
+use mathlib.Core.Path.{_≡_, refl, sym, ap, subst}
 use lib.ListN.{length, getD}
 use Rattle.rules.specs.Build.{paper01, pageCount, groupCount}
 use Rattle.rules.specs.Lists.{Every, concatMap, countOf}

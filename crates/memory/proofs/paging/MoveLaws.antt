@@ -1,17 +1,17 @@
 -- Pages copied and exchanged: the words of each page stand where its number, traded, says. Assumes nothing.
-use Prim.Native.Nat.{ℕ, _+_, _*_, _≤_, _<_}
+use Prim.Native.Nat.{ℕ, _+_, _≤_, _<_}
 use native.Mathlib.Decide.{decLt, ℕ-discrete}
 use native.Mathlib.Omega.{arith}
-use mathlib.Core.Path.{_≡_, refl, sym, ap, _∙_, subst}
+use mathlib.Core.Path.{_≡_, refl, sym, ap, _∙_}
 use mathlib.Core.Logic.{_≢_}
 use mathlib.Core.List.{List, [], _∷_, map}
-use lib.ListN.{length, drop, length-drop}
+use lib.ListN.{drop}
 use Rattle.rules.specs.Build.{paper01, pageCount}
 use Rattle.rules.specs.Lists.{Every, concatMap}
 use Rattle.rules.specs.Node.{Frame, Place}
 use Rattle.rules.specs.Memory.{frameAddress, frameStride, framesAt, pagingAt, placeWords, word, wordsAt}
 use Rattle.rules.specs.Paging.{framesFrom, traded}
-use Rattle.rules.specs.Valid.{GoodFrame, GoodPlace}
+use Rattle.rules.specs.Valid.{GoodFrame}
 use Rattle.rules.proofs.Steps.PagingLaws.{traded-first, traded-other, traded-second}
 use Rattle.rules.proofs.Map.MapWords.{Stands, length-wordsAt, wordsAt-stands}
 use Rattle.memory.specs.Writes.{Wrote, Swapped}

@@ -1,6 +1,6 @@
 -- The pieces of a node after pages have moved and their numbers were traded in the lists: every page of every list stands at the address of
 -- its new number, the pages of the two lines stand where they did, and each group's record has the traded list. Assumes nothing.
-use Prim.Native.Nat.{ℕ, suc, _+_, _-_, _*_, _≤_, _<_}
+use Prim.Native.Nat.{ℕ, _+_, _-_, _*_, _≤_, _<_}
 use native.Mathlib.Decide.{ℕ-discrete}
 use native.Mathlib.Omega.{arith}
 use mathlib.Core.Path.{_≡_, refl, sym, ap, _∙_, subst}
@@ -8,15 +8,14 @@ use mathlib.Core.List.{List, [], _∷_, _++_, map}
 use lib.ListN.{length, getD, replicate, length-map, length-replicate, List·getD-map}
 use Rattle.rules.specs.Build.{paper01, pageCount, groupCount, wordLimit}
 use Rattle.rules.specs.Lists.{Every, concatMap, pad}
-use Rattle.rules.specs.Memory.{flagWord, frameAddress, framesAt, groupAddress, groupStride, groupWords, groupsAt, heldOffset, listAt, listOffset, listWords, pagingAt, pagingWords, placeWords, queueAt, freeAt, size, word, wordsAt}
+use Rattle.rules.specs.Memory.{flagWord, frameAddress, framesAt, groupAddress, groupStride, groupWords, groupsAt, heldOffset, listAt, listOffset, listWords, pagingAt, placeWords, queueAt, freeAt, size, word, wordsAt}
 use Rattle.rules.specs.Node.{Frame, Group, Node, emptyGroup, withBuffer, withGroups}
 use Rattle.rules.specs.Paging.{framesFrom, framesOf, traded, tradedIn, trading}
-use Rattle.rules.specs.Sound.{Mapped, WholeGroup}
+use Rattle.rules.specs.Sound.{WholeGroup}
 use Rattle.rules.specs.Valid.{GoodFrame, frameNumber}
 use Rattle.rules.proofs.Steps.EveryLaws.{every-getD, every-mono}
 use Rattle.rules.proofs.Steps.ListLaws.{length-pad, pad-fits}
 use Rattle.rules.proofs.Steps.PageLaws.{good-from}
-use Rattle.rules.proofs.Map.MapPaging.{length-paging}
 use Rattle.rules.proofs.Map.MapParts.{length-group}
 use Rattle.rules.proofs.Map.MapRead.{length-line, length-queue}
 use Rattle.rules.proofs.Map.MapWords.{Stands, stands-append, stands-cons}

@@ -1,31 +1,29 @@
 -- What a message needs before it is written, and the running group's first page, as they are read from memory: which of the rules' cases it is.
 -- Assumes nothing.
 use Prim.Native.Nat.{ℕ, _+_, _*_, _/_, _≤_, _<_}
-use native.Mathlib.Nat.{add-zero}
 use native.Mathlib.Omega.{arith}
 use mathlib.Core.List.{List, [], _∷_}
 use mathlib.Core.Logic.{_≢_}
-use mathlib.Core.Path.{_≡_, refl, sym, ap, _∙_, subst}
+use mathlib.Core.Path.{_≡_, refl, sym, ap, _∙_}
 use lib.ListN.{getD, length}
 use borrow.Author.Tests.{eq-eqb, le-ltb, lt-ltb, ne-eqb}
 use Rattle.rules.specs.Build.{groupCount, paper01}
 use Rattle.rules.specs.Frames.{put}
 use Rattle.rules.specs.Memory.{freeCountAt, groupAddress, heldOffset, listOffset, runningAt, word}
-use Rattle.rules.specs.Node.{Frame, Message, Node, groupOf, inQueue}
-use Rattle.rules.specs.Paging.{bringIn, firstResident, freed, inFrame, nextPage, prepared, resident, runnerResident, store}
-use Rattle.rules.specs.Sound.{Listed, Sound}
+use Rattle.rules.specs.Node.{Frame, Message, Node, groupOf}
+use Rattle.rules.specs.Paging.{firstResident, freed, inFrame, nextPage, prepared, resident, runnerResident, store}
+use Rattle.rules.specs.Sound.{Sound}
 use Rattle.rules.proofs.Steps.FrameLaws.{fits}
 use Rattle.rules.proofs.Steps.NodeLaws.{group-good}
 use Rattle.rules.proofs.Steps.PagingLaws.{listed-at, next-listed, prepared-left, prepared-repaged, prepared-sound}
 use Rattle.rules.proofs.Steps.RoomLaws.{swap-left}
 use Rattle.rules.proofs.Steps.SoundLaws.{line-lengths}
-use Rattle.memory.specs.Holds.{FrameLeft, Holds, Storable}
-use Rattle.memory.specs.Paging.{Away, Crowded, Exchanging, Fetching, Owned, Sending, Wanting, bringing, sending}
-use Rattle.memory.specs.Writes.{InGroup}
+use Rattle.memory.specs.Holds.{Holds, Storable}
+use Rattle.memory.specs.Paging.{Owned, Sending, Wanting, bringing, sending}
 use Rattle.memory.proofs.PieceLaws.{holds-pieces}
 use Rattle.memory.proofs.buffer.AppendLaws.{Ends, ends, full-read}
-use Rattle.memory.proofs.group.GroupLaws.{group-whole, group-words, list-line, listed}
-use Rattle.memory.proofs.lines.LineLaws.{line-first}
+use Rattle.memory.proofs.group.GroupLaws.{group-whole, group-words, listed}
+use Rattle.memory.proofs.paging.RunnerLaws.{runner-first, runner-held, runs}
 
 -- Whether a frame is free.
 
@@ -37,8 +35,8 @@ module _ {m : List ℕ} {n : Node} {r : List ℕ} (h : Holds m n r) where
   pub none-free : word m freeCountAt ≡ 0 → n .free ≡ []
   none-free e = no-frame (n .free) (sym (holds-pieces h .free-count) ∙ e)
 
-  pub some-free : word m freeCountAt ≢ 0 → 1 ≤ length (n .free)
-  some-free d = omega (arith, d, holds-pieces h .free-count)
+  pub some-free : 1 ≤ word m freeCountAt → 1 ≤ length (n .free)
+  some-free l = omega (arith, holds-pieces h .free-count)
 
 -- Whether a page is in a frame.
 
@@ -108,7 +106,7 @@ module _ {g : ℕ} (low : 1 ≤ g) (high : g ≤ groupCount) {n : Node} (c : Wan
       full-ready d = go (n .free) refl ∙ prepared-full is-full
         where
           go : (fs : List Frame) → n .free ≡ fs → n ≡ freed paper01 (n .free) n
-          go [] e = absurd (omega (arith, some-free h d, ap length e))
+          go [] e = absurd (omega (arith, some-free h (omega (arith, d)), ap length e))
           go (f ∷ fs) e = sym (ap (λ (l : List Frame). freed paper01 l n) e)
 
   -- it can be stored then
@@ -132,41 +130,29 @@ module _ {m : List ℕ} {n : Node} {r : List ℕ} (h : Holds m n r) (s : Sound p
   nobody-resident e = rw (eq-eqb (n .running) 0 (sym (holds-pieces h .running) ∙ e))
 
   module _ (low : 1 ≤ word m runningAt) where
-    pub runner-high : word m runningAt ≤ groupCount
-    runner-high = omega (arith, holds-pieces h .running, s .running-bound)
-
-    running : 1 ≤ n .running
-    running = omega (arith, holds-pieces h .running)
-
-    held-read : word m (groupAddress (word m runningAt) + heldOffset) ≡ length (groupOf n (n .running) .buffer .frames)
-    held-read = rw (holds-pieces h .running) (group-words (holds-pieces h) (h .mapped) (n .running) running (s .running-bound) .held)
-
-    runs : firstResident paper01 (groupOf n (n .running) .buffer .frames) n ≡ runnerResident paper01 n
+    runs-first : firstResident paper01 (groupOf n (n .running) .buffer .frames) n ≡ runnerResident paper01 n
     unfolding runnerResident
-    runs = rw (ne-eqb (n .running) 0 (λ e. omega (arith, running)))
+    runs-first = rw (ne-eqb (n .running) 0 (λ e. omega (arith, runs h s low)))
 
     -- it has no page
     pub empty-resident : word m (groupAddress (word m runningAt) + heldOffset) ≡ 0 → n ≡ runnerResident paper01 n
     unfolding firstResident
-    empty-resident e = go (groupOf n (n .running) .buffer .frames) refl ∙ runs
+    empty-resident e = go (groupOf n (n .running) .buffer .frames) refl ∙ runs-first
       where
         go : (fs : List ℕ) → groupOf n (n .running) .buffer .frames ≡ fs → n ≡ firstResident paper01 (groupOf n (n .running) .buffer .frames) n
         go [] q = rw q
-        go (f ∷ fs) q = absurd (omega (arith, held-read, ap length q))
+        go (f ∷ fs) q = absurd (omega (arith, runner-held h s low, ap length q))
 
     module _ (some : word m (groupAddress (word m runningAt) + heldOffset) ≢ 0) where
       first-held : 1 ≤ length (groupOf n (n .running) .buffer .frames)
-      first-held = omega (arith, some, held-read)
-
-      first-read : word m (groupAddress (word m runningAt) + listOffset) ≡ getD (groupOf n (n .running) .buffer .frames) 0 0
-      first-read = rw (holds-pieces h .running) (line-first (list-line (holds-pieces h) (h .mapped) (n .running) running (s .running-bound)) first-held)
+      first-held = omega (arith, some, runner-held h s low)
 
       pub first-owned : Owned (word m (groupAddress (word m runningAt) + listOffset)) n
-      first-owned = record { sound = s; listed = rw first-read (listed-at s (n .running) running (s .running-bound) 0 first-held) }
+      first-owned = record { sound = s; listed = rw (runner-first h s low first-held) (listed-at s (n .running) (runs h s low) (s .running-bound) 0 first-held) }
 
       pub first-resident : resident paper01 (word m (groupAddress (word m runningAt) + listOffset)) n ≡ runnerResident paper01 n
       unfolding firstResident
-      first-resident = ap (λ (p : ℕ). resident paper01 p n) first-read ∙ go (groupOf n (n .running) .buffer .frames) refl ∙ runs
+      first-resident = ap (λ (p : ℕ). resident paper01 p n) (runner-first h s low first-held) ∙ go (groupOf n (n .running) .buffer .frames) refl ∙ runs-first
         where
           go : (fs : List ℕ) → groupOf n (n .running) .buffer .frames ≡ fs
               → resident paper01 (getD (groupOf n (n .running) .buffer .frames) 0 0) n ≡ firstResident paper01 (groupOf n (n .running) .buffer .frames) n

@@ -1,19 +1,17 @@
 -- A page is sent out: from writes to the node that the memory then holds. Its frame has left the order of entry, and it is counted; then the
 -- front of the swap line leaves it, the page goes there, and the frame joins the free line. Assumes nothing.
-use Prim.Native.Nat.{ℕ, _+_, _≤_, _<_}
+use Prim.Native.Nat.{ℕ, _+_, _<_}
 use native.Mathlib.Omega.{arith}
 use mathlib.Core.List.{List, [], _∷_, _++_, map, map-append}
-use mathlib.Core.Logic.{_≢_}
 use mathlib.Core.Path.{_≡_, refl, sym, ap, _∙_, subst}
 use lib.ListN.{length, getD, length-map}
-use borrow.Author.Tests.{eq-eqb}
 use Rattle.rules.specs.Build.{paper01, pageCount}
 use Rattle.rules.specs.Frames.{without}
 use Rattle.rules.specs.Lists.{Every, concatMap, countOf}
-use Rattle.rules.specs.Memory.{freeAt, freeCountAt, outAt, broughtAt, swapAt, swapCountAt, word}
+use Rattle.rules.specs.Memory.{freeAt, freeCountAt, outAt, swapAt, swapCountAt, word}
 use Rattle.rules.specs.Node.{Frame, Node, withEntered, withFree, withGroups, withPaging}
 use Rattle.rules.specs.Paging.{leaving, more, sendOut, trading, victim}
-use Rattle.rules.specs.Sound.{Listed, Sound}
+use Rattle.rules.specs.Sound.{Listed}
 use Rattle.rules.specs.Valid.{GoodFrame, frameList, frameNumber}
 use Rattle.rules.proofs.Steps.EveryLaws.{every-append}
 use Rattle.rules.proofs.Steps.PagingLaws.{counted, leaving-good, send-sound, victim-stands}
@@ -22,75 +20,14 @@ use Rattle.memory.specs.Holds.{Holds, InOrder, departing}
 use Rattle.memory.specs.Lines.{InLine, Joined, Left}
 use Rattle.memory.specs.Paging.{PageMoved, Sending, sending}
 use Rattle.memory.specs.Writes.{Wrote}
-use Rattle.memory.proofs.LinePieces.{brought-wrote, free-line, free-put, out-wrote, paging-held, paging-words, swap-line, swap-wrote}
+use Rattle.memory.proofs.LinePieces.{free-line, free-put, swap-line, swap-wrote}
 use Rattle.memory.proofs.PieceLaws.{FrameStands, Pieces, holds-pieces, pieces-hold}
 use Rattle.memory.proofs.PieceWrites.{paging-put}
 use Rattle.memory.proofs.lines.LineLaws.{LineWrote, joined-wrote, left-wrote, line-within}
 use Rattle.memory.proofs.paging.IdleLaws.{leaving-stands, mapped-laid, moved-beside, moved-put}
 use Rattle.memory.proofs.paging.MoveLaws.{stands-below}
 use Rattle.memory.proofs.paging.PiecesLaws.{Laid}
-
--- The counts.
-
--- one page more was sent out
-unfoldable pub outMore : Node → Node
-outMore n =
-    withPaging (record { swap = n .paging .swap; entered = n .paging .entered; out = more (n .paging .out); brought = n .paging .brought }) n
-
-pub out-held : {m m′ : List ℕ} {n : Node} {r : List ℕ} → Holds m n r → Wrote m m′ outAt (more (word m outAt) ∷ []) → Holds m′ (outMore n) r
-unfolding outMore
-out-held {n = n} h w =
-    let p = holds-pieces h in
-    let v = h .mapped in
-    paging-held h (n .paging .entered) (more (n .paging .out)) (n .paging .brought) (v .entered-short)
-    (out-wrote (n .paging) (p .paging) (more (n .paging .out)) (rw (paging-words p (v .swap-short) (v .entered-short) .out) at w))
-
--- one page more was brought in
-unfoldable pub broughtMore : Node → Node
-broughtMore n =
-    withPaging (record { swap = n .paging .swap; entered = n .paging .entered; out = n .paging .out; brought = more (n .paging .brought) }) n
-
-pub brought-held : {m m′ : List ℕ} {n : Node} {r : List ℕ} → Holds m n r → Wrote m m′ broughtAt (more (word m broughtAt) ∷ []) → Holds m′ (broughtMore n) r
-unfolding broughtMore
-brought-held {n = n} h w =
-    let p = holds-pieces h in
-    let v = h .mapped in
-    paging-held h (n .paging .entered) (n .paging .out) (more (n .paging .brought)) (v .entered-short)
-    (brought-wrote (n .paging) (p .paging) (more (n .paging .brought)) (rw (paging-words p (v .swap-short) (v .entered-short) .brought) at w))
-
--- A number that stands in a line.
-
--- the front of a line is counted
-front-counted : (xs : List Frame) (y : Frame) (ys : List Frame) → xs ≡ y ∷ ys
-    → countOf (y .number) (map frameNumber xs) ≡ 1 + countOf (y .number) (map frameNumber ys)
-unfolding frameNumber
-front-counted xs y ys e = ap (λ (l : List Frame). countOf (y .number) (map frameNumber l)) e ∙ rw (eq-eqb (y .number) (y .number) refl)
-
--- the front of the swap line stands nowhere else
-pub swap-alone : {n : Node} → Sound paper01 n → (s : Frame) (ss : List Frame) → n .paging .swap ≡ s ∷ ss → s .number < pageCount paper01
-    → (countOf (s .number) (map frameNumber (n .free)) ≡ 0)
-    × ((countOf (s .number) (map frameNumber ss) ≡ 0) × (countOf (s .number) (concatMap frameList (n .groups)) ≡ 0))
-swap-alone {n} sound s ss e below =
-    let all = counted sound (s .number) in
-    let once = sound .frames-once (s .number) below in
-    let here = front-counted (n .paging .swap) s ss e in
-    (omega arith, (omega arith, omega arith))
-
--- and so does the front of the free line
-pub free-alone : {n : Node} → Sound paper01 n → (f : Frame) (fs : List Frame) → n .free ≡ f ∷ fs → f .number < pageCount paper01
-    → (countOf (f .number) (map frameNumber fs) ≡ 0)
-    × ((countOf (f .number) (map frameNumber (n .paging .swap)) ≡ 0) × (countOf (f .number) (concatMap frameList (n .groups)) ≡ 0))
-free-alone {n} sound f fs e below =
-    let all = counted sound (f .number) in
-    let once = sound .frames-once (f .number) below in
-    let here = front-counted (n .free) f fs e in
-    (omega arith, (omega arith, omega arith))
-
--- a group's page is no such number
-pub listed-apart : (n : Node) (p q : ℕ) → Listed p n → countOf q (concatMap frameList (n .groups)) ≡ 0 → p ≢ q
-listed-apart n p q listed none same = let l = rw same at listed in omega arith
-
--- The page is sent out.
+use Rattle.memory.proofs.paging.CountedLaws.{listed-apart, out-held, outMore, swap-alone}
 
 -- its frame has left the order of entry, and it is counted
 unfoldable pub parted : Node → Node

@@ -1,12 +1,12 @@
 -- Two numbers traded in the lists of the groups, list by list. Assumes nothing.
-use Prim.Native.Nat.{ℕ, suc, _+_, _≤_, _<_}
+use Prim.Native.Nat.{ℕ, _+_, _≤_, _<_}
 use native.Mathlib.Decide.{decLt, decLe}
 use native.Mathlib.Omega.{arith}
-use mathlib.Core.Path.{_≡_, refl, sym, ap, _∙_}
-use mathlib.Core.List.{List, [], _∷_, _++_, map, map-append}
+use mathlib.Core.Path.{_≡_, refl, ap, _∙_}
+use mathlib.Core.List.{List, [], _∷_, map, map-append}
 use lib.ListN.{length, set, length-map}
 use Rattle.rules.specs.Build.{groupCount}
-use Rattle.rules.specs.Memory.{groupStride, heldOffset, listOffset, word, wordsAt, listAt, groupAddress, frameAddress}
+use Rattle.rules.specs.Memory.{heldOffset, listOffset, word, wordsAt, listAt, groupAddress, frameAddress}
 use Rattle.rules.specs.Paging.{traded}
 use Rattle.rules.proofs.Map.MapWords.{length-wordsAt}
 use Rattle.memory.specs.Writes.{Wrote, Swapped}

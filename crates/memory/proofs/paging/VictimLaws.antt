@@ -1,21 +1,18 @@
 -- The page to send out, as it is read: the first in the order of entry, or the second where the first is the running group's first page. The
 -- second is not, since each frame stands once in that order. Assumes nothing.
-use Prim.Native.Nat.{ℕ, _+_, _≤_, _<_}
-use native.Mathlib.Nat.{add-zero}
+use Prim.Native.Nat.{ℕ, _+_, _≤_}
 use native.Mathlib.Omega.{arith}
-use mathlib.Core.Bool.{Bool, true, false, not, _&&_}
+use mathlib.Core.Bool.{Bool, true, false, not}
 use mathlib.Core.List.{List, [], _∷_}
 use mathlib.Core.Logic.{_≢_}
 use mathlib.Core.Path.{_≡_, refl, sym, ap, _∙_}
-use lib.Dec.{eqb}
 use lib.ListN.{length, getD}
 use borrow.Author.Tests.{eq-eqb, ne-eqb}
-use Rattle.rules.specs.Build.{paper01, groupCount}
-use Rattle.rules.specs.Lists.{countOf, filter}
-use Rattle.rules.specs.Memory.{enteredAt, enteredCountAt, groupAddress, heldOffset, listOffset, runningAt, size, word}
+use Rattle.rules.specs.Build.{paper01}
+use Rattle.rules.specs.Lists.{filter}
+use Rattle.rules.specs.Memory.{enteredAt, enteredCountAt, groupAddress, heldOffset, listOffset, runningAt, word}
 use Rattle.rules.specs.Node.{Node, groupOf}
 use Rattle.rules.specs.Paging.{spared, standsFirst, victim}
-use Rattle.rules.specs.Sound.{Mapped}
 use Rattle.rules.proofs.Steps.ListLaws.{filter-fail, filter-pass}
 use Rattle.rules.proofs.Steps.PagingLaws.{entered-once}
 use Rattle.rules.proofs.Steps.SoundLaws.{line-lengths}
@@ -24,8 +21,7 @@ use Rattle.memory.specs.Paging.{Crowded}
 use Rattle.memory.proofs.LinePieces.{entered-line}
 use Rattle.memory.proofs.lines.LineLaws.{LineStands, line-at, line-first}
 use Rattle.memory.proofs.PieceLaws.{holds-pieces}
-use Rattle.memory.proofs.group.GroupLaws.{group-words}
-use Rattle.memory.proofs.WriteLaws.{stands-word}
+use Rattle.memory.proofs.paging.RunnerLaws.{runner-first, runner-held, runs}
 
 -- the first in the order of entry, where it is not spared
 victim-first : (n : Node) (x : ℕ) (es : List ℕ) → n .paging .entered ≡ x ∷ es → spared n x ≡ false → victim n ≡ x
@@ -116,42 +112,26 @@ module _ {m : List ℕ} {n : Node} {r : List ℕ} (h : Holds m n r) (c : Crowded
   nobody-chosen e = first-read ∙ unspared (spared-nobody n first (sym (holds-pieces h .running) ∙ e))
 
   module _ (low : 1 ≤ word m runningAt) where
-    running : 1 ≤ n .running
-    running = omega (arith, holds-pieces h .running)
-
-    pub running-high : word m runningAt ≤ groupCount
-    running-high = omega (arith, holds-pieces h .running, c .sound .running-bound)
-
-    held-read : word m (groupAddress (word m runningAt) + heldOffset) ≡ length (groupOf n (n .running) .buffer .frames)
-    held-read =
-        rw (holds-pieces h .running)
-        (group-words (holds-pieces h) (h .mapped) (n .running) running (c .sound .running-bound) .held)
-
     list-read : (z : ℕ) (zs : List ℕ) → groupOf n (n .running) .buffer .frames ≡ z ∷ zs → word m (groupAddress (word m runningAt) + listOffset) ≡ z
-    list-read z zs e =
-        rw (holds-pieces h .running)
-        (ap (word m) (sym (add-zero (groupAddress (n .running) + listOffset)))
-        ∙ stands-word m (groupAddress (n .running) + listOffset) (groupOf n (n .running) .buffer .frames) 0 (omega (arith, ap length e))
-        (group-words (holds-pieces h) (h .mapped) (n .running) running (c .sound .running-bound) .list)
-        ∙ ap (λ (l : List ℕ). getD l 0 0) e)
+    list-read z zs e = runner-first h (c .sound) low (omega (arith, ap length e)) ∙ ap (λ (l : List ℕ). getD l 0 0) e
 
     -- it has no page
     pub empty-chosen : word m (groupAddress (word m runningAt) + heldOffset) ≡ 0 → word m enteredAt ≡ victim n
     unfolding standsFirst
-    empty-chosen e = first-read ∙ unspared (spared-runs n first running ∙ go (groupOf n (n .running) .buffer .frames) refl)
+    empty-chosen e = first-read ∙ unspared (spared-runs n first (runs h (c .sound) low) ∙ go (groupOf n (n .running) .buffer .frames) refl)
       where
         go : (zs : List ℕ) → groupOf n (n .running) .buffer .frames ≡ zs → standsFirst first (groupOf n (n .running) .buffer .frames) ≡ false
         go [] q = rw q
-        go (z ∷ zs) q = absurd (omega (arith, held-read, ap length q))
+        go (z ∷ zs) q = absurd (omega (arith, runner-held h (c .sound) low, ap length q))
 
     -- its first page is another
     pub other-chosen : word m (groupAddress (word m runningAt) + heldOffset) ≢ 0 → word m (groupAddress (word m runningAt) + listOffset) ≢ word m enteredAt
         → word m enteredAt ≡ victim n
     unfolding standsFirst
-    other-chosen some d = first-read ∙ unspared (spared-runs n first running ∙ go (groupOf n (n .running) .buffer .frames) refl)
+    other-chosen some d = first-read ∙ unspared (spared-runs n first (runs h (c .sound) low) ∙ go (groupOf n (n .running) .buffer .frames) refl)
       where
         go : (zs : List ℕ) → groupOf n (n .running) .buffer .frames ≡ zs → standsFirst first (groupOf n (n .running) .buffer .frames) ≡ false
-        go [] q = absurd (some (held-read ∙ ap length q))
+        go [] q = absurd (some (runner-held h (c .sound) low ∙ ap length q))
         go (z ∷ zs) q = rw q (ne-eqb z first (λ same. d (list-read z zs q ∙ same ∙ sym first-read)))
 
     -- its first page is the first in the order
@@ -162,8 +142,8 @@ module _ {m : List ℕ} {n : Node} {r : List ℕ} (h : Holds m n r) (c : Crowded
         second-read ∙ go (groupOf n (n .running) .buffer .frames) refl
       where
         go : (zs : List ℕ) → groupOf n (n .running) .buffer .frames ≡ zs → second ≡ victim n
-        go [] q = absurd (some (held-read ∙ ap length q))
+        go [] q = absurd (some (runner-held h (c .sound) low ∙ ap length q))
         go (z ∷ zs) q =
             let one : z ≡ first = sym (list-read z zs q) ∙ same ∙ first-read in
-            spared-second (spared-runs n first running ∙ rw q (eq-eqb z first one))
-            (spared-runs n second running ∙ rw q (ne-eqb z second (λ e. apart (sym e ∙ one))))
+            spared-second (spared-runs n first (runs h (c .sound) low) ∙ rw q (eq-eqb z first one))
+            (spared-runs n second (runs h (c .sound) low) ∙ rw q (ne-eqb z second (λ e. apart (sym e ∙ one))))

@@ -116,7 +116,7 @@ unfolding oneTick timedOut counted
 tick-sent b [] e = refl
 tick-sent b (m ∷ q) e = either (eqb (e .node .timer + 1) (b .timeout))
   where
-    either : (t : Bool) → cond t (timedOut e) (counted e) .sent ≡ e .sent
+    either : (t : Bool) → cond t (timedOut b e) (counted e) .sent ≡ e .sent
     either true = refl
     either false = refl
 
@@ -128,7 +128,7 @@ ticks-sent b (suc k) e = ticks-sent b k (oneTick b (e .node .queue) e) ∙ tick-
 
 module _ {b : Build} {n : Node} (v : Valid b n) where
   -- an accepted request
-  served-listed : (r : Request) → 1 ≤ n .running → refuseRequest n r ≡ 0 → Listed (finish (serve b n r) .report)
+  served-listed : (r : Request) → 1 ≤ n .running → refuseRequest n r ≡ 0 → Listed (finish b (serve b n r) .report)
   unfolding serve valued extending launched refuseRequest refuseLaunch finish groupOf
   served-listed poll runs e = silent refl
   served-listed (peek i) runs e = silent refl
@@ -146,7 +146,7 @@ module _ {b : Build} {n : Node} (v : Valid b n) where
       few = every-getD (GoodGroup b) (n .groups) (pred (n .running)) emptyGroup (v .groups-good) (omega (arith, v .running-bound, v .group-count)) .descriptor
 
   -- an accepted operation
-  accepted-listed : (op : Operation) → refusal b n op ≡ 0 → Listed (finish (act b n op) .report)
+  accepted-listed : (op : Operation) → refusal b n op ≡ 0 → Listed (finish b (act b n op) .report)
   unfolding act valued finish refusal
   accepted-listed (arrive g ws) e = silent refl
   accepted-listed (schedule g) e = silent refl

@@ -35,7 +35,7 @@ same-length : tie.Need-same-length
 same-length c = search needs
 
 returns-2 : tie.Need-returns-2
-returns-2 c = rw (← c .before .before .head-part .ensures) (pair-told _ _ _ (c .before .before .before .if1 .left))
+returns-2 c = rw (c .before .before .head-part .ensures) (pair-told _ _ _ (c .before .before .before .if1 .left))
 
 pub fugu-head-spec : {M : Type 1} → statement M
 fugu-head-spec =

@@ -10,7 +10,7 @@ use Rattle.rules.specs.Paging.{victim}
 use Rattle.memory.specs.Holds.{Holds, InOrder, OrderRoom, departing, entering}
 use Rattle.memory.specs.Paging.{Exchanging}
 use Rattle.memory.proofs.PieceLaws.{holds-pieces}
-use Rattle.memory.proofs.paging.BringLaws.{departing-room, exchanged-held, renewed, renewed-held, renewed-ready, victim-ordered}
+use Rattle.memory.proofs.paging.ExchangeLaws.{departing-room, exchanged-held, renewed, renewed-held, renewed-ready, victim-ordered}
 use Rattle.memory.proofs.paging.exchange.Statement.{statement}
 use Rattle.memory.proofs.paging.exchange.Tie as tie
 

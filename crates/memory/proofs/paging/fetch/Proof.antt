@@ -10,7 +10,7 @@ use Rattle.memory.specs.Holds.{Holds, entering}
 use Rattle.memory.specs.Paging.{Fetching}
 use Rattle.memory.proofs.PieceLaws.{holds-pieces}
 use Rattle.memory.proofs.paging.PiecesLaws.{laid-listing}
-use Rattle.memory.proofs.paging.BringLaws.{Opened, entered, entered-more, entered-ready, fetched-held, fetched-ready, fetching-front, fetching-room, opened}
+use Rattle.memory.proofs.paging.FetchLaws.{Opened, entered, entered-more, entered-ready, fetched-held, fetched-ready, fetching-front, fetching-room, opened}
 use Rattle.memory.proofs.paging.fetch.Statement.{statement}
 use Rattle.memory.proofs.paging.fetch.Tie as tie
 
@@ -52,8 +52,8 @@ left c e = opened (e .1) (fetching-front (e .1) (e .0)) (counted (at-count c) e)
 
 -- The needs.
 
-slice-read-f : tie.Need-slice-read-f
-slice-read-f c = omega (arith, holds-pieces (c .before .before .pre .holds) .long)
+slice-read-front : tie.Need-slice-read-front
+slice-read-front c = omega (arith, holds-pieces (c .before .before .pre .holds) .long)
 
 enter-requires : tie.Need-enter-requires
 enter-requires c κs =
@@ -97,4 +97,4 @@ returns c n r h s =
     fetched-held s (left (at-leave d) (h, s)) (d .move-page .ensures) (c .before .before .join .ensures)
 
 pub fetch-spec : {M : Type 1} → statement M
-fetch-spec = tie.close (tie.spec slice-read-f enter-requires count-requires leave-requires move-page-requires join-requires same-length returns)
+fetch-spec = tie.close (tie.spec slice-read-front enter-requires count-requires leave-requires move-page-requires join-requires same-length returns)

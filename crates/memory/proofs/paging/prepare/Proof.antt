@@ -1,16 +1,13 @@
 -- `memory::paging::prepare` meets its contract: the counts of the buffer and of the free line say which case it is. Assumes nothing.
 use Prim.Native.Nat.{ℕ, _+_, _*_, _/_, _≤_, _<_}
 use native.Mathlib.Omega.{arith}
-use mathlib.Core.List.{List}
-use mathlib.Core.Path.{_≡_, refl, ap, _∙_, subst}
+use mathlib.Core.Path.{_≡_, subst}
 use borrow.Author.Needs.{needs}
 use Rattle.rules.specs.Memory.{groupAddress, groupStride, word}
 use Rattle.rules.specs.Node.{Node}
 use Rattle.memory.specs.Holds.{Holds}
-use Rattle.memory.specs.Paging.{Owned}
 use Rattle.memory.specs.Writes.{InGroup}
 use Rattle.memory.proofs.buffer.AppendLaws.{Ends}
-use Rattle.memory.proofs.PieceLaws.{holds-pieces}
 use Rattle.memory.proofs.paging.PrepareLaws.{full-ready, full-sending, full-sent, next-owned, next-prepared, wanting-ends}
 use Rattle.memory.proofs.paging.prepare.Statement.{statement}
 use Rattle.memory.proofs.paging.prepare.Tie as tie

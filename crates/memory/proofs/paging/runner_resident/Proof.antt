@@ -1,7 +1,6 @@
 -- `memory::paging::runner_resident` meets its contract: who runs, and the first page of its list, are read. Assumes nothing.
 use Prim.Native.Nat.{ℕ, _+_, _≤_, _<_}
 use native.Mathlib.Omega.{arith}
-use mathlib.Core.List.{List}
 use mathlib.Core.Logic.{_≢_}
 use mathlib.Core.Path.{sym, _∙_, subst}
 use borrow.Author.Needs.{needs}
@@ -10,7 +9,8 @@ use Rattle.rules.specs.Node.{Node}
 use Rattle.memory.specs.Holds.{Holds}
 use Rattle.memory.specs.Writes.{InGroup}
 use Rattle.memory.proofs.PieceLaws.{holds-pieces}
-use Rattle.memory.proofs.paging.PrepareLaws.{empty-resident, first-owned, first-resident, nobody-resident, runner-high}
+use Rattle.memory.proofs.paging.PrepareLaws.{empty-resident, first-owned, first-resident, nobody-resident}
+use Rattle.memory.proofs.paging.RunnerLaws.{runner-high}
 use Rattle.memory.proofs.paging.runner_resident.Statement.{statement}
 use Rattle.memory.proofs.paging.runner_resident.Tie as tie
 

@@ -3,7 +3,7 @@
 use Prim.Native.Nat.{ℕ}
 use native.Mathlib.Omega.{arith}
 use mathlib.Core.List.{List}
-use mathlib.Core.Path.{_≡_, _∙_, subst, sym}
+use mathlib.Core.Path.{_≡_, subst, sym}
 use borrow.Author.Needs.{needs}
 use Rattle.rules.specs.Node.{Node}
 use Rattle.rules.specs.Paging.{victim}

@@ -1,7 +1,7 @@
 -- `memory::paging::trade` meets its contract. The invariant: the lists of the first g groups are traded. Assumes nothing.
 use Prim.Native.Nat.{_+_, _-_, _≤_}
 use native.Mathlib.Omega.{arith}
-use mathlib.Core.Path.{_≡_, _∙_}
+use mathlib.Core.Path.{_≡_}
 use Rattle.rules.specs.Build.{groupCount}
 use Rattle.memory.specs.Paging.{Traded}
 use Rattle.memory.proofs.paging.TradeLaws.{traded-none, traded-more, traded-listing}

@@ -1,8 +1,8 @@
 -- `memory::paging::trade_list` meets its contract. The invariant: the first i numbers are traded, and the others as they were. Assumes nothing.
-use Prim.Native.Nat.{ℕ, _+_, _-_, _≤_, _<_}
+use Prim.Native.Nat.{_+_, _-_, _≤_, _<_}
 use native.Mathlib.Omega.{arith}
 use mathlib.Core.Path.{_≡_}
-use mathlib.Core.List.{List, map}
+use mathlib.Core.List.{map}
 use borrow.Author.Needs.{needs}
 use lib.ListN.{length}
 use Rattle.rules.specs.Memory.{word, wordsAt, listAt, groupAddress, heldOffset}

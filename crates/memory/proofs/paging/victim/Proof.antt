@@ -6,7 +6,8 @@ use borrow.Author.Needs.{needs}
 use lib.ListN.{length}
 use Rattle.rules.specs.Memory.{size, word}
 use Rattle.memory.proofs.PieceLaws.{holds-pieces}
-use Rattle.memory.proofs.paging.VictimLaws.{empty-chosen, nobody-chosen, other-chosen, running-high, second-chosen}
+use Rattle.memory.proofs.paging.RunnerLaws.{runner-high}
+use Rattle.memory.proofs.paging.VictimLaws.{empty-chosen, nobody-chosen, other-chosen, second-chosen}
 use Rattle.memory.proofs.paging.victim.Statement.{statement}
 use Rattle.memory.proofs.paging.victim.Tie as tie
 
@@ -30,7 +31,7 @@ group-word-requires c κs =
     record {
       long = long s;
       low = omega (arith, c .if1 .left);
-      high = running-high (s .pre .holds) (s .pre .fact) (omega (arith, c .if1 .left));
+      high = runner-high (s .pre .holds) (s .pre .fact .sound) (omega (arith, c .if1 .left));
       inside = omega arith;
     }
 
@@ -45,7 +46,7 @@ group-word-requires-2 c κs =
     record {
       long = long s;
       low = omega (arith, c .before .before .if1 .left);
-      high = running-high (s .pre .holds) (s .pre .fact) (omega (arith, c .before .before .if1 .left));
+      high = runner-high (s .pre .holds) (s .pre .fact .sound) (omega (arith, c .before .before .if1 .left));
       inside = omega arith;
     }
 

@@ -1,42 +1,32 @@
--- A page is brought in: from writes to the node that the memory then holds. Either the front of the free line leaves it, the page goes there
--- and its swap page joins the swap line; or it trades places with the page to send out. The order of entry and the counts are written first.
--- Assumes nothing.
+-- A page is brought into a free frame: from writes to the node that the memory then holds. The frame has entered, and the page is counted;
+-- then the front of the free line leaves it, the page goes there, and its swap page joins the swap line. Assumes nothing.
 use Prim.Native.Nat.{ℕ, _+_, _≤_, _<_}
 use native.Mathlib.Omega.{arith}
 use mathlib.Core.List.{List, [], _∷_, _++_, map, map-append}
-use mathlib.Core.Logic.{_≢_}
 use mathlib.Core.Path.{_≡_, refl, sym, ap, _∙_, subst}
 use lib.ListN.{length, getD, length-append, length-map}
 use Rattle.rules.specs.Build.{paper01, pageCount}
-use Rattle.rules.specs.Frames.{without}
 use Rattle.rules.specs.Lists.{Every, concatMap, countOf}
-use Rattle.rules.specs.Memory.{broughtAt, freeAt, freeCountAt, outAt, swapAt, swapCountAt, word}
+use Rattle.rules.specs.Memory.{broughtAt, freeAt, freeCountAt, swapAt, swapCountAt, word}
 use Rattle.rules.specs.Node.{Frame, Node, Paging, withEntered, withFree, withGroups, withPaging}
-use Rattle.rules.specs.Paging.{bringIn, exchange, leaving, more, trading, victim}
-use Rattle.rules.specs.Sound.{Listed, Mapped, Sound}
+use Rattle.rules.specs.Paging.{bringIn, leaving, more, trading}
+use Rattle.rules.specs.Sound.{Mapped}
 use Rattle.rules.specs.Valid.{GoodFrame, frameList, frameNumber}
 use Rattle.rules.proofs.Steps.EveryLaws.{every-append}
-use Rattle.rules.proofs.Steps.PagingLaws.{bring-sound, count-in, entered-below, leaving-good, listed-once, victim-stands}
+use Rattle.rules.proofs.Steps.PagingLaws.{bring-sound, leaving-good}
 use Rattle.rules.proofs.Steps.SoundLaws.{line-lengths, sound-mapped}
-use Rattle.memory.specs.Holds.{Holds, InOrder, OrderRoom, departing, entering}
-use Rattle.memory.specs.Lines.{InLine, Joined, Left, indexOf}
-use Rattle.memory.specs.Paging.{Away, Exchanging, Fetching, Listing, PageMoved, PagesSwapped, bringing}
+use Rattle.memory.specs.Holds.{Holds, OrderRoom, entering}
+use Rattle.memory.specs.Lines.{InLine, Joined, Left}
+use Rattle.memory.specs.Paging.{Fetching, PageMoved, bringing}
 use Rattle.memory.specs.Writes.{Wrote}
 use Rattle.memory.proofs.LinePieces.{free-line, free-put, swap-line, swap-wrote}
 use Rattle.memory.proofs.PieceLaws.{FrameStands, Pieces, holds-pieces, pieces-hold}
 use Rattle.memory.proofs.PieceWrites.{paging-put}
-use Rattle.memory.proofs.lines.IndexLaws.{index-below, without-index}
-use Rattle.memory.proofs.lines.LineLaws.{LineStands, LineWrote, joined-wrote, left-wrote, length-lacking, line-first, line-within}
-use Rattle.memory.proofs.paging.IdleLaws.{leaving-stands, mapped-laid, moved-beside, moved-put, swapped-put, trading-sym}
+use Rattle.memory.proofs.lines.LineLaws.{LineStands, LineWrote, joined-wrote, left-wrote, line-first, line-within}
+use Rattle.memory.proofs.paging.IdleLaws.{leaving-stands, mapped-laid, moved-beside, moved-put, trading-sym}
 use Rattle.memory.proofs.paging.MoveLaws.{stands-below}
-use Rattle.memory.proofs.paging.PiecesLaws.{Laid, laid-listing}
-use Rattle.memory.proofs.paging.SendLaws.{brought-held, broughtMore, free-alone, listed-apart, out-held, outMore}
-
--- what is brought in can be mapped
-pub brought-mapped : {p : ℕ} {n : Node} → Away p n → Mapped (bringing p n)
-brought-mapped {p} a = sound-mapped (bring-sound (a .owned .sound) p (a .high) (a .owned .listed))
-
--- Into a free frame.
+use Rattle.memory.proofs.paging.PiecesLaws.{Laid}
+use Rattle.memory.proofs.paging.CountedLaws.{brought-held, broughtMore, free-alone, listed-apart}
 
 -- frame f has entered, and the page is counted
 unfoldable pub entered : ℕ → Node → Node
@@ -158,7 +148,9 @@ module _ {p : ℕ} {n : Node} (c : Fetching p n) where
 
     pub fetched-held : {m₃ : List ℕ} → Joined m₂ m₃ swapCountAt swapAt p → Holds m₃ (bringing p n) r
     unfolding entered bringIn trading withGroups withFree withPaging frameNumber leaving
-    fetched-held {m₃} came = go (n .free) (t .line) (brought-mapped (c .away))
+    fetched-held {m₃} came =
+        let a = c .away in
+        go (n .free) (t .line) (sound-mapped (bring-sound (a .owned .sound) p (a .high) (a .owned .listed)))
       where
         go : (fs : List Frame) → fs ≡ t .front ∷ t .behind → Mapped (bringIn paper01 p fs n) → Holds m₃ (bringIn paper01 p fs n) r
         go [] e mapped = absurd (omega (arith, ap length e))
@@ -176,69 +168,3 @@ module _ {p : ℕ} {n : Node} (c : Fetching p n) where
             paging-put fetched-pieces paging stand (swap-wrote (entered f n .paging) (fetched-pieces .paging) ss joined) in
             let held : Pieces m₃ (bringIn paper01 p (t .front ∷ t .behind) n) r = rw (t .number) at k in
             pieces-hold mapped (subst (λ (l : List Frame). Pieces m₃ (bringIn paper01 p l n) r) (sym e) held)
-
--- In exchange for another.
-
--- the victim's frame has gone to the end of the order of entry, and both pages are counted
-unfoldable pub renewed : Node → Node
-renewed n =
-    withPaging
-    (record {
-      swap = n .paging .swap;
-      entered = without (victim n) (n .paging .entered) ++ (victim n ∷ []);
-      out = more (n .paging .out);
-      brought = more (n .paging .brought);
-    })
-    n
-
--- that is so after these four calls
-pub renewed-held : {m₁ m₂ m₃ : List ℕ} (n : Node) {r : List ℕ} {f : ℕ} → f ≡ victim n → Holds m₁ (entering f (departing f n)) r
-    → Wrote m₁ m₂ outAt (more (word m₁ outAt) ∷ []) → Wrote m₂ m₃ broughtAt (more (word m₂ broughtAt) ∷ []) → Holds m₃ (renewed n) r
-unfolding entering departing outMore broughtMore renewed withPaging withEntered
-renewed-held {m₃ = m₃} n {r} e h w₁ w₂ =
-    subst (λ (g : ℕ). Holds m₃ (broughtMore (outMore (entering g (departing g n)))) r) e (brought-held (out-held h w₁) w₂)
-
-module _ {p : ℕ} {n : Node} (c : Exchanging p n) where
-  sound : Sound paper01 n
-  sound = c .away .owned .sound
-
-  -- the victim is a group's page
-  victim-listed : Listed (victim n) n
-  victim-listed = victim-stands sound (c .full) .1 .0
-
-  -- stands once in the order of entry
-  pub victim-ordered : InOrder (victim n) n
-  victim-ordered = victim-stands sound (c .full) .0
-
-  -- and leaves a place there
-  pub departing-room : OrderRoom (departing (victim n) n)
-  unfolding departing withEntered withPaging
-  departing-room =
-      let shorter = without-index (victim n) (n .paging .entered) victim-ordered in
-      let below = index-below (victim n) (n .paging .entered) (omega (arith, victim-ordered)) in
-      omega (arith, ap length shorter, length-lacking (indexOf (victim n) (n .paging .entered)) (n .paging .entered) below, line-lengths sound)
-
-  module _ {m r : List ℕ} (h : Holds m (renewed n) r) where
-    below : (q : ℕ) → Listed q n → q < pageCount paper01
-    unfolding renewed withPaging leaving
-    below q l = stands-below (leaving paper01 q n) (leaving-good sound q l) (leaving-stands (holds-pieces h) (sound .group-count) q l)
-
-    -- the pages can be exchanged: the victim is in a frame, and p is not
-    pub renewed-ready : ((victim n < p) × (p < pageCount paper01)) × Listing m
-    unfolding renewed withPaging
-    renewed-ready =
-        let frame = count-in (λ k. k < paper01 .frames) (victim n) (n .paging .entered) (entered-below sound) (omega (arith, victim-ordered)) in
-        ((omega (arith, c .away .high), below p (c .away .owned .listed)), laid-listing (holds-pieces h) (mapped-laid (h .mapped)))
-
-    pub exchanged-held : {m₁ : List ℕ} → PagesSwapped m m₁ (victim n) p → Holds m₁ (bringing p n) r
-    unfolding renewed bringIn exchange trading withGroups withPaging
-    exchanged-held {m₁} swapped = go (n .free) (c .full) (brought-mapped (c .away))
-      where
-        go : (fs : List Frame) → fs ≡ [] → Mapped (bringIn paper01 p fs n) → Holds m₁ (bringIn paper01 p fs n) r
-        go [] e mapped =
-            let listed = c .away .owned .listed in
-            let one = listed-once sound (victim n) victim-listed in
-            let other = listed-once sound p listed in
-            pieces-hold mapped
-            (swapped-put (holds-pieces h) (mapped-laid (h .mapped)) (victim n) p (below (victim n) victim-listed) (below p listed) (other .0) (other .1 .0) (one .0) (one .1 .0) swapped)
-        go (x ∷ fs) e mapped = absurd (omega (arith, ap length e))

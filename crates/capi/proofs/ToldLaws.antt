@@ -1,7 +1,7 @@
 -- What is told in a lent part: a report's words, one behind the other, or nothing where they have no room. Assumes nothing.
 use Prim.Native.Nat.{ℕ, _≤_, _<_}
 use native.Mathlib.Omega.{arith}
-use mathlib.Core.List.{List, _∷_, _++_}
+use mathlib.Core.List.{List, _++_}
 use mathlib.Core.Path.{_≡_, _∙_, ap, refl, sym}
 use lib.ListN.{length, drop, set}
 use Rattle.rules.specs.MemoryTest.{MemoryStep}

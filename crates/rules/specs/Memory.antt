@@ -4,7 +4,7 @@ use Prim.Native.Nat.{ℕ, zero, suc, _+_, _-_, _*_}
 use mathlib.Core.Bool.{Bool, true, false}
 use mathlib.Core.List.{List, [], _∷_, _++_, map}
 use lib.Dec.{eqb}
-use lib.ListN.{length, take, drop, getD}
+use lib.ListN.{length, take, getD}
 use Rattle.rules.specs.Lists.{concatMap, upFrom, pad}
 use Rattle.rules.specs.Build.{paper01, pageCount, groupCount, wordLimit}
 use Rattle.rules.specs.Node.{Message, Place, Frame, Buffer, Group, Paging, Node}

@@ -7,7 +7,7 @@ use lib.Dec.{ltb, eqb}
 use lib.ListN.{length, take, drop, getD}
 use Rattle.rules.specs.Lists.{filter, concatMap}
 use Rattle.rules.specs.Build.{Build}
-use Rattle.rules.specs.Node.{Message, Place, Frame, Buffer, Group, Paging, Node, groupOf, withFree, withPaging, withGroups, withBuffer}
+use Rattle.rules.specs.Node.{Message, Place, Frame, Buffer, Group, Node, groupOf, withFree, withPaging, withGroups, withBuffer}
 use Rattle.rules.specs.Frames.{without, put}
 
 -- the pages of a buffer, each with its share of the places

@@ -14,18 +14,14 @@ use Rattle.rules.specs.Lists.{Every}
 use Rattle.rules.specs.Memory.{atomicOffset, countOffset, flagWord, freeAt, freeCountAt, groupAddress, groupWords, heldOffset, listOffset, pendingOffset, size, usedOffset, word}
 use Rattle.rules.specs.Node.{Frame, Node, groupOf, withBuffer, withEntered, withFree, withGroup, withPaging}
 use Rattle.rules.specs.Paging.{framesFrom, framesOf}
-use Rattle.rules.specs.Sound.{Sound}
-use Rattle.rules.specs.Valid.{FirstInFrame, GoodFrame, GoodPlace, frameNumber, frameOrder}
+use Rattle.rules.specs.Valid.{GoodFrame, GoodPlace, frameNumber}
 use Rattle.rules.proofs.Steps.EveryLaws.{every-append, every-drop, every-take}
 use Rattle.rules.proofs.Steps.FrameLaws.{held}
-use Rattle.rules.proofs.Steps.ListLaws.{count-append, weight-append}
-use Rattle.rules.proofs.Steps.NodeLaws.{group-good}
-use Rattle.rules.proofs.Steps.SoundLaws.{line-lengths, sound-mapped}
+use Rattle.rules.proofs.Steps.ListLaws.{weight-append}
 use Rattle.rules.proofs.Map.MapParts.{length-group}
 use Rattle.memory.specs.Holds.{Holds, InOrder, Waits, departing, freeing, releasing, removing, usingUp, withBoth}
 use Rattle.memory.specs.Lines.{InLine, Joined, Left}
 use Rattle.memory.specs.Writes.{Wrote}
-use Rattle.memory.proofs.CountLaws.{its-free}
 use Rattle.memory.proofs.LinePieces.{free-line, free-put}
 use Rattle.memory.proofs.group.GroupLaws.{group-whole, group-words, list-line, list-wrote, mapped-group, record-held, record-stands, record-within, record-wrote, withPages, withRecord}
 use Rattle.memory.proofs.lines.LineLaws.{LineWrote, joined-wrote, left-below, left-length, left-wrote, line-first, line-within}
@@ -197,27 +193,3 @@ removing-frame n g d e = rw (ne-eqb (groupOf n g .buffer .count) 1 d, eq-eqb (gr
 pub removing-used : (n : Node) (g : ℕ) → groupOf n g .buffer .count ≢ 1 → groupOf n g .buffer .used + 1 ≢ 8 → usingUp g n ≡ removing g n
 unfolding usingUp removing removeFirst
 removing-used n g d e = rw (ne-eqb (groupOf n g .buffer .count) 1 d, ne-eqb (groupOf n g .buffer .used + 1) 8 e)
-
--- A sound node whose group has a message, and its first page in a frame, has what is asked.
-
--- the first of a list
-first-in-frame : (fs : List ℕ) → 1 ≤ length fs → FirstInFrame paper01 fs → getD fs 0 0 < paper01 .frames
-first-in-frame [] some first = absurd (omega arith)
-first-in-frame (f ∷ fs) some first = first
-
-pub waits-sound : {n : Node} → Sound paper01 n → (g : ℕ) → 1 ≤ g → g ≤ groupCount → 1 ≤ groupOf n g .buffer .count
-    → FirstInFrame paper01 (groupOf n g .buffer .frames) → Waits g n
-unfolding frameOrder
-waits-sound {n} s g low high some first =
-    let good = group-good s g low high .buffer in
-    let f = getD (groupOf n g .buffer .frames) 0 0 in
-    let page = held good some in
-    let once = s .entered-once f (first-in-frame (groupOf n g .buffer .frames) page first) in
-    let idle = its-free (sound-mapped s) g low high 0 page in
-    record {
-      some = some;
-      used = good .used-bound;
-      held = page;
-      entered = omega (arith, once, count-append f (map frameNumber (n .free)) (n .paging .entered));
-      order = omega (arith, line-lengths s);
-    }

@@ -11,11 +11,9 @@ use Rattle.rules.specs.Lists.{Every}
 use Rattle.rules.specs.Memory.{enteredAt, enteredCountAt, freeAt, freeCountAt, groupAddress, heldOffset, listOffset, word, wordsAt}
 use Rattle.rules.specs.Node.{Frame, Node, Place, groupOf, withBuffer, withEntered, withFree, withGroup, withPaging}
 use Rattle.rules.specs.Paging.{framesFrom, framesOf}
-use Rattle.rules.specs.Sound.{Sound}
 use Rattle.rules.specs.Valid.{GoodFrame, GoodPlace, frameNumber}
 use Rattle.rules.proofs.Steps.EveryLaws.{every-append}
 use Rattle.rules.proofs.Steps.ListLaws.{length-pad, weight, weight-append}
-use Rattle.rules.proofs.Steps.SoundLaws.{line-lengths}
 use Rattle.memory.specs.Holds.{FrameLeft, Holds, InOrder, OrderRoom, departing, entering, granting, taking, withBoth}
 use Rattle.memory.specs.Lines.{InLine, Joined, Left, indexOf}
 use Rattle.memory.proofs.CountLaws.{lists-short}
@@ -181,7 +179,3 @@ module _ {m : List ℕ} {n : Node} {r : List ℕ} (h : Holds m n r) (g : ℕ) (l
   pub granting-room : OrderRoom (granting g n)
   unfolding granting withBoth withFree withGroup
   granting-room = omega (arith, left .some, left .order)
-
--- A sound node with a free frame has what is asked.
-pub left-sound : {n : Node} → Sound paper01 n → 1 ≤ length (n .free) → FrameLeft n
-left-sound s some = record { some = some; order = omega (arith, line-lengths s) }

@@ -7,13 +7,13 @@ use mathlib.Core.Bool.{Bool, true, false}
 use mathlib.Core.List.{List, [], _∷_, map, List·Memᴰ, List·Memᴰ·head, List·Memᴰ·tail, map-append}
 use native.Mathlib.Omega.{arith}
 use lib.Dec.{eqb}
-use lib.ListN.{length, take, drop, length-drop, take-append-drop}
-use lib.Seq.{take-at, drop-at, length-take-le}
-use borrow.Author.Tests.{eqb-true, eq-eqb}
+use lib.ListN.{length, drop, length-drop, take-append-drop}
+use lib.Seq.{take-at, drop-at}
+use borrow.Author.Tests.{eq-eqb}
 use Rattle.rules.specs.Lists.{Every, concatMap, countOf}
 use Rattle.rules.specs.Build.{paper01, pageCount}
 use Rattle.rules.specs.Node.{Place, Frame, Group, Node}
-use Rattle.rules.specs.Valid.{GoodPlace, GoodFrame, frameNumber, frameList, idle, frameNumbers}
+use Rattle.rules.specs.Valid.{GoodPlace, GoodFrame, frameNumber, idle, frameNumbers}
 use Rattle.rules.specs.Paging.{framesFrom, framesOf, placesOf}
 use Rattle.rules.specs.Memory.{allFrames, framePlaces, frameAt, frameWords, placeWords, frameAddress, frameStride, placeStride}
 use Rattle.rules.proofs.Steps.EveryLaws.{every-of, every-at, every-mono, every-append, every-concat, every-unmap}

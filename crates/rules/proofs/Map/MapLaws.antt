@@ -135,11 +135,6 @@ module _ (m : List ℕ) (h : isMemory m ≡ true) where
       let s = map-stands (nodeAt m) (valid-mapped test-valid) m .1 (holds m (memory-fits m .0 h .1 .0) test-valid) in
       rw l at (stands-front m (words (nodeAt m)) (rw l test-size) s)
 
-  -- the counts of pages are those of that node
-  pub counts-node : pageCounts m ≡ record { out = nodeAt m .paging .out; brought = nodeAt m .paging .brought }
-  unfolding pageCounts nodeAt pagingFrom
-  counts-node = rw (h, pageCounts)
-
 -- and 0 where the memory is no node
 pub counts-none : (m : List ℕ) → isMemory m ≡ false → pageCounts m ≡ record { out = 0; brought = 0 }
 unfolding pageCounts

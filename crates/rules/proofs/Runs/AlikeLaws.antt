@@ -4,24 +4,24 @@
 use Prim.Native.Nat.{ℕ, suc, pred, _+_, _-_, _≤_, _<_}
 use mathlib.Core.Path.{_≡_, refl, sym, subst, ap, _∙_}
 use mathlib.Core.Logic.{_≢_}
-use mathlib.Core.Bool.{Bool, true, false, true≢false, cond, not, _&&_, _||_}
-use mathlib.Core.List.{List, [], _∷_, _++_, map}
+use mathlib.Core.Bool.{Bool, true, false, true≢false, cond, not, _&&_}
+use mathlib.Core.List.{List, [], _∷_, _++_}
 use native.Mathlib.Decide.{ℕ-discrete}
 use native.Mathlib.Omega.{arith}
-use lib.Dec.{ltb, leb, eqb}
-use lib.ListN.{length, getD}
-use borrow.Author.Tests.{ltb-true, ltb-false, eqb-true, eqb-false, eq-eqb}
-use Rattle.rules.specs.Lists.{filter, isEmpty}
-use Rattle.rules.specs.Build.{Build, pageCount, groupCount}
-use Rattle.rules.specs.Node.{Message, Place, Group, Node, groupOf, withRunning, withTimer, withQueue, withGroup, withFlags, withDescriptor, buffered, placeOf, messageOf, waiting, isOf, inBuffer, inQueue, line}
-use Rattle.rules.specs.Frames.{ceilDiv, pledge, pledges}
-use Rattle.rules.specs.Paging.{store, runnerResident}
-use Rattle.rules.specs.Settling.{Moved, mayStay, pass, restTimer, settle, drain, calls, upcall, upcallGroup, oneMore}
+use lib.Dec.{eqb}
+use lib.ListN.{length}
+use borrow.Author.Tests.{eq-eqb}
+use Rattle.rules.specs.Lists.{isEmpty}
+use Rattle.rules.specs.Build.{Build, groupCount}
+use Rattle.rules.specs.Node.{Message, Place, Group, Node, groupOf, withRunning, withTimer, withQueue, withGroup, buffered, placeOf, waiting, inBuffer, inQueue, line}
+use Rattle.rules.specs.Frames.{pledge, pledges}
+use Rattle.rules.specs.Paging.{store}
+use Rattle.rules.specs.Settling.{Moved, mayStay, pass, restTimer, settle, drain, calls, upcallGroup, oneMore}
 use Rattle.rules.specs.Sound.{Sound}
 use Rattle.rules.specs.Unseen.{SameButFrames}
-use Rattle.rules.proofs.Steps.SoundLaws.{SameFlags, flags-refl, flags-trans}
-use Rattle.rules.proofs.Steps.NodeLaws.{group-same, group-other, within}
-use Rattle.rules.proofs.Steps.PagingLaws.{Repaged, pages-waiting, runner-repaged}
+use Rattle.rules.proofs.Steps.SoundLaws.{SameFlags, flags-trans}
+use Rattle.rules.proofs.Steps.NodeLaws.{group-same, group-other}
+use Rattle.rules.proofs.Steps.PagingLaws.{Repaged, pages-waiting}
 use Rattle.rules.proofs.Steps.StoreLaws.{head-good, store-sound, store-own, store-other, store-flags}
 use Rattle.rules.proofs.Steps.SettlingLaws.{store-running, queue-stored, timer-stored}
 

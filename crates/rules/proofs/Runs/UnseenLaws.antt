@@ -1,26 +1,25 @@
 -- Where pages are shows in no report: on two nodes that are alike, perhaps of builds that differ in how many pages are frames, every operation
 -- is refused alike or acts alike, and so every run from power-on reports the same. Assumes nothing.
-use Prim.Native.Nat.{ℕ, zero, suc, pred, _+_, _-_, _≤_, _<_}
+use Prim.Native.Nat.{ℕ, zero, suc, _+_, _-_, _≤_}
 use mathlib.Core.Path.{_≡_, refl, sym, subst, ap, _∙_}
 use mathlib.Core.Logic.{_≢_}
-use mathlib.Core.Bool.{Bool, true, false, true≢false, cond, not, _&&_, _||_}
+use mathlib.Core.Bool.{Bool, true, false, true≢false, cond, _||_}
 use mathlib.Core.List.{List, [], _∷_, _++_}
 use native.Mathlib.Decide.{ℕ-discrete}
 use native.Mathlib.Omega.{arith}
 use lib.Dec.{ltb, leb, eqb}
-use lib.ListN.{length, drop, getD}
-use borrow.Author.Tests.{ltb-true, ltb-false, eqb-true, eqb-false, eq-eqb, ne-eqb}
+use lib.ListN.{length, drop}
+use borrow.Author.Tests.{ltb-true, ltb-false, eq-eqb}
 use Rattle.rules.specs.Lists.{isEmpty}
-use Rattle.rules.specs.Build.{Build, Sensible, pageCount, groupCount, wordLimit}
-use Rattle.rules.specs.Node.{Message, Frame, Buffer, Group, Node, powerOn, emptyGroup, groupOf, withRunning, withTimer, withQueue, withFree, withPaging, withGroup, withFlags, withBuffer, withDescriptor, buffered, waiting, line}
+use Rattle.rules.specs.Build.{Build, pageCount, groupCount, wordLimit}
+use Rattle.rules.specs.Node.{Message, Frame, Buffer, Group, Node, powerOn, groupOf, withRunning, withTimer, withQueue, withFree, withPaging, withGroup, withFlags, withDescriptor, buffered, waiting}
 use Rattle.rules.specs.Frames.{Stock, freeFirst, useUp, removeFirst, withStock, pledges}
 use Rattle.rules.specs.Operation.{Request, poll, peek, dispose, beginAtomic, endAtomic, describe, launch}
-use Rattle.rules.specs.Operation.{Operation, arrive, schedule, tick, user, unknown, Report, accepted, badGroup, badWords, queueFull, noFrames, nobodyRuns, noTrap, disposeExtend, atomicityExtend}
-use Rattle.rules.specs.Paging.{runnerResident}
+use Rattle.rules.specs.Operation.{Operation, arrive, schedule, tick, user, unknown, accepted, badGroup, badWords, queueFull, noFrames, nobodyRuns, noTrap, disposeExtend, atomicityExtend}
 use Rattle.rules.specs.Refusal.{queued, refuseArrive, refusePeek, refuseDispose, refuseEnd, refuseDescribe, refuseLaunch, refuseRequest, refusal}
-use Rattle.rules.specs.Settling.{settle, drain, calls, upcall, upcallGroup}
+use Rattle.rules.specs.Settling.{settle, drain, calls, upcall}
 use Rattle.rules.specs.Step.{Effect, Stepped, valued, scheduled, timedOut, ticks, firstLength, firstWord, withoutFirst, removed, flagged, disposed, extending, described, launched, serve, act, finish, step}
-use Rattle.rules.specs.Run.{Input, Event, Played, asked, play, run}
+use Rattle.rules.specs.Run.{Input, asked, play, run}
 use Rattle.rules.specs.Sound.{Sound}
 use Rattle.rules.specs.Unseen.{SameButFrames, PagingUnseen}
 use Rattle.rules.specs.Valid.{Valid}
@@ -28,12 +27,12 @@ use Rattle.rules.proofs.Steps.SoundLaws.{flags-refl, flags-trans, valid
 use Rattle.rules.proofs.Steps.FrameLaws.{removed-first}
 use Rattle.rules.proofs.Steps.NodeLaws.{stock-same, stock-other, within, group-good, restocked-flags}
 use Rattle.rules.proofs.Steps.PagingLaws.{runner-repaged, runner-sound}
-use Rattle.rules.proofs.Steps.SettlingLaws.{settle-sound, drain-sound}
+use Rattle.rules.proofs.Steps.SettlingLaws.{settle-sound}
 use Rattle.rules.proofs.Steps.LineLaws.{removed-running}
 use Rattle.rules.proofs.Steps.TickLaws.{ticks-idle, ticks-counted, ticks-timeout}
 use Rattle.rules.proofs.Steps.ActLaws.{removed-sound, user-accepted}
-use Rattle.rules.proofs.Steps.StepLaws.{calls-group, act-sound, step-accepted, step-refused, step-valid, power-on-valid, power-on-group}
-use Rattle.rules.proofs.Runs.AlikeLaws.{Alike, AlikeGroup, AlikeMoved, paged-alike, alike-queue, alike-timer, alike-running, alike-group, alike-line, alike-pledges, alike-settled, alike-drained, runner-alike, runner-line, runner-buffered, alike-calls, alike-named, flags-sym}
+use Rattle.rules.proofs.Steps.StepLaws.{calls-group, act-sound, step-accepted, step-refused, step-valid, power-on-valid}
+use Rattle.rules.proofs.Runs.AlikeLaws.{Alike, AlikeGroup, paged-alike, alike-queue, alike-timer, alike-running, alike-group, alike-pledges, alike-settled, alike-drained, runner-alike, runner-line, runner-buffered, alike-calls, alike-named, flags-sym}
 
 -- what two operations did is alike
 record AlikeEffect (e f : Effect) : Type 0 where

@@ -30,11 +30,6 @@ module _ {A : Type 0} (P : A → Type 0) where
   every-unmap f [] e = tt
   every-unmap f (x ∷ xs) e = (e .0, every-unmap f xs (e .1))
 
-  -- and back
-  pub every-remap : {B : Type 0} (f : B → A) (xs : List B) → Every (λ x. P (f x)) xs → Every P (map f xs)
-  every-remap f [] e = tt
-  every-remap f (x ∷ xs) e = (e .0, every-remap f xs (e .1))
-
   -- of many lists joined
   pub every-concat : {B : Type 0} (f : B → List A) (xs : List B) → Every P (concatMap f xs) ↔ Every (λ x. Every P (f x)) xs
   every-concat f [] = Iff·rfl

@@ -5,24 +5,23 @@
 use Prim.Native.Nat.{ℕ, zero, suc, pred, _+_, _*_, _/_, _≤_, _<_}
 use mathlib.Core.Path.{_≡_, refl, sym, subst, ap, _∙_}
 use mathlib.Core.Logic.{_≢_}
-use mathlib.Core.Bool.{Bool, true, false, true≢false, cond, not, _&&_, and-eq-true-iff}
+use mathlib.Core.Bool.{Bool, true, false, true≢false, cond, not, and-eq-true-iff}
 use mathlib.Core.List.{List, [], _∷_, _++_, map, map-append}
-use native.Mathlib.Nat.{div-lt-iff-lt-mul, le-of-eq}
+use native.Mathlib.Nat.{div-lt-iff-lt-mul}
 use native.Mathlib.Decide.{ℕ-discrete}
 use native.Mathlib.Omega.{arith}
 use lib.Dec.{ltb, eqb}
 use lib.ListN.{length, getD, length-append, length-map, List·getD-map}
 use borrow.Author.Tests.{ltb-true, ltb-false, lt-ltb, eqb-true, eqb-false, eq-eqb, ne-eqb, not-true, not-false}
-use Rattle.rules.specs.Lists.{Every, filter, isEmpty, concatMap, countOf}
+use Rattle.rules.specs.Lists.{Every, filter, concatMap, countOf}
 use Rattle.rules.specs.Build.{Build, pageCount, groupCount}
 use Rattle.rules.specs.Node.{Message, Frame, Group, Paging, Node, emptyGroup, groupOf, withTimer, withQueue, withFree, withPaging, withGroups, withBuffer, buffered, waiting, inBuffer, inQueue, line}
 use Rattle.rules.specs.Frames.{without, pledge, pledges}
-use Rattle.rules.specs.Paging.{framesOf, placesOf, leaving, inFrame, traded, tradedIn, trading, more, standsFirst, spared, victim, sendOut, freed, exchange, bringIn, resident, nextPage, prepared, firstResident, runnerResident}
-use Rattle.rules.specs.Settling.{mayStay, calls}
-use Rattle.rules.specs.Valid.{GoodFrame, GoodBuffer, GoodGroup, IsSwap, FirstInFrame, frameList, frameNumber, frameNumbers, frameOrder}
+use Rattle.rules.specs.Paging.{framesOf, leaving, inFrame, traded, tradedIn, trading, standsFirst, spared, victim, sendOut, freed, exchange, bringIn, resident, nextPage, prepared, firstResident, runnerResident}
+use Rattle.rules.specs.Valid.{GoodFrame, GoodGroup, IsSwap, FirstInFrame, frameList, frameNumber, frameNumbers, frameOrder}
 use Rattle.rules.specs.Sound.{Sound, Listed}
 use Rattle.rules.proofs.Steps.SoundLaws.{SameFlags}
-use Rattle.rules.proofs.Steps.EveryLaws.{every-append, every-mapped, every-unmap, every-getD}
+use Rattle.rules.proofs.Steps.EveryLaws.{every-append, every-mapped}
 use Rattle.rules.proofs.Steps.ListLaws.{filter-pass, filter-fail, weight, weight-append, hit, count-weight, count-append, count-at, count-part, once-bounded}
 use Rattle.rules.proofs.Steps.FrameLaws.{weight-left}
 use Rattle.rules.proofs.Steps.NodeLaws.{filled, group-good, within, numbers-weight, order-weight, weights-count, weights-length}
@@ -154,11 +153,6 @@ module _ {n′ n : Node} (r : Repaged n′ n) (g : ℕ) where
   pub repaged-line : line n′ g ≡ line n g
   unfolding line inBuffer inQueue waiting
   repaged-line = let e = r .groups g in rw (e .used, e .count, e .places, r .queue)
-
-  -- its messages in the queue
-  pub repaged-queued : inQueue n′ g ≡ inQueue n g
-  unfolding inQueue
-  repaged-queued = rw (r .queue)
 
   -- its pledge
   pub repaged-pledge : (b : Build) → pledge b n′ g ≡ pledge b n g

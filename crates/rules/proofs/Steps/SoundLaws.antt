@@ -8,9 +8,9 @@ use lib.ListN.{length, length-append, length-map}
 use Rattle.rules.specs.Lists.{isEmpty, concatMap}
 use Rattle.rules.specs.Build.{Build, Sensible, paper01, groupCount}
 use Rattle.rules.specs.Node.{Group, Node, groupOf, line}
-use Rattle.rules.specs.Valid.{GoodGroup, Valid, frameNumber, frameList, idle, frameNumbers, frameOrder}
+use Rattle.rules.specs.Valid.{GoodGroup, IsSwap, Valid, frameNumber, frameList, idle, frameNumbers, frameOrder}
 use Rattle.rules.specs.Sound.{Sound, WholeGroup, Mapped}
-use Rattle.rules.proofs.Steps.EveryLaws.{every-mono, every-remap}
+use Rattle.rules.proofs.Steps.EveryLaws.{every-mono, every-mapped}
 use Rattle.rules.proofs.Steps.ListLaws.{below-once, below-length, below-append, below-none}
 
 -- paper 01's build makes sense
@@ -76,7 +76,7 @@ module _ {b : Build} {n : Node} (s : Sound b n) where
       let lists = concatMap frameList (n .groups) in
       let once = below-once (b .frames) (frameNumbers n) (λ f l. s .frames-once f (omega arith)) in
       let parts = simp (map-append, below-append) at once in
-      let none = below-none (b .frames) swap (every-remap (λ f. b .frames ≤ f) frameNumber (n .paging .swap) (s .swap-numbers)) in
+      let none = below-none (b .frames) swap (every-mapped (IsSwap b) (λ f. b .frames ≤ f) frameNumber (λ x h. h) (n .paging .swap) (s .swap-numbers)) in
       let sizes = simp (map-append, length-append, length-map) at (s .frames-all) in
       omega (arith, below-length (b .frames) free, length-map (n .free) frameNumber, below-length (b .frames) lists)
 

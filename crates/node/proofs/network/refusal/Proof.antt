@@ -13,7 +13,6 @@ use Rattle.rules.specs.Node.{Message, Node}
 use Rattle.rules.specs.Valid.{GoodMessage}
 use Rattle.rules.proofs.Steps.SoundLaws.{valid-sound}
 use Rattle.memory.specs.Holds.{Holds}
-use Rattle.memory.proofs.PieceLaws.{holds-pieces}
 use Rattle.memory.proofs.queue.QueueLaws.{queue-count}
 use Rattle.node.proofs.network.ArriveLaws.{above-pages, full-queue, high-group, many-words, no-group, no-words, within-pages}
 use Rattle.node.proofs.network.PledgeLaws.{early}

@@ -21,7 +21,7 @@ pub record AnyStep (m : List ℕ) (op : Operation) : Type 0 where
   -- "each refusal has its number": the first of the table that is due, 0 where none is
   pub answered : FirstDue m (nodeAt m) op (stepMemory m op .report .answer)
   -- "1: memory too short, or not a node. Tested first, at every step"
-  pub too-short : length m < 8088 → stepMemory m op .report .answer ≡ 1
+  pub too-short : length m < 8104 → stepMemory m op .report .answer ≡ 1
   pub not-node : (stepMemory m op .report .answer ≡ 1) ↔ (isMemory m ≡ false)
   -- "2: unknown operation or unreadable line. Next after 1, before all below."
   pub unreadable : isMemory m ≡ true → (stepMemory m op .report .answer ≡ 2) ↔ (op ≡ unknown)
@@ -32,7 +32,7 @@ pub record AnyStep (m : List ℕ) (op : Operation) : Type 0 where
       → stepMemory m op ≡ record { report = onlyNumber (stepMemory m op .report .answer); memory = m }
   -- "Memory past the node's size is never touched."
   pub length-kept : length (stepMemory m op .memory) ≡ length m
-  pub rest-kept : drop 8088 (stepMemory m op .memory) ≡ drop 8088 m
+  pub rest-kept : drop 8104 (stepMemory m op .memory) ≡ drop 8104 m
   -- a node stays a node: a keeper who hands back what the last step left never meets 1
   pub stays-node : isMemory m ≡ true → isMemory (stepMemory m op .memory) ≡ true
 
@@ -44,7 +44,7 @@ powerOnWords =
     ++ (32 ∷ replicate 160 0)
     ++ (0 ∷ 1 ∷ 2 ∷ 3 ∷ 4 ∷ 5 ∷ 6 ∷ 7 ∷ 8 ∷ 9 ∷ 10 ∷ 11 ∷ 12 ∷ 13 ∷ 14 ∷ 15 ∷ [])
     ++ (16 ∷ 17 ∷ 18 ∷ 19 ∷ 20 ∷ 21 ∷ 22 ∷ 23 ∷ 24 ∷ 25 ∷ 26 ∷ 27 ∷ 28 ∷ 29 ∷ 30 ∷ 31 ∷ [])
-    ++ replicate 7792 0
+    ++ replicate 7808 0
     ++ (64 ∷ replicate 3 0)
     ++ (32 ∷ 33 ∷ 34 ∷ 35 ∷ 36 ∷ 37 ∷ 38 ∷ 39 ∷ 40 ∷ 41 ∷ 42 ∷ 43 ∷ 44 ∷ 45 ∷ 46 ∷ 47 ∷ [])
     ++ (48 ∷ 49 ∷ 50 ∷ 51 ∷ 52 ∷ 53 ∷ 54 ∷ 55 ∷ 56 ∷ 57 ∷ 58 ∷ 59 ∷ 60 ∷ 61 ∷ 62 ∷ 63 ∷ [])
@@ -54,9 +54,9 @@ powerOnWords =
 
 -- what holds of power-on on any memory: "power-on tests only the size"
 pub record AnyPowerOn (m : List ℕ) : Type 0 where
-  pub long-enough : 8088 ≤ length m → powerOnMemory m ≡ record { report = onlyNumber 0; memory = powerOnWords ++ drop 8088 m }
-  pub too-short : length m < 8088 → powerOnMemory m ≡ record { report = onlyNumber 1; memory = m }
-  pub makes-node : 8088 ≤ length m → isMemory (powerOnMemory m .memory) ≡ true
+  pub long-enough : 8104 ≤ length m → powerOnMemory m ≡ record { report = onlyNumber 0; memory = powerOnWords ++ drop 8104 m }
+  pub too-short : length m < 8104 → powerOnMemory m ≡ record { report = onlyNumber 1; memory = m }
+  pub makes-node : 8104 ≤ length m → isMemory (powerOnMemory m .memory) ≡ true
 
 -- the whole of demand 1
 pub record DemandOne : Type 0 where

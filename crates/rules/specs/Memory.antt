@@ -39,13 +39,13 @@ queueStride = 10
 abbrev pub freeAt : ℕ
 freeAt = 164
 
--- the groups: 8 records of 110 words, and what stands where in one
+-- the groups: 8 records of 112 words, and what stands where in one
 abbrev pub groupsAt : ℕ
 groupsAt = 196
 
 -- the words of one record
 abbrev pub groupStride : ℕ
-groupStride = 110
+groupStride = 112
 
 -- the flag atomic
 abbrev pub atomicOffset : ℕ
@@ -55,33 +55,41 @@ atomicOffset = 0
 abbrev pub pendingOffset : ℕ
 pendingOffset = 1
 
+-- the flag force
+abbrev pub forceOffset : ℕ
+forceOffset = 2
+
+-- the flag revoked
+abbrev pub revokedOffset : ℕ
+revokedOffset = 3
+
 -- h
 abbrev pub usedOffset : ℕ
-usedOffset = 2
+usedOffset = 4
 
 -- n
 abbrev pub countOffset : ℕ
-countOffset = 3
+countOffset = 5
 
 -- how many pages are in the list
 abbrev pub heldOffset : ℕ
-heldOffset = 4
+heldOffset = 6
 
 -- how many words are in the descriptor
 abbrev pub describedOffset : ℕ
-describedOffset = 5
+describedOffset = 7
 
 -- the descriptor's eight words
 abbrev pub descriptorOffset : ℕ
-descriptorOffset = 6
+descriptorOffset = 8
 
 -- the list's 96 numbers: those below 32 are frames, the others swap pages, 32 for the first
 abbrev pub listOffset : ℕ
-listOffset = 14
+listOffset = 16
 
 -- the 32 frames and behind them the 64 swap pages: each has eight places, and each place a kept length and eight words
 abbrev pub framesAt : ℕ
-framesAt = 1076
+framesAt = 1092
 
 -- the words of one place
 abbrev pub placeStride : ℕ
@@ -93,35 +101,35 @@ frameStride = 72
 
 -- swap space and the order of entry
 abbrev pub pagingAt : ℕ
-pagingAt = 7988
+pagingAt = 8004
 
 -- how many swap pages are in the swap line
 abbrev pub swapCountAt : ℕ
-swapCountAt = 7988
+swapCountAt = 8004
 
 -- how many frames are in the order of entry
 abbrev pub enteredCountAt : ℕ
-enteredCountAt = 7989
+enteredCountAt = 8005
 
 -- pages sent out
 abbrev pub outAt : ℕ
-outAt = 7990
+outAt = 8006
 
 -- pages brought in
 abbrev pub broughtAt : ℕ
-broughtAt = 7991
+broughtAt = 8007
 
 -- the swap line: 64 numbers
 abbrev pub swapAt : ℕ
-swapAt = 7992
+swapAt = 8008
 
 -- the order of entry: 32 numbers
 abbrev pub enteredAt : ℕ
-enteredAt = 8056
+enteredAt = 8072
 
 -- the size of a node
 abbrev pub size : ℕ
-size = 8088
+size = 8104
 
 -- where the frame or swap page with number f stands
 unfoldable pub frameAddress : ℕ → ℕ
@@ -159,6 +167,8 @@ unfoldable pub groupWords : Group → List ℕ
 groupWords G =
     flagWord (G .atomic)
     ∷ flagWord (G .pending)
+    ∷ flagWord (G .force)
+    ∷ flagWord (G .revoked)
     ∷ G .buffer .used
     ∷ G .buffer .count
     ∷ length (G .buffer .frames)
@@ -261,6 +271,8 @@ groupAt m a =
     record {
       atomic = flagAt m (a + atomicOffset);
       pending = flagAt m (a + pendingOffset);
+      force = flagAt m (a + forceOffset);
+      revoked = flagAt m (a + revokedOffset);
       buffer = bufferAt m a;
       descriptor = wordsAt m (a + descriptorOffset) (word m (a + describedOffset));
     }

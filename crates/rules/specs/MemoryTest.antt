@@ -6,11 +6,11 @@ use lib.Dec.{eqb, leb}
 use lib.ListN.{length, take, drop}
 use Rattle.rules.specs.Lists.{all, passes, isEmpty, upFrom}
 use Rattle.rules.specs.Build.{paper01, pageCount, groupCount, wordLimit}
-use Rattle.rules.specs.Node.{Node, powerOn, buffered, line}
+use Rattle.rules.specs.Node.{Node, powerOn, bufferHolds, line}
 use Rattle.rules.specs.Operation.{Operation, Report, allZero, notNode, refused}
 use Rattle.rules.specs.Valid.{isNode}
 use Rattle.rules.specs.Step.{step}
-use Rattle.rules.specs.Memory.{queuedAt, freeCountAt, queueAt, queueStride, freeAt, atomicOffset, pendingOffset, usedOffset, heldOffset, describedOffset, descriptorOffset, listOffset, placeStride, swapCountAt, enteredCountAt, outAt, broughtAt, swapAt, enteredAt, size}
+use Rattle.rules.specs.Memory.{queuedAt, freeCountAt, queueAt, queueStride, freeAt, atomicOffset, pendingOffset, forceOffset, revokedOffset, usedOffset, heldOffset, describedOffset, descriptorOffset, listOffset, placeStride, swapCountAt, enteredCountAt, outAt, broughtAt, swapAt, enteredAt, size}
 use Rattle.rules.specs.Memory.{words, word, wordsAt, frameAddress, groupAddress, nodeAt}
 
 -- the k words from address a on are 0
@@ -37,7 +37,10 @@ countsInBounds m =
 
 -- "flags are 0 or 1": those of one group
 unfoldable pub groupFlags : List ℕ → ℕ → Bool
-groupFlags m g = leb (word m (groupAddress g + atomicOffset)) 1 && leb (word m (groupAddress g + pendingOffset)) 1
+groupFlags m g =
+    leb (word m (groupAddress g + atomicOffset)) 1
+    && (leb (word m (groupAddress g + pendingOffset)) 1
+    && (leb (word m (groupAddress g + forceOffset)) 1 && leb (word m (groupAddress g + revokedOffset)) 1))
 
 -- "flags are 0 or 1"
 unfoldable pub flagsAreFlags : List ℕ → Bool
@@ -139,7 +142,7 @@ pub record Part : Type 0 where
 abbrev pub emptyPart : Part
 emptyPart = record { start = 0; len = 0 }
 
--- where the first message of group g is kept while it is buffered: in its first page, behind the used-up places
+-- where the first message of group g is kept while its buffer holds one: in its first page, behind the used-up places
 unfoldable pub firstPlace : List ℕ → ℕ → ℕ
 firstPlace m g =
     frameAddress (word m (groupAddress g + listOffset)) + placeStride * word m (groupAddress g + usedOffset)
@@ -156,7 +159,7 @@ queuePart m = record { start = queueAt + 2; len = word m (queueAt + 1) }
 unfoldable pub runnerPart : List ℕ → Node → Part
 runnerPart m n =
     cond (eqb (n .running) 0 || isEmpty (line n (n .running))) emptyPart
-    (cond (buffered n (n .running)) (bufferPart m (n .running)) (queuePart m))
+    (cond (bufferHolds n (n .running)) (bufferPart m (n .running)) (queuePart m))
 
 -- "the words of the head message as a part of the lent memory .. , an empty part if .. the memory is no node"
 unfoldable pub headPart : List ℕ → Part

@@ -2,11 +2,11 @@
 -- them back, so no two parts of a node name the same storage. Swap pages are numbered behind the frames, so that one number says where a
 -- page is. Assumes nothing.
 use Prim.Native.Nat.{ℕ, pred}
-use mathlib.Core.Bool.{Bool, false}
+use mathlib.Core.Bool.{Bool, false, not, _&&_, _||_}
 use mathlib.Core.List.{List, [], _++_, map}
 use lib.Dec.{ltb, eqb}
 use lib.ListN.{length, take, drop, getD, set, replicate}
-use Rattle.rules.specs.Lists.{filter, upFrom, pad}
+use Rattle.rules.specs.Lists.{filter, isEmpty, upFrom, pad}
 use Rattle.rules.specs.Build.{Build, groupCount, wordLimit}
 
 -- "A message has a group and 1 to 8 words of 32 bits."
@@ -37,10 +37,14 @@ pub record Buffer : Type 0 where
   -- the places of its pages, one page's after the other's
   pub places : List Place
 
--- "Each group has a flag atomic, a flag pending and a descriptor of 0 to 8 words."
+-- "Each group has a flag atomic, a flag pending and a descriptor of 0 to 8 words."; order 2's flags are force and revoked
 pub record Group : Type 0 where
   pub atomic : Bool
   pub pending : Bool
+  -- ticks count with an empty queue too while the group runs
+  pub force : Bool
+  -- a timeout came while it ran, and no N since
+  pub revoked : Bool
   pub buffer : Buffer
   pub descriptor : List ℕ
 
@@ -76,7 +80,7 @@ emptyBuffer = record { used = 0; count = 0; frames = []; places = [] }
 
 -- a group with nothing waiting, its flags off and its descriptor empty
 abbrev pub emptyGroup : Group
-emptyGroup = record { atomic = false; pending = false; buffer = emptyBuffer; descriptor = [] }
+emptyGroup = record { atomic = false; pending = false; force = false; revoked = false; buffer = emptyBuffer; descriptor = [] }
 
 -- no page is in a frame, none was sent out or brought in, and every swap page is free, the first in front
 unfoldable pub emptyPaging : Build → Paging
@@ -138,21 +142,42 @@ withGroup g G n =
 unfoldable pub withEntered : List ℕ → Paging → Paging
 withEntered es s = record { swap = s .swap; entered = es; out = s .out; brought = s .brought }
 
--- the group with these flags
+-- the group with these of the flags atomic and pending
 unfoldable pub withFlags : Bool → Bool → Group → Group
-withFlags a p G = record { atomic = a; pending = p; buffer = G .buffer; descriptor = G .descriptor }
+withFlags a p G =
+    record { atomic = a; pending = p; force = G .force; revoked = G .revoked; buffer = G .buffer; descriptor = G .descriptor }
+
+-- with these of the timer's flags, force and revoked
+unfoldable pub withTimerFlags : Bool → Bool → Group → Group
+withTimerFlags f r G =
+    record { atomic = G .atomic; pending = G .pending; force = f; revoked = r; buffer = G .buffer; descriptor = G .descriptor }
 
 -- with this buffer
 unfoldable pub withBuffer : Buffer → Group → Group
-withBuffer v G = record { atomic = G .atomic; pending = G .pending; buffer = v; descriptor = G .descriptor }
+withBuffer v G =
+    record { atomic = G .atomic; pending = G .pending; force = G .force; revoked = G .revoked; buffer = v; descriptor = G .descriptor }
 
 -- with this descriptor
 unfoldable pub withDescriptor : List ℕ → Group → Group
-withDescriptor d G = record { atomic = G .atomic; pending = G .pending; buffer = G .buffer; descriptor = d }
+withDescriptor d G =
+    record { atomic = G .atomic; pending = G .pending; force = G .force; revoked = G .revoked; buffer = G .buffer; descriptor = d }
 
--- "A group is buffered while n is above 0, else direct."
+-- messages of group g wait in its buffer: "n is above 0"
+unfoldable pub bufferHolds : Node → ℕ → Bool
+bufferHolds n g = ltb 0 (groupOf n g .buffer .count)
+
+-- "A group is buffered while n is above 0, else direct."; a revoked one "counts as buffered, empty or not"
 unfoldable pub buffered : Node → ℕ → Bool
-buffered n g = ltb 0 (groupOf n g .buffer .count)
+buffered n g = bufferHolds n g || groupOf n g .revoked
+
+-- "With force on and the group running and atomic"
+unfoldable pub forced : Node → Bool
+forced n = not (eqb (n .running) 0) && (groupOf n (n .running) .force && groupOf n (n .running) .atomic)
+
+-- what makes a tick count: "A tick adds 1 to the timer if the hardware queue isn't empty."; with the timer forced "ticks count with an empty
+-- queue too"
+unfoldable pub timerRuns : Node → Bool
+timerRuns n = not (isEmpty (n .queue)) || forced n
 
 -- a message as it is kept in a place: its length, its words, 0 past them
 unfoldable pub placeOf : Message → Place

@@ -1,5 +1,6 @@
 -- The operations, the answers, the traps and the report. Assumes nothing.
 use Prim.Native.Nat.{ℕ}
+use mathlib.Core.Bool.{Bool}
 use mathlib.Core.List.{List, []}
 
 -- the user's operations, M to L: they "belong to the running group"
@@ -10,8 +11,8 @@ pub data Request : Type 0 where
   peek : ℕ → Request
   -- D
   dispose : Request
-  -- B
-  beginAtomic : Request
+  -- B: whether it turns force on
+  beginAtomic : Bool → Request
   -- N
   endAtomic : Request
   -- P: word

@@ -115,12 +115,12 @@ ownLaunch g (w ∷ d) p k =
       line = withOwnDescriptor [] p;
     })
 
--- M to L
+-- M to L; B is heard alike with and without force
 unfoldable pub own : ℕ → PrivateLine → Request → Served
 own g p poll = unchanged (ownPoll (p .messages)) p
 own g p (peek i) = unchanged (ownPeek (p .messages) i) p
 own g p dispose = ownDispose (p .messages) p
-own g p beginAtomic = unchanged (says 0) (withAtomic true p)
+own g p (beginAtomic force) = unchanged (says 0) (withAtomic true p)
 own g p endAtomic = ownEnd p
 own g p (describe w) = ownDescribe p w
 own g p (launch k) = ownLaunch g (p .descriptor) p k

@@ -62,7 +62,7 @@ unfoldable pub refuseRequest : Node → Request → ℕ
 refuseRequest n poll = accepted
 refuseRequest n (peek i) = refusePeek (line n (n .running)) i
 refuseRequest n dispose = refuseDispose (line n (n .running))
-refuseRequest n beginAtomic = accepted
+refuseRequest n (beginAtomic force) = accepted
 refuseRequest n endAtomic = refuseEnd (groupOf n (n .running) .pending)
 refuseRequest n (describe w) = refuseDescribe (groupOf n (n .running) .descriptor)
 refuseRequest n (launch k) = refuseLaunch (groupOf n (n .running) .descriptor) k

@@ -1,5 +1,5 @@
 -- "The script and its listing": a line read to an operation, a report written as a line, and the listing of a script. Assumes nothing.
-use Prim.Native.Nat.{ℕ, suc}
+use Prim.Native.Nat.{ℕ, zero, suc}
 use Prim.Native.Char.{code}
 use mathlib.Core.Bool.{Bool, true, false, cond, not, _&&_}
 use mathlib.Core.List.{List, [], _∷_, _++_}
@@ -61,6 +61,17 @@ unfoldable pub noField : Operation → List ℕ → Operation
 noField op [] = op
 noField op (x ∷ ns) = unknown
 
+-- the operation in which the field is 0 or 1, and tells no or yes
+unfoldable pub yesOrNo : (Bool → Operation) → ℕ → Operation
+yesOrNo f zero = f false
+yesOrNo f (suc zero) = f true
+yesOrNo f (suc (suc x)) = unknown
+
+-- B: "any other field on B is 2"
+unfoldable pub forceField : (Bool → Operation) → List ℕ → Operation
+forceField f [] = f false
+forceField f (x ∷ ns) = oneField (yesOrNo f) (x ∷ ns)
+
 -- the letter of each operation, with how its fields are read
 pub record Letter : Type 0 where
   pub letter : ℕ
@@ -75,7 +86,7 @@ letters =
     ∷ record { letter = code "M"; fields = noField (user poll) }
     ∷ record { letter = code "E"; fields = oneField (λ x. user (peek x)) }
     ∷ record { letter = code "D"; fields = noField (user dispose) }
-    ∷ record { letter = code "B"; fields = noField (user beginAtomic) }
+    ∷ record { letter = code "B"; fields = forceField (λ f. user (beginAtomic f)) }
     ∷ record { letter = code "N"; fields = noField (user endAtomic) }
     ∷ record { letter = code "P"; fields = oneField (λ x. user (describe x)) }
     ∷ record { letter = code "L"; fields = oneField (λ x. user (launch x)) }

@@ -5,7 +5,7 @@ use mathlib.Core.List.{List, [], _∷_}
 use lib.Dec.{eqb}
 use Rattle.rules.specs.Lists.{isEmpty}
 use Rattle.rules.specs.Build.{Build}
-use Rattle.rules.specs.Node.{Message, Node, groupOf, withTimer, withQueue, withGroup, withFlags, buffered, line}
+use Rattle.rules.specs.Node.{Message, Node, groupOf, withTimer, withQueue, withGroup, withFlags, buffered, timerRuns, line}
 use Rattle.rules.specs.Paging.{store}
 
 -- a node, and how many messages were taken from the hardware queue to buffers on the way to it
@@ -30,9 +30,9 @@ pass b (m ∷ q) n =
       | false ↦ oneMore (pass b q (store b m n))
     ]
 
--- "If the queue is then empty, the timer is 0."
+-- "If the queue is then empty, the timer is 0."; with the timer forced "settling leaves the timer"
 unfoldable pub restTimer : Node → Node
-restTimer n = cond (isEmpty (n .queue)) (withTimer 0 n) n
+restTimer n = cond (timerRuns n) n (withTimer 0 n)
 
 -- "while the hardware queue has a head that is not the running group's, or whose group is buffered"
 unfoldable pub settle : Build → Node → Moved

@@ -1,11 +1,11 @@
 -- What each accepted operation does, and a step: refused, or acted, settled and called up. Assumes nothing.
 use Prim.Native.Nat.{ℕ, zero, suc, _+_}
-use mathlib.Core.Bool.{Bool, true, false, cond}
+use mathlib.Core.Bool.{Bool, true, false, cond, _||_}
 use mathlib.Core.List.{List, [], _∷_, _++_}
 use lib.Dec.{eqb}
 use lib.ListN.{length, getD}
 use Rattle.rules.specs.Build.{Build}
-use Rattle.rules.specs.Node.{Message, Node, groupOf, withRunning, withTimer, withQueue, withGroup, withFlags, withDescriptor, buffered, isOf, line}
+use Rattle.rules.specs.Node.{Message, Node, groupOf, withRunning, withTimer, withQueue, withGroup, withFlags, withTimerFlags, withDescriptor, bufferHolds, buffered, timerRuns, isOf, line}
 use Rattle.rules.specs.Frames.{removeFirst, withStock}
 use Rattle.rules.specs.Paging.{runnerResident}
 use Rattle.rules.specs.Operation.{Request, poll, peek, dispose, beginAtomic, endAtomic, describe, launch}
@@ -30,11 +30,19 @@ valued x n = record { node = n; value = x; trap = noTrap; moved = 0; sent = [] }
 unfoldable pub scheduled : ℕ → Node → Node
 scheduled g n = cond (eqb g (n .running)) n (withTimer 0 (withRunning g n))
 
+-- the running group's flags force and revoked set
+unfoldable pub timerFlagged : Bool → Bool → Node → Node
+timerFlagged f r n = withGroup (n .running) (withTimerFlags f r (groupOf n (n .running))) n
+
+-- "At any timeout the running group is marked revoked": where a tick counts, a group runs
+unfoldable pub revoke : Node → Node
+revoke n = timerFlagged (groupOf n (n .running) .force) true n
+
 -- "At 256: timeout, the whole hardware queue moves to the buffers, timer 0"
 unfoldable pub timedOut : Build → Effect → Effect
 timedOut b e =
     record {
-      node = withTimer 0 (drain b (e .node .queue) (e .node));
+      node = withTimer 0 (revoke (drain b (e .node .queue) (e .node)));
       value = e .value;
       trap = timeoutTrap;
       moved = e .moved + length (e .node .queue);
@@ -52,15 +60,14 @@ counted e =
       sent = e .sent;
     }
 
--- "A tick adds 1 to the timer if the hardware queue isn't empty."
-unfoldable pub oneTick : Build → List Message → Effect → Effect
-oneTick b [] e = e
-oneTick b (m ∷ q) e = cond (eqb (e .node .timer + 1) (b .timeout)) (timedOut b e) (counted e)
+-- a tick counts where the timer runs, and is else nothing
+unfoldable pub oneTick : Build → Effect → Effect
+oneTick b e = cond (timerRuns (e .node)) (cond (eqb (e .node .timer + 1) (b .timeout)) (timedOut b e) (counted e)) e
 
 -- T: "n single ticks"
 unfoldable pub ticks : Build → ℕ → Effect → Effect
 ticks b zero e = e
-ticks b (suc k) e = ticks b k (oneTick b (e .node .queue) e)
+ticks b (suc k) e = ticks b k (oneTick b e)
 
 -- M: "words in the line's first message, 0 if none"
 unfoldable pub firstLength : List Message → ℕ
@@ -77,10 +84,10 @@ unfoldable pub withoutFirst : ℕ → List Message → List Message
 withoutFirst g [] = []
 withoutFirst g (m ∷ q) = elim (isOf g m) [ true ↦ q | false ↦ m ∷ withoutFirst g q ]
 
--- D: "removes that message"; it is in the buffer where the group is buffered, else in the hardware queue
+-- D: "removes that message"; it is in the buffer where that holds one, else in the hardware queue
 unfoldable pub removed : Build → Node → Node
 removed b n =
-    cond (buffered n (n .running))
+    cond (bufferHolds n (n .running))
     (withStock (n .running) (removeFirst b (n .free) (n .paging .entered) (groupOf n (n .running) .buffer)) n)
     (withQueue (withoutFirst (n .running) (n .queue)) n)
 
@@ -91,6 +98,16 @@ flagged a p n = withGroup (n .running) (withFlags a p (groupOf n (n .running))) 
 -- D: "pending off; timer 0"
 unfoldable pub disposed : Build → Node → Node
 disposed b n = withTimer 0 (flagged (groupOf n (n .running) .atomic) false (removed b n))
+
+-- B: "atomic on. Not counted"; "`B,1` turns force on, `B,0` and plain `B` leave it"
+unfoldable pub begun : Bool → Node → Node
+begun force n =
+    let G = groupOf n (n .running) in
+    timerFlagged (force || G .force) (G .revoked) (flagged true (G .pending) n)
+
+-- N: "atomic off"; "an accepted N turns [force] off", and a group is revoked "until its next accepted N"
+unfoldable pub ended : Node → Node
+ended n = flagged false (groupOf n (n .running) .pending) (timerFlagged false false n)
 
 -- a trap that is reported where the running group is buffered as the operation begins
 unfoldable pub extending : ℕ → Node → Node → Effect
@@ -111,8 +128,8 @@ unfoldable pub serve : Build → Node → Request → Effect
 serve b n poll = valued (firstLength (line n (n .running))) n
 serve b n (peek i) = valued (firstWord (line n (n .running)) i) n
 serve b n dispose = extending disposeExtend n (disposed b n)
-serve b n beginAtomic = valued 0 (flagged true (groupOf n (n .running) .pending) n)
-serve b n endAtomic = extending atomicityExtend n (flagged false (groupOf n (n .running) .pending) n)
+serve b n (beginAtomic force) = valued 0 (begun force n)
+serve b n endAtomic = extending atomicityExtend n (ended n)
 serve b n (describe w) =
     let d = groupOf n (n .running) .descriptor ++ (w ∷ []) in
     valued (length d) (described d n)

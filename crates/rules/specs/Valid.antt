@@ -8,7 +8,7 @@ use lib.Dec.{eqb, leb, ltb}
 use lib.ListN.{length, drop}
 use Rattle.rules.specs.Lists.{Every, all, passes, isEmpty, concatMap, countOf, upFrom}
 use Rattle.rules.specs.Build.{Build, Sensible, pageCount, groupCount, wordLimit}
-use Rattle.rules.specs.Node.{Message, Place, Frame, Buffer, Group, Node, groupOf, waiting, line}
+use Rattle.rules.specs.Node.{Message, Place, Frame, Buffer, Group, Node, groupOf, forced, waiting, line}
 use Rattle.rules.specs.Frames.{ceilDiv, pledges}
 use Rattle.rules.specs.Paging.{inFrame}
 use Rattle.rules.specs.Settling.{mayStay}
@@ -68,11 +68,13 @@ pub record GoodBuffer (b : Build) (v : Buffer) : Type 0 where
   pub places : Every GoodPlace (v .places)
   pub waiting-good : Every GoodWaiting (waiting v)
 
--- a group: its buffer, "a descriptor of 0 to 8 words", and "pending only with atomic"
+-- a group: its buffer, "a descriptor of 0 to 8 words", "pending only with atomic", and "force and revoked stand only with atomic"
 pub record GoodGroup (b : Build) (G : Group) : Type 0 where
   pub buffer : GoodBuffer b (G .buffer)
   pub descriptor : length (G .descriptor) ≤ wordLimit
   pub pending-atomic : G .pending ≡ true → G .atomic ≡ true
+  pub force-atomic : G .force ≡ true → G .atomic ≡ true
+  pub revoked-atomic : G .revoked ≡ true → G .atomic ≡ true
 
 -- a swap page is numbered behind the frames
 abbrev pub IsSwap : Build → Frame → Type 0
@@ -111,8 +113,8 @@ pub record Valid (b : Build) (n : Node) : Type 0 where
   pub running-atomic : 1 ≤ n .running → isEmpty (line n (n .running)) ≡ false → groupOf n (n .running) .atomic ≡ true
   -- "if the hardware queue isn't empty its head is the running group's, and that group is direct"
   pub head-stays : (m : Message) (q : List Message) → n .queue ≡ m ∷ q → mayStay n m ≡ true
-  -- "if it is empty the timer is 0"
-  pub timer-idle : n .queue ≡ [] → n .timer ≡ 0
+  -- "an empty queue has a timer above 0 only where the running group has force on"
+  pub timer-idle : n .queue ≡ [] → forced n ≡ false → n .timer ≡ 0
   -- "a running group's first page is in a frame"
   pub runner-resident : 1 ≤ n .running → FirstInFrame b (groupOf n (n .running) .buffer .frames)
 
@@ -142,9 +144,13 @@ isBuffer b v =
     && (eqb (length (v .frames)) (ceilDiv (v .used + v .count) (b .perFrame))
     && (eqb (length (v .places)) (length (v .frames) * b .perFrame) && (all isPlace (v .places) && all isWaiting (waiting v)))))
 
+-- "pending only with atomic"; "force and revoked stand only with atomic"
+unfoldable pub onlyAtomic : Group → Bool
+onlyAtomic G = G .atomic || not (G .pending || (G .force || G .revoked))
+
 -- GoodGroup
 unfoldable pub isGroup : Build → Group → Bool
-isGroup b G = isBuffer b (G .buffer) && (leb (length (G .descriptor)) wordLimit && (not (G .pending) || G .atomic))
+isGroup b G = isBuffer b (G .buffer) && (leb (length (G .descriptor)) wordLimit && onlyAtomic G)
 
 -- "pending only with .. a line not empty"
 unfoldable pub pendingHasLine : Node → ℕ → Bool
@@ -154,9 +160,9 @@ pendingHasLine n g = not (groupOf n g .pending) || not (isEmpty (line n g))
 unfoldable pub runnerAtomic : Node → Bool
 runnerAtomic n = eqb (n .running) 0 || (isEmpty (line n (n .running)) || groupOf n (n .running) .atomic)
 
--- "its head is the running group's, and that group is direct; if it is empty the timer is 0"
+-- "its head is the running group's, and that group is direct"; "an empty queue has a timer above 0 only where the running group has force on"
 unfoldable pub headStays : List Message → Node → Bool
-headStays [] n = eqb (n .timer) 0
+headStays [] n = eqb (n .timer) 0 || forced n
 headStays (m ∷ q) n = mayStay n m
 
 -- IsSwap

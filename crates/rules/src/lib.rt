@@ -11,7 +11,8 @@ pub enum Operation {
     Poll,
     Peek(u32),
     Dispose,
-    BeginAtomic,
+    // whether it turns force on
+    BeginAtomic(bool),
     EndAtomic,
     Describe(u32),
     Launch(u32),

@@ -1,10 +1,10 @@
 -- What arrivals and disposals do to lines. An arrival joins the end of one line. A disposal takes the first of the running group's line: the
--- buffer's first where the group is buffered, else the queue's head, which is the group's since a head that stays is the running group's.
+-- buffer's first where that holds a message, else the queue's head, which is the group's since a head that stays is the running group's.
 -- Assumes nothing.
 use Prim.Native.Nat.{ℕ, _≤_}
 use mathlib.Core.Path.{_≡_, refl, sym, ap, _∙_}
 use mathlib.Core.Logic.{_≢_}
-use mathlib.Core.Bool.{Bool, true, false, true≢false, cond, not, and-eq-true-iff}
+use mathlib.Core.Bool.{Bool, true, false, true≢false, cond, not, _||_, and-eq-true-iff}
 use mathlib.Core.List.{List, [], _∷_, _++_, map, append-assoc}
 use native.Mathlib.Decide.{ℕ-discrete}
 use native.Mathlib.Omega.{arith}
@@ -14,7 +14,7 @@ use lib.Seq.{drop-append-le}
 use borrow.Author.Tests.{ltb-true, ltb-false, eqb-true, eq-eqb, ne-eqb, not-true}
 use Rattle.rules.specs.Lists.{filter, isEmpty}
 use Rattle.rules.specs.Build.{Build, groupCount}
-use Rattle.rules.specs.Node.{Message, Place, Buffer, Node, groupOf, withQueue, withFree, withPaging, withGroup, buffered, messageOf, waiting, isOf, inBuffer, inQueue, line}
+use Rattle.rules.specs.Node.{Message, Place, Buffer, Node, groupOf, withQueue, withFree, withPaging, withGroup, bufferHolds, buffered, messageOf, waiting, isOf, inBuffer, inQueue, line}
 use Rattle.rules.specs.Frames.{removeFirst, withStock}
 use Rattle.rules.specs.Refusal.{queued}
 use Rattle.rules.specs.Settling.{mayStay}
@@ -49,15 +49,24 @@ buffered-empty {b} {n} v yes′ = go (n .queue) refl
     go [] e = e
     go (m ∷ q) e = let direct = stays n m (v .head-stays m q e) .1 in cc
 
--- a direct group has its line in the queue
-pub direct-line : (n : Node) (g : ℕ) → buffered n g ≡ false → line n g ≡ inQueue n g
-unfolding buffered line inBuffer waiting
+-- a direct group's buffer holds nothing
+pub direct-holds : (n : Node) (g : ℕ) → buffered n g ≡ false → bufferHolds n g ≡ false
+unfolding buffered
+direct-holds n g direct = go (bufferHolds n g) refl
+  where
+    go : (t : Bool) → bufferHolds n g ≡ t → bufferHolds n g ≡ false
+    go true e = absurd (true≢false (sym (ap (λ (u : Bool). u || groupOf n g .revoked) e) ∙ direct))
+    go false e = e
+
+-- a group whose buffer holds nothing has its line in the queue
+pub direct-line : (n : Node) (g : ℕ) → bufferHolds n g ≡ false → line n g ≡ inQueue n g
+unfolding bufferHolds line inBuffer waiting
 direct-line n g direct =
     let none : groupOf n g .buffer .count ≡ 0 = omega (arith, ltb-false 0 (groupOf n g .buffer .count) direct) in
     rw none
 
--- a running group that is direct and has a line has the queue's head
-pub direct-head : {b : Build} {n : Node} → Valid b n → buffered n (n .running) ≡ false → isEmpty (line n (n .running)) ≡ false
+-- a running group whose buffer holds nothing and that has a line has the queue's head
+pub direct-head : {b : Build} {n : Node} → Valid b n → bufferHolds n (n .running) ≡ false → isEmpty (line n (n .running)) ≡ false
     → (m : Message) × (q : List Message) × (n .queue ≡ m ∷ q) × (m .group ≡ n .running)
 unfolding inQueue
 direct-head {b} {n} v direct some = go (n .queue) refl (rw (direct-line n (n .running) direct) at some)
@@ -67,14 +76,24 @@ direct-head {b} {n} v direct some = go (n .queue) refl (rw (direct-line n (n .ru
     go [] e some = absurd (true≢false some)
     go (m ∷ q) e some = (m, q, e, stays n m (v .head-stays m q e) .0)
 
--- a disposal takes from the buffer where the running group is buffered, else from the queue
-pub removed-cases : (P : Node → Type 0) (b : Build) (n : Node)
-    → (buffered n (n .running) ≡ true → P (withStock (n .running) (removeFirst b (n .free) (n .paging .entered) (groupOf n (n .running) .buffer)) n))
-    → (buffered n (n .running) ≡ false → P (withQueue (withoutFirst (n .running) (n .queue)) n)) → P (removed b n)
-unfolding removed
-removed-cases P b n buffer queue = go (buffered n (n .running)) refl
+-- a running group with a line is buffered exactly where its buffer holds a message
+pub line-buffered : {b : Build} {n : Node} → Valid b n → isEmpty (line n (n .running)) ≡ false → buffered n (n .running) ≡ bufferHolds n (n .running)
+line-buffered {b} {n} v some = go (bufferHolds n (n .running)) refl
   where
-    go : (t : Bool) → buffered n (n .running) ≡ t
+    go : (t : Bool) → bufferHolds n (n .running) ≡ t → buffered n (n .running) ≡ bufferHolds n (n .running)
+    go true e = unfold buffered in rw e
+    go false e =
+        let head = direct-head v e some in
+        stays n (head .0) (v .head-stays (head .0) (head .1) (head .2)) .1 ∙ sym e
+
+-- a disposal takes from the buffer where that holds a message, else from the queue
+pub removed-cases : (P : Node → Type 0) (b : Build) (n : Node)
+    → (bufferHolds n (n .running) ≡ true → P (withStock (n .running) (removeFirst b (n .free) (n .paging .entered) (groupOf n (n .running) .buffer)) n))
+    → (bufferHolds n (n .running) ≡ false → P (withQueue (withoutFirst (n .running) (n .queue)) n)) → P (removed b n)
+unfolding removed
+removed-cases P b n buffer queue = go (bufferHolds n (n .running)) refl
+  where
+    go : (t : Bool) → bufferHolds n (n .running) ≡ t
         → P (cond t
         (withStock (n .running) (removeFirst b (n .free) (n .paging .entered) (groupOf n (n .running) .buffer)) n)
         (withQueue (withoutFirst (n .running) (n .queue)) n))
@@ -93,8 +112,8 @@ pub removed-running : (b : Build) (n : Node) → removed b n .running ≡ n .run
 unfolding withStock withGroup withFree withPaging withQueue
 removed-running b n = removed-cases (λ r. r .running ≡ n .running) b n (λ e. refl) (λ e. refl)
 
--- the queue stays where the group is buffered
-pub removed-queue-buffered : (b : Build) (n : Node) → buffered n (n .running) ≡ true → removed b n .queue ≡ n .queue
+-- the queue stays where the buffer holds a message
+pub removed-queue-buffered : (b : Build) (n : Node) → bufferHolds n (n .running) ≡ true → removed b n .queue ≡ n .queue
 unfolding withStock withGroup withFree withPaging
 removed-queue-buffered b n e = removed-cases (λ r. r .queue ≡ n .queue) b n (λ e′. refl) (λ e′. cc)
 
@@ -145,15 +164,15 @@ without-running {b} {n} v = go (n .queue) refl
     go [] same = refl
     go (m ∷ q) same = without-head (n .running) m q (stays n m (v .head-stays m q same) .0)
 
--- so the queue loses its head where the group is direct
-pub removed-queue-direct : {b : Build} {n : Node} → Valid b n → buffered n (n .running) ≡ false → removed b n .queue ≡ drop 1 (n .queue)
+-- so the queue loses its head where the buffer holds none
+pub removed-queue-direct : {b : Build} {n : Node} → Valid b n → bufferHolds n (n .running) ≡ false → removed b n .queue ≡ drop 1 (n .queue)
 unfolding withQueue
 removed-queue-direct {b} {n} v e = removed-cases (λ r. r .queue ≡ drop 1 (n .queue)) b n (λ e′. cc) (λ e′. without-running v)
 
 -- a group without its buffer's first message has lost the first of its line
-unbuffered-line : {b : Build} {n : Node} → Sound b n → (g : ℕ) → 1 ≤ g → g ≤ groupCount → buffered n g ≡ true
+unbuffered-line : {b : Build} {n : Node} → Sound b n → (g : ℕ) → 1 ≤ g → g ≤ groupCount → bufferHolds n g ≡ true
     → line (withStock g (removeFirst b (n .free) (n .paging .entered) (groupOf n g .buffer)) n) g ≡ drop 1 (line n g)
-unfolding line buffered inBuffer inQueue waiting withStock withGroup withFree withPaging
+unfolding line bufferHolds inBuffer inQueue waiting withStock withGroup withFree withPaging
 unbuffered-line {b} {n} s g low high e =
     let w = groupOf n g .buffer in
     let queue = filter (isOf g) (n .queue) in
@@ -166,9 +185,9 @@ unbuffered-line {b} {n} s g low high e =
     ∙ ap (λ (ms : List Message). ms ++ queue) (map-drop (messageOf g) 1 (waiting w))
     ∙ sym (drop-append-le 1 (map (messageOf g) (waiting w)) queue front)
 
--- so has a direct one without its first message in the queue
-unqueued-line : (n : Node) (g : ℕ) → buffered n g ≡ false → line (withQueue (withoutFirst g (n .queue)) n) g ≡ drop 1 (line n g)
-unfolding withQueue inQueue buffered groupOf
+-- so has one with no buffer without its first message in the queue
+unqueued-line : (n : Node) (g : ℕ) → bufferHolds n g ≡ false → line (withQueue (withoutFirst g (n .queue)) n) g ≡ drop 1 (line n g)
+unfolding withQueue inQueue bufferHolds groupOf
 unqueued-line n g e =
     direct-line (withQueue (withoutFirst g (n .queue)) n) g e ∙ without-own g (n .queue) ∙ ap (drop 1) (sym (direct-line n g e))
 

@@ -215,7 +215,13 @@ unfolding withStock withBuffer
 restocked {b} {n} s g low high t q traded order queue-good shorter fewer =
     let G = group-good s g low high in
     let good : GoodGroup b (withBuffer (t .buffer) (groupOf n g)) =
-    record { buffer = traded .good; descriptor = G .descriptor; pending-atomic = G .pending-atomic } in
+    record {
+      buffer = traded .good;
+      descriptor = G .descriptor;
+      pending-atomic = G .pending-atomic;
+      force-atomic = G .force-atomic;
+      revoked-atomic = G .revoked-atomic;
+    } in
     changed s g low high (withBuffer (t .buffer) (groupOf n g)) (t .free) (t .entered) q good (traded .free-good) queue-good shorter (traded .weights) order fewer
 
 -- flags and descriptors stay
@@ -227,6 +233,8 @@ restocked-flags g t n h =
     record {
       atomic = kept (λ K. K .atomic) n′ g G refl h;
       pending = kept (λ K. K .pending) n′ g G refl h;
+      force = kept (λ K. K .force) n′ g G refl h;
+      revoked = kept (λ K. K .revoked) n′ g G refl h;
       descriptor = kept (λ K. K .descriptor) n′ g G refl h;
     }
 

@@ -15,12 +15,12 @@ use lib.ListN.{length, getD, length-append, length-map, List·getD-map}
 use borrow.Author.Tests.{ltb-true, ltb-false, lt-ltb, eqb-true, eqb-false, eq-eqb, ne-eqb, not-true, not-false}
 use Rattle.rules.specs.Lists.{Every, filter, concatMap, countOf}
 use Rattle.rules.specs.Build.{Build, pageCount, groupCount}
-use Rattle.rules.specs.Node.{Message, Frame, Group, Paging, Node, emptyGroup, groupOf, withTimer, withQueue, withFree, withPaging, withGroups, withBuffer, buffered, waiting, inBuffer, inQueue, line}
+use Rattle.rules.specs.Node.{Message, Frame, Group, Paging, Node, emptyGroup, groupOf, withTimer, withQueue, withFree, withPaging, withGroups, withBuffer, bufferHolds, buffered, waiting, inBuffer, inQueue, line}
 use Rattle.rules.specs.Frames.{without, pledge, pledges}
 use Rattle.rules.specs.Paging.{framesOf, leaving, inFrame, traded, tradedIn, trading, standsFirst, spared, victim, sendOut, freed, exchange, bringIn, resident, nextPage, prepared, firstResident, runnerResident}
 use Rattle.rules.specs.Valid.{GoodFrame, GoodGroup, IsSwap, FirstInFrame, frameList, frameNumber, frameNumbers, frameOrder}
 use Rattle.rules.specs.Sound.{Sound, Listed}
-use Rattle.rules.proofs.Steps.SoundLaws.{SameFlags}
+use Rattle.rules.proofs.Steps.SoundLaws.{SameFlags, flags-refl}
 use Rattle.rules.proofs.Steps.EveryLaws.{every-append, every-mapped}
 use Rattle.rules.proofs.Steps.ListLaws.{filter-pass, filter-fail, weight, weight-append, hit, count-weight, count-append, count-at, count-part, once-bounded}
 use Rattle.rules.proofs.Steps.FrameLaws.{weight-left}
@@ -45,7 +45,7 @@ pub record Repaged (n′ n : Node) : Type 0 where
   pub groups : (g : ℕ) → SamePages (groupOf n′ g) (groupOf n g)
 
 pub pages-refl : {G : Group} → SamePages G G
-pages-refl = record { flags = record { atomic = refl; pending = refl; descriptor = refl }; used = refl; count = refl; places = refl }
+pages-refl = record { flags = flags-refl; used = refl; count = refl; places = refl }
 
 -- so their waiting messages are the same
 pub pages-waiting : {G H : Group} → SamePages G H → waiting (G .buffer) ≡ waiting (H .buffer)
@@ -67,7 +67,13 @@ traded-group p q n g = List·getD-map (tradedIn p q) (n .groups) (pred g) emptyG
 
 traded-pages : (p q : ℕ) (G : Group) → SamePages (tradedIn p q G) G
 unfolding tradedIn withBuffer
-traded-pages p q G = record { flags = record { atomic = refl; pending = refl; descriptor = refl }; used = refl; count = refl; places = refl }
+traded-pages p q G =
+    record {
+      flags = record { atomic = refl; pending = refl; force = refl; revoked = refl; descriptor = refl };
+      used = refl;
+      count = refl;
+      places = refl;
+    }
 
 -- a node that differs from another in the free line and in paging, with two numbers traded
 repaged-trading : (p q : ℕ) (fs : List Frame) (s : Paging) (n : Node) → Repaged (trading p q (withFree fs (withPaging s n))) n
@@ -161,8 +167,8 @@ module _ {n′ n : Node} (r : Repaged n′ n) (g : ℕ) where
 
   -- whether it is buffered
   pub repaged-buffered : buffered n′ g ≡ buffered n g
-  unfolding buffered
-  repaged-buffered = rw (r .groups g .count)
+  unfolding buffered bufferHolds
+  repaged-buffered = let e = r .groups g in rw (e .count, e .flags .revoked)
 
 -- the sum of all pledges
 pub repaged-pledges : {n′ n : Node} → Repaged n′ n → (b : Build) → pledges b n′ ≡ pledges b n
@@ -369,6 +375,8 @@ traded-good p q G g =
       };
       descriptor = g .descriptor;
       pending-atomic = g .pending-atomic;
+      force-atomic = g .force-atomic;
+      revoked-atomic = g .revoked-atomic;
     }
 
 -- a sound node with other lines and an other order of entry, and two numbers traded, is sound where numbers stand as often as they did

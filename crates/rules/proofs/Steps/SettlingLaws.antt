@@ -2,14 +2,14 @@
 -- group are as they were. Of the queue they take the front: moved counts what is gone, and a head that is left may stay. Assumes nothing.
 use Prim.Native.Nat.{ℕ, _+_, _≤_}
 use mathlib.Core.Path.{_≡_, refl, sym, ap, _∙_}
-use mathlib.Core.Bool.{Bool, true, false, cond}
+use mathlib.Core.Bool.{Bool, true, false, true≢false, cond}
 use mathlib.Core.List.{List, [], _∷_}
 use native.Mathlib.Nat.{zero-add}
 use native.Mathlib.Omega.{arith}
 use lib.ListN.{length, drop}
 use Rattle.rules.specs.Lists.{isEmpty}
 use Rattle.rules.specs.Build.{Build, groupCount}
-use Rattle.rules.specs.Node.{Message, Group, Node, groupOf, withTimer, withQueue, withFree, withPaging, withGroup, withFlags, buffered, inBuffer, inQueue, line}
+use Rattle.rules.specs.Node.{Message, Group, Node, groupOf, withTimer, withQueue, withFree, withPaging, withGroup, withFlags, bufferHolds, buffered, forced, timerRuns, inBuffer, inQueue, line}
 use Rattle.rules.specs.Frames.{put, withStock}
 use Rattle.rules.specs.Paging.{store}
 use Rattle.rules.specs.Settling.{Moved, oneMore, mayStay, pass, restTimer, settle, drain, calls, upcall}
@@ -83,7 +83,7 @@ pass-moved b =
 
 -- a head that it leaves may stay
 pub pass-head : (b : Build) (q : List Message) (n : Node) (m : Message) (r : List Message) → pass b q n .node .queue ≡ m ∷ r → mayStay (pass b q n .node) m ≡ true
-unfolding oneMore withQueue mayStay buffered groupOf
+unfolding oneMore withQueue mayStay buffered bufferHolds groupOf
 pass-head b =
     pass-induct b (λ q n s. (m : Message) (r : List Message) → s .node .queue ≡ m ∷ r → mayStay (s .node) m ≡ true)
     (λ n m r none. cc) (λ m q n e m′ r same. let first : m ≡ m′ = cc in rw first at e) (λ m q n s later. later)
@@ -93,49 +93,72 @@ pub timer-line : (t : ℕ) (n : Node) (g : ℕ) → line (withTimer t n) g ≡ l
 unfolding withTimer line inBuffer inQueue groupOf
 timer-line t n g = refl
 
--- a timer put to rest, or not
-rest-cases : (P : Node → Type 0) (n : Node) → P (withTimer 0 n) → P n → P (restTimer n)
-unfolding restTimer
-rest-cases P n rest runs = go (isEmpty (n .queue))
+-- the timer runs where a message is queued; with an empty queue where it is forced
+pub runs-queued : (n : Node) → isEmpty (n .queue) ≡ false → timerRuns n ≡ true
+unfolding timerRuns
+runs-queued n some = rw some
+
+pub runs-empty : (n : Node) → n .queue ≡ [] → timerRuns n ≡ forced n
+unfolding timerRuns
+runs-empty n none = rw none
+
+-- it runs for one of these two causes
+pub runs-cases : (P : Type 0) (n : Node) → timerRuns n ≡ true → (isEmpty (n .queue) ≡ false → P) → (forced n ≡ true → P) → P
+unfolding timerRuns
+runs-cases P n runs queued force = go (isEmpty (n .queue)) refl
   where
-    go : (t : Bool) → P (cond t (withTimer 0 n) n)
-    go true = rest
-    go false = runs
+    go : (t : Bool) → isEmpty (n .queue) ≡ t → P
+    go true e = force (sym (rw e) ∙ runs)
+    go false e = queued e
+
+-- whether it is forced hangs on the running group's flags alone
+pub forced-same : (n k : Node) → n .running ≡ k .running → ((g : ℕ) → SameFlags (groupOf n g) (groupOf k g)) → forced n ≡ forced k
+unfolding forced
+forced-same n k same flags = let f = flags (n .running) in rw (f .force, f .atomic, same)
+
+-- a timer put to rest, or not
+rest-cases : (P : Node → Type 0) (n : Node) → (timerRuns n ≡ false → P (withTimer 0 n)) → (timerRuns n ≡ true → P n) → P (restTimer n)
+unfolding restTimer
+rest-cases P n rest runs = go (timerRuns n) refl
+  where
+    go : (t : Bool) → timerRuns n ≡ t → P (cond t n (withTimer 0 n))
+    go true e = runs e
+    go false e = rest e
 
 -- settling leaves a sound node
 pub settle-sound : {b : Build} {n : Node} → Sound b n → Sound b (settle b n .node)
 unfolding settle withQueue
 settle-sound {b} {n} s =
     let p = pass-sound (n .queue) n s in
-    rest-cases (Sound b) (pass b (n .queue) n .node) (sound-timer p 0 (omega (arith, s .timer-bound))) p
+    rest-cases (Sound b) (pass b (n .queue) n .node) (λ e. sound-timer p 0 (omega (arith, s .timer-bound))) (λ e. p)
 
 -- every line
 pub settle-line : {b : Build} {n : Node} → Sound b n → (g : ℕ) → 1 ≤ g → g ≤ groupCount → line (settle b n .node) g ≡ line n g
 unfolding settle withQueue
 settle-line {b} {n} s g low high =
     let p = pass b (n .queue) n .node in
-    rest-cases (λ r. line r g ≡ line p g) p (timer-line 0 p g) refl ∙ pass-line (n .queue) n s g low high
+    rest-cases (λ r. line r g ≡ line p g) p (λ e. timer-line 0 p g) (λ e. refl) ∙ pass-line (n .queue) n s g low high
 
 -- flags and descriptors
 pub settle-flags : (b : Build) (n : Node) (g : ℕ) → SameFlags (groupOf (settle b n .node) g) (groupOf n g)
 unfolding settle groupOf withTimer
 settle-flags b n g =
     let p = pass-flags b (n .queue) n g in
-    rest-cases (λ r. SameFlags (groupOf r g) (groupOf n g)) (pass b (n .queue) n .node) p p
+    rest-cases (λ r. SameFlags (groupOf r g) (groupOf n g)) (pass b (n .queue) n .node) (λ e. p) (λ e. p)
 
 -- and the running group
 pub settle-running : (b : Build) (n : Node) → settle b n .node .running ≡ n .running
 unfolding settle withTimer
 settle-running b n =
     let p = pass-running b (n .queue) n in
-    rest-cases (λ r. r .running ≡ n .running) (pass b (n .queue) n .node) p p
+    rest-cases (λ r. r .running ≡ n .running) (pass b (n .queue) n .node) (λ e. p) (λ e. p)
 
 -- of the queue it leaves what it has not moved
 settled-queue : (b : Build) (n : Node) → settle b n .node .queue ≡ pass b (n .queue) n .node .queue
 unfolding settle withTimer
 settled-queue b n =
     let p = pass b (n .queue) n .node in
-    rest-cases (λ r. r .queue ≡ p .queue) p refl refl
+    rest-cases (λ r. r .queue ≡ p .queue) p (λ e. refl) (λ e. refl)
 
 pub settle-queue : (b : Build) (n : Node) → settle b n .node .queue ≡ drop (settle b n .moved) (n .queue)
 unfolding settle
@@ -147,19 +170,18 @@ settle-moved b n = ap (λ (q : List Message). pass b (n .queue) n .moved + lengt
 
 -- a head that it leaves may stay
 pub settle-head : (b : Build) (n : Node) (m : Message) (q : List Message) → settle b n .node .queue ≡ m ∷ q → mayStay (settle b n .node) m ≡ true
-unfolding settle withTimer mayStay buffered groupOf
+unfolding settle withTimer mayStay buffered bufferHolds groupOf
 settle-head b n m q head =
     let stays = pass-head b (n .queue) n m q (sym (settled-queue b n) ∙ head) in
-    rest-cases (λ r. mayStay r m ≡ true) (pass b (n .queue) n .node) stays stays
+    rest-cases (λ r. mayStay r m ≡ true) (pass b (n .queue) n .node) (λ e. stays) (λ e. stays)
 
--- where it leaves none the timer is 0
-pub settle-timer : (b : Build) (n : Node) → settle b n .node .queue ≡ [] → settle b n .node .timer ≡ 0
-unfolding settle restTimer withTimer
-settle-timer b n none =
-    let p = pass b (n .queue) n .node in
-    ap (λ (q : List Message). cond (isEmpty q) (withTimer 0 p) p .timer) (sym (settled-queue b n) ∙ none)
+-- where the timer does not run then, it is 0
+pub settle-timer : (b : Build) (n : Node) → timerRuns (settle b n .node) ≡ false → settle b n .node .timer ≡ 0
+unfolding settle withTimer
+settle-timer b n =
+    rest-cases (λ r. timerRuns r ≡ false → r .timer ≡ 0) (pass b (n .queue) n .node) (λ e rests. refl) (λ e rests. absurd (true≢false (sym e ∙ rests)))
 
--- where a message stays, the timer stays too
+-- where it runs, it is left
 pub timer-stored : (b : Build) (m : Message) (n : Node) → store b m n .timer ≡ n .timer
 unfolding store put withStock withGroup withFree withPaging
 timer-stored b m n = prepared-repaged b (m .group) n .timer
@@ -168,11 +190,11 @@ pass-timer : (b : Build) (q : List Message) (n : Node) → pass b q n .node .tim
 unfolding oneMore withQueue
 pass-timer b = pass-induct b (λ q n s. s .node .timer ≡ n .timer) (λ n. refl) (λ m q n e. refl) (λ m q n s later. later ∙ timer-stored b m n)
 
-pub settle-keeps : (b : Build) (n : Node) → isEmpty (settle b n .node .queue) ≡ false → settle b n .node .timer ≡ n .timer
-unfolding settle restTimer withTimer
-settle-keeps b n some =
-    let p = pass b (n .queue) n .node in
-    ap (λ (t : Bool). cond t (withTimer 0 p) p .timer) (ap isEmpty (sym (settled-queue b n)) ∙ some) ∙ pass-timer b (n .queue) n
+pub settle-keeps : (b : Build) (n : Node) → timerRuns (settle b n .node) ≡ true → settle b n .node .timer ≡ n .timer
+unfolding settle withTimer timerRuns forced groupOf
+settle-keeps b n =
+    rest-cases (λ r. timerRuns r ≡ true → r .timer ≡ n .timer) (pass b (n .queue) n .node)
+    (λ e runs. absurd (true≢false (sym runs ∙ e))) (λ e runs. pass-timer b (n .queue) n)
 
 -- a head that may not stay moves
 pub pass-moves : (b : Build) (m : Message) (q : List Message) (n : Node) → mayStay n m ≡ false → 1 ≤ pass b (m ∷ q) n .moved

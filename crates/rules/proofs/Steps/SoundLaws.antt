@@ -26,14 +26,23 @@ PendingLines n = (g : ℕ) → 1 ≤ g → g ≤ groupCount → groupOf n g .pen
 pub record SameFlags (G H : Group) : Type 0 where
   pub atomic : G .atomic ≡ H .atomic
   pub pending : G .pending ≡ H .pending
+  pub force : G .force ≡ H .force
+  pub revoked : G .revoked ≡ H .revoked
   pub descriptor : G .descriptor ≡ H .descriptor
 
 -- they are passed on
 pub flags-trans : {F G H : Group} → SameFlags F G → SameFlags G H → SameFlags F H
-flags-trans p q = record { atomic = p .atomic ∙ q .atomic; pending = p .pending ∙ q .pending; descriptor = p .descriptor ∙ q .descriptor }
+flags-trans p q =
+    record {
+      atomic = p .atomic ∙ q .atomic;
+      pending = p .pending ∙ q .pending;
+      force = p .force ∙ q .force;
+      revoked = p .revoked ∙ q .revoked;
+      descriptor = p .descriptor ∙ q .descriptor;
+    }
 
 pub flags-refl : {G : Group} → SameFlags G G
-flags-refl = record { atomic = refl; pending = refl; descriptor = refl }
+flags-refl = record { atomic = refl; pending = refl; force = refl; revoked = refl; descriptor = refl }
 
 -- a node is sound
 pub valid-sound : {b : Build} {n : Node} → Valid b n → Sound b n

@@ -50,7 +50,7 @@ settled {b} {n} y =
 
 -- whether a head may stay does not hang on where pages are
 pub repaged-stays : {n′ n : Node} → Repaged n′ n → (m : Message) → mayStay n′ m ≡ mayStay n m
-unfolding mayStay buffered groupOf
+unfolding mayStay
 repaged-stays r m = rw (r .running, repaged-buffered r (m .group))
 
 -- the running group's first page brought in leaves it settled

@@ -12,13 +12,13 @@ use lib.ListN.{length, drop, length-append, length-drop}
 use borrow.Author.Tests.{ltb-true, ltb-false, leb-false, eqb-false}
 use Rattle.rules.specs.Lists.{filter, isEmpty}
 use Rattle.rules.specs.Build.{Build, pageCount, groupCount, wordLimit}
-use Rattle.rules.specs.Node.{Message, Group, Node, groupOf, withRunning, withTimer, withQueue, withFree, withPaging, withGroup, withFlags, withDescriptor, buffered, isOf, inBuffer, inQueue, line}
+use Rattle.rules.specs.Node.{Message, Group, Node, groupOf, withRunning, withTimer, withQueue, withFree, withPaging, withGroup, withFlags, withTimerFlags, withDescriptor, bufferHolds, timerRuns, isOf, inBuffer, inQueue, line}
 use Rattle.rules.specs.Frames.{pledge, Stock, removeFirst, withStock, pledges}
 use Rattle.rules.specs.Operation.{Request, poll, peek, dispose, beginAtomic, endAtomic, describe, launch}
 use Rattle.rules.specs.Operation.{Operation, arrive, schedule, tick, user, unknown, nobodyRuns}
 use Rattle.rules.specs.Refusal.{queued, refuseArrive, refuseSchedule, refuseEnd, refuseDescribe, refuseRequest, refusal}
 use Rattle.rules.specs.Settling.{drain}
-use Rattle.rules.specs.Step.{valued, scheduled, timedOut, ticks, removed, flagged, disposed, extending, described, launched, serve, act}
+use Rattle.rules.specs.Step.{valued, scheduled, timerFlagged, revoke, timedOut, ticks, removed, flagged, disposed, begun, ended, extending, described, launched, serve, act}
 use Rattle.rules.specs.Valid.{GoodMessage, GoodGroup, Valid}
 use Rattle.rules.specs.Sound.{Sound}
 use Rattle.rules.proofs.Steps.SoundLaws.{PendingLines, valid-sound}
@@ -27,19 +27,14 @@ use Rattle.rules.proofs.Steps.ListLaws.{some-length, filter-drop, some-
 use Rattle.rules.proofs.Steps.FrameLaws.{held, removed-first, removed-order}
 use Rattle.rules.proofs.Steps.NodeLaws.{filled, group-same, group-other, stock-same, stock-other, within, group-good, pledge-le, pledges-le, refronted, sound-timer, requeued, restocked, reflagged, reflagged-line}
 use Rattle.rules.proofs.Steps.PagingLaws.{first-entered}
-use Rattle.rules.proofs.Steps.SettlingLaws.{timer-line, drain-sound, drain-line, drain-flags}
-use Rattle.rules.proofs.Steps.LineLaws.{arrive-line, removed-cases, without-running, removed-other, removed-flags, removed-running}
-use Rattle.rules.proofs.Steps.TickLaws.{Ticked, idle, counting, timeout, ticked-by}
+use Rattle.rules.proofs.Steps.SettlingLaws.{timer-line, drain-sound, drain-line, drain-flags, drain-running}
+use Rattle.rules.proofs.Steps.LineLaws.{neither, arrive-line, timer-timed, removed-cases, without-running, removed-other, removed-flags, removed-running}
+use Rattle.rules.proofs.Steps.TickLaws.{timed, leftOver, left-over, Ticked, idle, counting, timeout, ticked-by}
 
 -- an answer that is 0 comes from a test that failed, and from what is asked after it
 failed : (t : Bool) (r x : ℕ) → cond t (suc r) x ≡ 0 → (t ≡ false) × (x ≡ 0)
 failed true r x e = absurd (omega arith)
 failed false r x e = (refl, e)
-
--- neither of two tests passes
-neither : (t u : Bool) → t || u ≡ false → (t ≡ false) × (u ≡ false)
-neither true u e = absurd (true≢false e)
-neither false u e = (refl, e)
 
 -- an accepted arrival keeps the bounds
 record Arrives (b : Build) (n : Node) (m : Message) : Type 0 where
@@ -110,9 +105,9 @@ stock-fewer {b} {n} s g low high t less h low′ = go (ℕ-discrete h g)
     go (no other) = rw (stock-other g h t n low low′ other) (omega arith)
 
 -- the running group's first message removed from its buffer
-unbuffered-sound : {b : Build} {n : Node} → Valid b n → 1 ≤ n .running → buffered n (n .running) ≡ true
+unbuffered-sound : {b : Build} {n : Node} → Valid b n → 1 ≤ n .running → bufferHolds n (n .running) ≡ true
     → Sound b (withStock (n .running) (removeFirst b (n .free) (n .paging .entered) (groupOf n (n .running) .buffer)) n)
-unfolding withQueue withStock withGroup withFree withPaging buffered inQueue
+unfolding withQueue withStock withGroup withFree withPaging bufferHolds inQueue
 unbuffered-sound {b} {n} v low e =
     let s = valid-sound v in
     let r = n .running in
@@ -161,6 +156,57 @@ ready-group {b} {n} y g low high G good same pending =
           reflagged-pending (y .sound) g low high G same (λ e. y .pending g low high (pending e)) (λ h low′ high′ other e. y .pending h low′ high′ e);
     }
 
+module _ {b : Build} {n : Node} (y : Ready b n) (low : 1 ≤ n .running) where
+  -- so do the running group's flags atomic and pending, where it stays atomic if it is pending, revoked or has force on
+  flagged-ready : (a p : Bool) → (p ≡ true → a ≡ true) → (p ≡ true → groupOf n (n .running) .pending ≡ true)
+      → (groupOf n (n .running) .force ≡ true → a ≡ true) → (groupOf n (n .running) .revoked ≡ true → a ≡ true) → Ready b (flagged a p n)
+  unfolding flagged withFlags
+  flagged-ready a p atomic pending force revoked =
+      let G = group-good (y .sound) (n .running) low (y .sound .running-bound) in
+      ready-group y (n .running) low (y .sound .running-bound) (withFlags a p (groupOf n (n .running)))
+      (record { buffer = G .buffer; descriptor = G .descriptor; pending-atomic = atomic; force-atomic = force; revoked-atomic = revoked }) refl pending
+
+  -- and its flags force and revoked, where it is atomic if one of them is on
+  timer-flagged-ready : (f r : Bool) → (f ≡ true → groupOf n (n .running) .atomic ≡ true) → (r ≡ true → groupOf n (n .running) .atomic ≡ true)
+      → Ready b (timerFlagged f r n)
+  unfolding timerFlagged withTimerFlags
+  timer-flagged-ready f r force revoked =
+      let G = group-good (y .sound) (n .running) low (y .sound .running-bound) in
+      ready-group y (n .running) low (y .sound .running-bound) (withTimerFlags f r (groupOf n (n .running)))
+      (record { buffer = G .buffer; descriptor = G .descriptor; pending-atomic = G .pending-atomic; force-atomic = force; revoked-atomic = revoked }) refl
+      (λ e. e)
+
+  -- the running group as it then is
+  flagged-runner : (a p : Bool) → groupOf (flagged a p n) (n .running) ≡ withFlags a p (groupOf n (n .running))
+  unfolding flagged
+  flagged-runner a p = group-same n (n .running) (withFlags a p (groupOf n (n .running))) (within (y .sound) (n .running) low (y .sound .running-bound))
+
+  timer-flagged-runner : (f r : Bool) → groupOf (timerFlagged f r n) (n .running) ≡ withTimerFlags f r (groupOf n (n .running))
+  unfolding timerFlagged
+  timer-flagged-runner f r =
+      group-same n (n .running) (withTimerFlags f r (groupOf n (n .running))) (within (y .sound) (n .running) low (y .sound .running-bound))
+
+-- B
+begun-ready : {b : Build} {n : Node} → Ready b n → 1 ≤ n .running → (force : Bool) → Ready b (begun force n)
+unfolding begun flagged withGroup withFlags
+begun-ready {b} {n} y low force =
+    let G = groupOf n (n .running) in
+    let on : groupOf (flagged true (G .pending) n) (n .running) .atomic ≡ true = ap (λ (K : Group). K .atomic) (flagged-runner y low true (G .pending)) in
+    timer-flagged-ready {n = flagged true (G .pending) n} (flagged-ready y low true (G .pending) (λ e. refl) (λ e. e) (λ e. refl) (λ e. refl)) low
+    (force || G .force) (G .revoked) (λ e. on) (λ e. on)
+
+-- N, where the group is not pending
+ended-ready : {b : Build} {n : Node} → Ready b n → 1 ≤ n .running → groupOf n (n .running) .pending ≡ false → Ready b (ended n)
+unfolding ended timerFlagged withGroup withTimerFlags
+ended-ready {b} {n} y low off =
+    let k = timerFlagged false false n in
+    let G : groupOf k (n .running) ≡ withTimerFlags false false (groupOf n (n .running)) = timer-flagged-runner y low false false in
+    let unforced : groupOf k (n .running) .force ≡ false = ap (λ (K : Group). K .force) G in
+    let unrevoked : groupOf k (n .running) .revoked ≡ false = ap (λ (K : Group). K .revoked) G in
+    let pending : groupOf k (n .running) .pending ≡ groupOf n (n .running) .pending = ap (λ (K : Group). K .pending) G in
+    flagged-ready {n = k} (timer-flagged-ready y low false false (λ e. absurd (false≢true e)) (λ e. absurd (false≢true e))) low
+    false (groupOf n (n .running) .pending) (λ e. cc) (λ e. pending ∙ e) (λ e. cc) (λ e. cc)
+
 -- an S to the one running changes nothing, and one to another gives the processor and sets the timer to 0
 pub scheduled-cases : (P : Node → Type 0) (g : ℕ) (n : Node) → (eqb g (n .running) ≡ true → P n)
     → (eqb g (n .running) ≡ false → P (withTimer 0 (withRunning g n))) → P (scheduled g n)
@@ -179,22 +225,20 @@ user-accepted n r e =
     (omega arith, runs .1)
 
 module _ {b : Build} {n : Node} (v : Valid b n) where
-  -- the running group's flags
-  flagged-ready : 1 ≤ n .running → (a p : Bool) → (p ≡ true → a ≡ true) → (p ≡ true → groupOf n (n .running) .pending ≡ true)
-      → Ready b (flagged a p n)
-  unfolding flagged withFlags
-  flagged-ready low a p atomic pending =
-      let G = group-good (valid-sound v) (n .running) low (v .running-bound) in
-      ready-group (valid-ready v) (n .running) low (v .running-bound) (withFlags a p (groupOf n (n .running)))
-      (record { buffer = G .buffer; descriptor = G .descriptor; pending-atomic = atomic }) refl pending
-
-  -- its descriptor
+  -- the running group's descriptor
   described-ready : 1 ≤ n .running → (d : List ℕ) → length d ≤ wordLimit → Ready b (described d n)
   unfolding described withDescriptor
   described-ready low d short =
       let G = group-good (valid-sound v) (n .running) low (v .running-bound) in
       ready-group (valid-ready v) (n .running) low (v .running-bound) (withDescriptor d (groupOf n (n .running)))
-      (record { buffer = G .buffer; descriptor = short; pending-atomic = G .pending-atomic }) refl (λ e. e)
+      (record {
+        buffer = G .buffer;
+        descriptor = short;
+        pending-atomic = G .pending-atomic;
+        force-atomic = G .force-atomic;
+        revoked-atomic = G .revoked-atomic;
+      })
+      refl (λ e. e)
 
   -- its first message removed
   disposed-ready : 1 ≤ n .running → Ready b (disposed b n)
@@ -205,8 +249,16 @@ module _ {b : Build} {n : Node} (v : Valid b n) where
       let low′ : 1 ≤ n′ .running = rw (removed-running b n) low in
       let G = withFlags (groupOf n (n .running) .atomic) false (groupOf n′ (n′ .running)) in
       let old = group-good s (n′ .running) low′ (s .running-bound) in
+      let same : groupOf n (n .running) .atomic ≡ groupOf n′ (n′ .running) .atomic =
+      sym (removed-flags b n (n .running) .atomic) ∙ ap (λ (g : ℕ). groupOf n′ g .atomic) (sym (removed-running b n)) in
       let good : GoodGroup b G =
-      record { buffer = old .buffer; descriptor = old .descriptor; pending-atomic = λ e. absurd (false≢true e) } in
+      record {
+        buffer = old .buffer;
+        descriptor = old .descriptor;
+        pending-atomic = λ e. absurd (false≢true e);
+        force-atomic = λ e. same ∙ old .force-atomic e;
+        revoked-atomic = λ e. same ∙ old .revoked-atomic e;
+      } in
       let others : (h : ℕ) → 1 ≤ h → h ≤ groupCount → h ≢ n′ .running → groupOf n′ h .pending ≡ true → isEmpty (line n′ h) ≡ false =
       λ h low″ high other e.
       rw (removed-other b n low h low″ (λ mine. other (mine ∙ sym (removed-running b n))))
@@ -239,15 +291,26 @@ module _ {b : Build} {n : Node} (v : Valid b n) where
             rw (drain-line (n .queue) n (valid-sound v) g low high) (v .pending-line g low high (sym (drain-flags b (n .queue) n g .pending) ∙ e));
       }
 
+  -- and the running group revoked
+  revoked-ready : timerRuns n ≡ true → Ready b (revoke (drain b (n .queue) n))
+  unfolding revoke
+  revoked-ready runs =
+      let d = drain b (n .queue) n in
+      let t = timer-timed v runs in
+      let same = drain-running b (n .queue) n in
+      let atomic : groupOf d (d .running) .atomic ≡ true = 
+      ap (λ (g : ℕ). groupOf d g .atomic) same ∙ drain-flags b (n .queue) n (n .running) .atomic ∙ t .atomic in
+      timer-flagged-ready drained-ready (rw same (t .runs)) (groupOf d (d .running) .force) true (λ e. atomic) (λ e. atomic)
+
   -- ticks
   ticks-ready : (k : ℕ) → Ready b (ticks b k (valued 0 n) .node)
-  unfolding valued timedOut
+  unfolding valued timed timedOut withTimer
   ticks-ready k = go (ticked-by v k)
     where
       go : Ticked b k n → Ready b (ticks b k (valued 0 n) .node)
       go (idle none e) = rw e (valid-ready v)
       go (counting some below e) = rw e (ready-timer (valid-ready v) (n .timer + k) below)
-      go (timeout some e) = rw e (ready-timer drained-ready 0 (omega (arith, v .timer-bound)))
+      go (timeout runs e) = rw e (ready-timer {n = revoke (drain b (n .queue) n)} (revoked-ready runs) (leftOver b k n) (left-over v k))
 
   -- an accepted request
   serve-ready : 1 ≤ n .running → (r : Request) → refuseRequest n r ≡ 0 → Ready b (serve b n r .node)
@@ -255,10 +318,9 @@ module _ {b : Build} {n : Node} (v : Valid b n) where
   serve-ready low poll e = valid-ready v
   serve-ready low (peek i) e = valid-ready v
   serve-ready low dispose e = disposed-ready low
-  serve-ready low beginAtomic e = flagged-ready low true (groupOf n (n .running) .pending) (λ p. refl) (λ p. p)
+  serve-ready low (beginAtomic force) e = begun-ready (valid-ready v) low force
   serve-ready low endAtomic e =
-      let off = failed (groupOf n (n .running) .pending) _ _ e .0 in
-      flagged-ready low false (groupOf n (n .running) .pending) (λ p. cc) (λ p. p)
+      ended-ready (valid-ready v) low (failed (groupOf n (n .running) .pending) _ _ e .0)
   serve-ready low (describe w) e =
       let d = groupOf n (n .running) .descriptor in
       let room = leb-false wordLimit (length d) (failed (leb wordLimit (length d)) _ _ e .0) in

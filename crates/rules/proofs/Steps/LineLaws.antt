@@ -2,29 +2,35 @@
 -- buffer's first where that holds a message, else the queue's head, which is the group's since a head that stays is the running group's.
 -- Assumes nothing.
 use Prim.Native.Nat.{ℕ, _≤_}
-use mathlib.Core.Path.{_≡_, refl, sym, ap, _∙_}
+use mathlib.Core.Path.{_≡_, refl, sym, subst, ap, _∙_}
 use mathlib.Core.Logic.{_≢_}
-use mathlib.Core.Bool.{Bool, true, false, true≢false, cond, not, _||_, and-eq-true-iff}
+use mathlib.Core.Bool.{Bool, true, false, true≢false, cond, not, _&&_, _||_, and-eq-true-iff}
 use mathlib.Core.List.{List, [], _∷_, _++_, map, append-assoc}
 use native.Mathlib.Decide.{ℕ-discrete}
 use native.Mathlib.Omega.{arith}
 use lib.Dec.{eqb}
 use lib.ListN.{length, drop, length-drop, length-take, length-map}
 use lib.Seq.{drop-append-le}
-use borrow.Author.Tests.{ltb-true, ltb-false, eqb-true, eq-eqb, ne-eqb, not-true}
-use Rattle.rules.specs.Lists.{filter, isEmpty}
+use borrow.Author.Tests.{ltb-true, ltb-false, eqb-true, eqb-false, eq-eqb, ne-eqb, not-true}
+use Rattle.rules.specs.Lists.{Every, filter, isEmpty}
 use Rattle.rules.specs.Build.{Build, groupCount}
-use Rattle.rules.specs.Node.{Message, Place, Buffer, Node, groupOf, withQueue, withFree, withPaging, withGroup, bufferHolds, buffered, messageOf, waiting, isOf, inBuffer, inQueue, line}
+use Rattle.rules.specs.Node.{Message, Place, Buffer, Node, groupOf, withQueue, withFree, withPaging, withGroup, bufferHolds, buffered, forced, timerRuns, messageOf, waiting, isOf, inBuffer, inQueue, line}
 use Rattle.rules.specs.Frames.{removeFirst, withStock}
 use Rattle.rules.specs.Refusal.{queued}
 use Rattle.rules.specs.Settling.{mayStay}
 use Rattle.rules.specs.Step.{withoutFirst, removed}
-use Rattle.rules.specs.Valid.{Valid}
+use Rattle.rules.specs.Valid.{GoodMessage, Valid}
 use Rattle.rules.specs.Sound.{Sound}
 use Rattle.rules.proofs.Steps.SoundLaws.{SameFlags, flags-refl, valid-sound}
 use Rattle.rules.proofs.Steps.ListLaws.{filter-pass, filter-fail, filter-tail, filter-append, map-drop}
 use Rattle.rules.proofs.Steps.FrameLaws.{fits, removed-first}
 use Rattle.rules.proofs.Steps.NodeLaws.{is-of, not-of, stock-same, stock-other, within, group-good, line-same, restocked-flags}
+use Rattle.rules.proofs.Steps.SettlingLaws.{runs-cases}
+
+-- neither of two tests passes
+pub neither : (t u : Bool) → t || u ≡ false → (t ≡ false) × (u ≡ false)
+neither true u e = absurd (true≢false e)
+neither false u e = (refl, e)
 
 -- an arrival joins the end of its group's line
 pub arrive-line : (m : Message) (n : Node) (g : ℕ) → line (queued m n) g ≡ line n g ++ filter (isOf g) (m ∷ [])
@@ -52,11 +58,7 @@ buffered-empty {b} {n} v yes′ = go (n .queue) refl
 -- a direct group's buffer holds nothing
 pub direct-holds : (n : Node) (g : ℕ) → buffered n g ≡ false → bufferHolds n g ≡ false
 unfolding buffered
-direct-holds n g direct = go (bufferHolds n g) refl
-  where
-    go : (t : Bool) → bufferHolds n g ≡ t → bufferHolds n g ≡ false
-    go true e = absurd (true≢false (sym (ap (λ (u : Bool). u || groupOf n g .revoked) e) ∙ direct))
-    go false e = e
+direct-holds n g direct = neither (bufferHolds n g) (groupOf n g .revoked) direct .0
 
 -- a group whose buffer holds nothing has its line in the queue
 pub direct-line : (n : Node) (g : ℕ) → bufferHolds n g ≡ false → line n g ≡ inQueue n g
@@ -85,6 +87,34 @@ line-buffered {b} {n} v some = go (bufferHolds n (n .running)) refl
     go false e =
         let head = direct-head v e some in
         stays n (head .0) (v .head-stays (head .0) (head .1) (head .2)) .1 ∙ sym e
+
+-- where the timer runs, a group runs, and it is atomic: the queue's head is its own, or it has force on
+pub record Timed (n : Node) : Type 0 where
+  pub runs : 1 ≤ n .running
+  pub atomic : groupOf n (n .running) .atomic ≡ true
+
+pub timer-timed : {b : Build} {n : Node} → Valid b n → timerRuns n ≡ true → Timed n
+timer-timed {b} {n} v ticks = runs-cases (Timed n) n ticks (λ some. queued′ (n .queue) refl some) forced′
+  where
+    r : ℕ
+    r = n .running
+
+    queued′ : (q : List Message) → n .queue ≡ q → isEmpty (n .queue) ≡ false → Timed n
+    queued′ [] e some = absurd (true≢false (sym (ap isEmpty e) ∙ some))
+    queued′ (m ∷ q) e some =
+        let head = stays n m (v .head-stays m q e) in
+        let good : GoodMessage m = subst (Every GoodMessage) e (v .queue-good) .0 in
+        let low : 1 ≤ r = subst (λ (g : ℕ). 1 ≤ g) (head .0) (good .group-low) in
+        let own : inQueue n r ≡ m ∷ filter (isOf r) q =
+        unfold inQueue in ap (filter (isOf r)) e ∙ filter-pass (isOf r) m q (is-of r m (head .0)) in
+        let waits : isEmpty (line n r) ≡ false = ap isEmpty (direct-line n r (direct-holds n r (head .1)) ∙ own) in
+        record { runs = low; atomic = v .running-atomic low waits }
+
+    forced′ : forced n ≡ true → Timed n
+    forced′ e =
+        let tests = and-eq-true-iff (not (eqb r 0)) (groupOf n r .force && groupOf n r .atomic) .0 (unfold forced in e) in
+        let nonzero : r ≢ 0 = eqb-false r 0 (not-true (eqb r 0) (tests .0)) in
+        record { runs = omega arith; atomic = and-eq-true-iff (groupOf n r .force) (groupOf n r .atomic) .0 (tests .1) .1 }
 
 -- a disposal takes from the buffer where that holds a message, else from the queue
 pub removed-cases : (P : Node → Type 0) (b : Build) (n : Node)

@@ -4,16 +4,16 @@
 use Prim.Native.Nat.{ℕ, zero, suc, _≤_, pred}
 use mathlib.Core.Path.{_≡_, refl, sym, subst, ap, _∙_}
 use mathlib.Core.Logic.{_≢_}
-use mathlib.Core.Bool.{Bool, true, false, true≢false, not, _&&_, false≢true, and-eq-true-iff}
+use mathlib.Core.Bool.{Bool, true, false, true≢false, not, _&&_, _||_, false≢true, and-eq-true-iff, and-false}
 use mathlib.Core.List.{List, [], _∷_, _++_, map, map-append, append-nil}
 use native.Mathlib.Omega.{arith}
 use native.Mathlib.Nat.{zero-add, zero-mul, not-suc-le-zero}
 use lib.Dec.{ltb, eqb}
 use lib.ListN.{length, getD, replicate, length-replicate}
-use borrow.Author.Tests.{eqb-false, ne-eqb, not-true}
+use borrow.Author.Tests.{eqb-false, ne-eqb, not-true, not-false}
 use Rattle.rules.specs.Lists.{Every, isEmpty, concatMap, countOf, upFrom}
 use Rattle.rules.specs.Build.{Build, Sensible, pageCount, groupCount}
-use Rattle.rules.specs.Node.{Message, Buffer, Group, Node, groupOf, withGroup, withFlags, buffered, line, emptyPlace, emptyFrame, emptyGroup, emptyPaging, powerOn, waiting, inQueue}
+use Rattle.rules.specs.Node.{Message, Buffer, Group, Node, groupOf, withGroup, withFlags, bufferHolds, buffered, forced, timerRuns, line, emptyPlace, emptyFrame, emptyGroup, emptyPaging, powerOn, waiting, inQueue}
 use Rattle.rules.specs.Frames.{pledge, pledges}
 use Rattle.rules.specs.Operation.{refused, Operation}
 use Rattle.rules.specs.Paging.{runnerResident}
@@ -26,15 +26,16 @@ use Rattle.rules.proofs.Steps.EveryLaws.{every-replicate, every-map, ev
 use Rattle.rules.proofs.Steps.ListLaws.{sum-le, count-within, length-upFrom, upFrom-append}
 use Rattle.rules.proofs.Steps.FrameLaws.{ceil-none}
 use Rattle.rules.proofs.Steps.NodeLaws.{group-same, kept, within, group-good, reflagged}
-use Rattle.rules.proofs.Steps.SettlingLaws.{upcall-cases, settle-sound, settle-line, settle-flags, settle-head, settle-timer}
+use Rattle.rules.proofs.Steps.SettlingLaws.{runs-empty, forced-same, upcall-cases, settle-sound, settle-line, settle-flags, settle-head, settle-timer}
 use Rattle.rules.proofs.Steps.PagingLaws.{Repaged, repaged-line, repaged-buffered, runner-repaged, runner-sound, runner-first}
+use Rattle.rules.proofs.Steps.LineLaws.{neither}
 use Rattle.rules.proofs.Steps.ActLaws.{Ready, reflagged-pending, act-ready}
 
--- a node after settling: ready, its head stays, and its timer rests with an empty queue
+-- a node after settling: ready, its head stays, and its timer is 0 where it does not run
 record Settled (b : Build) (n : Node) : Type 0 where
   ready : Ready b n
   head-stays : (m : Message) (q : List Message) → n .queue ≡ m ∷ q → mayStay n m ≡ true
-  timer-idle : n .queue ≡ [] → n .timer ≡ 0
+  timer-idle : timerRuns n ≡ false → n .timer ≡ 0
 
 -- settling settles
 settled : {b : Build} {n : Node} → Ready b n → Settled b (settle b n .node)
@@ -51,7 +52,16 @@ settled {b} {n} y =
 -- whether a head may stay does not hang on where pages are
 pub repaged-stays : {n′ n : Node} → Repaged n′ n → (m : Message) → mayStay n′ m ≡ mayStay n m
 unfolding mayStay
-repaged-stays r m = rw (r .running, repaged-buffered r (m .group))
+repaged-stays {n′} {n} r m =
+    ap (λ (g : ℕ). eqb (m .group) g && not (buffered n′ (m .group))) (r .running)
+    ∙ ap (λ (t : Bool). eqb (m .group) (n .running) && not t) (repaged-buffered r (m .group))
+
+-- nor does whether the timer runs
+pub repaged-runs : {n′ n : Node} → Repaged n′ n → timerRuns n′ ≡ timerRuns n
+unfolding timerRuns
+repaged-runs {n′} {n} r =
+    ap (λ (q : List Message). not (isEmpty q) || forced n′) (r .queue)
+    ∙ ap (λ (t : Bool). not (isEmpty (n .queue)) || t) (forced-same n′ n (r .running) (λ g. r .groups g .flags))
 
 -- the running group's first page brought in leaves it settled
 paged : {b : Build} {n : Node} → Settled b n → Settled b (runnerResident b n)
@@ -63,13 +73,13 @@ paged {b} {n} d =
         pending = λ g low high e. rw (repaged-line r g) (d .ready .pending g low high (sym (r .groups g .flags .pending) ∙ e));
       };
       head-stays = λ m q e. repaged-stays r m ∙ d .head-stays m q (sym (r .queue) ∙ e);
-      timer-idle = λ e. r .timer ∙ d .timer-idle (sym (r .queue) ∙ e);
+      timer-idle = λ e. r .timer ∙ d .timer-idle (sym (repaged-runs r) ∙ e);
     }
 
 -- it is a node, if the running group's first page is in a frame, and the running group with a line is atomic
 settled-valid : {b : Build} {n : Node} → Settled b n → (1 ≤ n .running → FirstInFrame b (groupOf n (n .running) .buffer .frames))
     → (1 ≤ n .running → isEmpty (line n (n .running)) ≡ false → groupOf n (n .running) .atomic ≡ true) → Valid b n
-settled-valid d first atomic =
+settled-valid {n = n} d first atomic =
     let s = d .ready .sound in
     record {
       sensible = s .sensible;
@@ -90,7 +100,7 @@ settled-valid d first atomic =
       pending-line = d .ready .pending;
       running-atomic = atomic;
       head-stays = d .head-stays;
-      timer-idle = d .timer-idle;
+      timer-idle = λ none unforced. d .timer-idle (runs-empty n none ∙ unforced);
       runner-resident = first;
     }
 
@@ -101,15 +111,19 @@ between false true w e first last = refl
 between false false true e first last = absurd (true≢false last)
 between false false false e first last = absurd (true≢false e)
 
--- flags do not bear on whether a head may stay
-reflagged-stays : (n : Node) (g : ℕ) (G : Group) → G .buffer ≡ groupOf n g .buffer → (m : Message) → mayStay (withGroup g G n) m ≡ mayStay n m
-unfolding mayStay buffered withGroup
-reflagged-stays n g G same m =
-    ap (λ (v : Buffer). eqb (m .group) (n .running) && not (ltb 0 (v .count))) (kept (λ K. K .buffer) n g G same (m .group))
+-- of the flags only revoked bears on whether a head may stay
+reflagged-stays : (n : Node) (g : ℕ) (G : Group) → G .buffer ≡ groupOf n g .buffer → G .revoked ≡ groupOf n g .revoked → (m : Message)
+    → mayStay (withGroup g G n) m ≡ mayStay n m
+unfolding mayStay buffered bufferHolds withGroup
+reflagged-stays n g G same marked m =
+    let h = m .group in
+    ap (λ (v : Buffer). eqb h (n .running) && not (ltb 0 (v .count) || groupOf (withGroup g G n) h .revoked)) (kept (λ K. K .buffer) n g G same h)
+    ∙ ap (λ (t : Bool). eqb h (n .running) && not (ltb 0 (groupOf n h .buffer .count) || t)) (kept (λ K. K .revoked) n g G marked h)
 
--- an upcall is due to a group whose line is not empty
+-- an upcall is due to a group that is not atomic and whose line is not empty
 record Due (n : Node) : Type 0 where
   group : 1 ≤ n .running
+  interruptible : groupOf n (n .running) .atomic ≡ false
   line-waits : isEmpty (line n (n .running)) ≡ false
 
 due : (n : Node) → calls n ≡ true → Due n
@@ -119,7 +133,12 @@ due n e =
     let runs = and-eq-true-iff (not (eqb r 0)) (not (groupOf n r .atomic) && not (isEmpty (line n r))) .0 e in
     let waits = and-eq-true-iff (not (groupOf n r .atomic)) (not (isEmpty (line n r))) .0 (runs .1) in
     let nonzero : r ≢ 0 = eqb-false r 0 (not-true (eqb r 0) (runs .0)) in
-    record { group = omega arith; line-waits = not-true (isEmpty (line n r)) (waits .1) }
+    record { group = omega arith; interruptible = not-true (groupOf n r .atomic) (waits .0); line-waits = not-true (isEmpty (line n r)) (waits .1) }
+
+-- its timer runs only where a message is queued
+due-rests : (n : Node) → Due n → isEmpty (n .queue) ≡ true → timerRuns n ≡ false
+unfolding timerRuns forced
+due-rests n d none = rw (none, d .interruptible, and-false, and-false)
 
 -- only a group is called up
 pub calls-group : (n : Node) → calls n ≡ true → 1 ≤ n .running
@@ -127,7 +146,7 @@ calls-group n e = due n e .group
 
 -- a group called up
 called : {b : Build} {n : Node} → Settled b n → (1 ≤ n .running → FirstInFrame b (groupOf n (n .running) .buffer .frames)) → calls n ≡ true → Valid b (withGroup (n .running) (withFlags true true (groupOf n (n .running))) n)
-unfolding withFlags withGroup
+unfolding withFlags withGroup timerRuns
 called {b} {n} d first e =
     let s = d .ready .sound in
     let r = n .running in
@@ -135,15 +154,18 @@ called {b} {n} d first e =
     let high = s .running-bound in
     let G = withFlags true true (groupOf n r) in
     let old = group-good s r low high in
-    let good : GoodGroup b G = record { buffer = old .buffer; descriptor = old .descriptor; pending-atomic = λ p. refl } in
+    let good : GoodGroup b G =
+    record { buffer = old .buffer; descriptor = old .descriptor; pending-atomic = λ p. refl; force-atomic = λ p. refl; revoked-atomic = λ p. refl } in
+    let rests : timerRuns (withGroup r G n) ≡ false → timerRuns n ≡ false =
+    λ t. due-rests n (due n e) (not-false (isEmpty (n .queue)) (neither (not (isEmpty (n .queue))) (forced (withGroup r G n)) t .0)) in
     settled-valid
     (record {
       ready = record {
         sound = reflagged s r low high G good refl;
         pending = reflagged-pending s r low high G refl (λ p. due n e .line-waits) (λ h low′ high′ other p. d .ready .pending h low′ high′ p);
       };
-      head-stays = λ m q head. reflagged-stays n r G refl m ∙ d .head-stays m q head;
-      timer-idle = d .timer-idle;
+      head-stays = λ m q head. reflagged-stays n r G refl refl m ∙ d .head-stays m q head;
+      timer-idle = λ t. d .timer-idle (rests t);
     })
     (λ low′. subst (FirstInFrame b) (sym (ap (λ (K : Group). K .buffer .frames) (group-same n r G (within s r low high)))) (first low′))
     (λ low′ some′. ap (λ (K : Group). K .atomic) (group-same n r G (within s r low high)))
@@ -213,6 +235,8 @@ empty-good b some =
       };
       descriptor = omega arith;
       pending-atomic = λ e. absurd (false≢true e);
+      force-atomic = λ e. absurd (false≢true e);
+      revoked-atomic = λ e. absurd (false≢true e);
     }
 
 -- an empty frame is good
@@ -294,6 +318,6 @@ power-on-valid b s =
       pending-line = λ g low high e. absurd (false≢true (sym (ap (λ (G : Group). G .pending) (power-on-group b g)) ∙ e));
       running-atomic = λ low. absurd (not-suc-le-zero low);
       head-stays = λ m q e. cc;
-      timer-idle = λ e. refl;
+      timer-idle = λ none unforced. refl;
       runner-resident = λ low. absurd (not-suc-le-zero low);
     }

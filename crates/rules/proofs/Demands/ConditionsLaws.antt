@@ -141,7 +141,7 @@ module _ (m : List ℕ) (n : Node) (node : isMemory m ≡ true) (P : ℕ → Typ
   on-poll p7 k (not-node e) = no-node e
   on-poll p7 k (nobody-runs x) = p7 x
 
-  on-begin : (n .running ≡ 0 → P 7) → (k : ℕ) → Due m n (user beginAtomic) k → P k
+  on-begin : {force : Bool} → (n .running ≡ 0 → P 7) → (k : ℕ) → Due m n (user (beginAtomic force)) k → P k
   on-begin p7 k (not-node e) = no-node e
   on-begin p7 k (nobody-runs x) = p7 x
 
@@ -286,7 +286,7 @@ module _ (m : List ℕ) (n : Node) (node : isMemory m ≡ true) (v : Valid paper
     request-first poll = accept (on-poll m n node never runs)
     request-first (peek i) = peek-first i (line n (n .running)) refl
     request-first dispose = dispose-first (line n (n .running)) refl
-    request-first beginAtomic = accept (on-begin m n node never runs)
+    request-first (beginAtomic force) = accept (on-begin m n node never runs)
     request-first endAtomic = end-first
     request-first (describe w) = describe-first w
     request-first (launch i) = launch-first i (groupOf n (n .running) .descriptor) refl

@@ -14,7 +14,7 @@ use Rattle.rules.specs.Operation.{Request, Operation, arrive, schedule, 
 use Rattle.rules.specs.Paging.{runnerResident}
 use Rattle.rules.specs.Refusal.{refusal, refuseRequest, queued}
 use Rattle.rules.specs.Settling.{settle, drain, upcall}
-use Rattle.rules.specs.Step.{Effect, Stepped, valued, scheduled, timedOut, ticks, serve, act, finish, step}
+use Rattle.rules.specs.Step.{Effect, Stepped, valued, scheduled, revoke, timedOut, ticks, serve, act, finish, step}
 use Rattle.rules.specs.Private.{PrivateLine, message, request, nothing, told, Answer, Heard, refuses, unchanged, own, isCalled, called, afterwards, answered, unheard, joined, withHas, hear}
 use Rattle.rules.specs.Run.{answerOf, answerTo}
 use Rattle.rules.specs.Valid.{Valid}
@@ -23,13 +23,13 @@ use Rattle.rules.proofs.Steps.SoundLaws.{flags-refl, valid-sound}
 use Rattle.rules.proofs.Steps.PagingLaws.{runner-repaged, runner-sound}
 use Rattle.rules.proofs.Steps.SettlingLaws.{settle-sound, drain-line, drain-flags, drain-running}
 use Rattle.rules.proofs.Steps.LineLaws.{arrive-line}
-use Rattle.rules.proofs.Steps.TickLaws.{Ticked, idle, counting, timeout, ticked-by}
+use Rattle.rules.proofs.Steps.TickLaws.{timed, leftOver, Ticked, idle, counting, timeout, ticked-by}
 use Rattle.rules.proofs.Steps.ListLaws.{filter-pass, filter-fail}
 use Rattle.rules.proofs.Steps.NodeLaws.{is-of, not-of}
 use Rattle.rules.proofs.Steps.ActLaws.{scheduled-cases, user-accepted}
 use Rattle.rules.proofs.Steps.StepLaws.{act-sound, step-cases}
 use Rattle.rules.proofs.Private.EventLaws.{refusal-answer}
-use Rattle.rules.proofs.Private.ViewLaws.{timer-view, nobody, called-quiet, view, view-same, settle-view, repaged-view, valid-quiet, upcall-named, upcall-view}
+use Rattle.rules.proofs.Private.ViewLaws.{timer-view, timer-flags-view, nobody, called-quiet, view, view-same, settle-view, repaged-view, valid-quiet, upcall-named, upcall-view}
 use Rattle.rules.proofs.Private.RequestLaws.{suc-zero}
 use Rattle.rules.proofs.Private.ServeLaws.{own-refused, serve-own, serve-other}
 
@@ -158,9 +158,9 @@ schedule-view n h g =
     scheduled-cases (λ k. withHas (eqb h g) (view g n) ≡ view g k) h n
     (λ e. ap (λ (x : ℕ). withHas (eqb x g) (view g n)) (eqb-true _ _ e)) (λ e. refl)
 
--- T: ticks, and a timeout's drain, are invisible
+-- T: ticks, and what a timeout does, are invisible
 pub tick-view : {b : Build} {n : Node} → Valid b n → (k g : ℕ) → 1 ≤ g → g ≤ groupCount → view g (ticks b k (valued 0 n) .node) ≡ view g n
-unfolding valued timedOut withQueue
+unfolding valued timed timedOut revoke withTimer withQueue
 tick-view {b} {n} v k g lo hi = go (ticked-by v k)
   where
     drained : view g (drain b (n .queue) n) ≡ view g n
@@ -169,7 +169,12 @@ tick-view {b} {n} v k g lo hi = go (ticked-by v k)
     go : Ticked b k n → view g (ticks b k (valued 0 n) .node) ≡ view g n
     go (idle q e) = ap (λ (x : Effect). view g (x .node)) e
     go (counting q h e) = ap (λ (x : Effect). view g (x .node)) e ∙ timer-view g (n .timer + k) n
-    go (timeout q e) = ap (λ (x : Effect). view g (x .node)) e ∙ timer-view g 0 (drain b (n .queue) n) ∙ drained
+    go (timeout q e) =
+        let d = drain b (n .queue) n in
+        ap (λ (x : Effect). view g (x .node)) e
+        ∙ timer-view g (leftOver b k n) (revoke d)
+        ∙ timer-flags-view g (groupOf d (d .running) .force) true d
+        ∙ drained
 
 -- an accepted request: to the runner its answer and its effect, to the others nothing
 request-accepted : {b : Build} {n : Node} → Valid b n → (q : Request) → Sound b (serve b n q .node) → 1 ≤ n .running → refuseRequest n q ≡ 0

@@ -1,22 +1,23 @@
 -- The private line of a group as a view of the node: settling leaves it, and the upcall rule is the same on both sides. Assumes nothing.
-use Prim.Native.Nat.{ℕ, _≤_}
+use Prim.Native.Nat.{ℕ, pred, _≤_}
 use native.Mathlib.Omega.{arith}
 use mathlib.Core.Path.{_≡_, refl, sym, ap, _∙_, subst}
 use mathlib.Core.Logic.{_≢_}
-use mathlib.Core.Bool.{Bool, true, false, cond, not, _&&_, and-true, and-false}
+use mathlib.Core.Bool.{Bool, true, false, cond, not, _&&_, _||_, and-true, and-false}
 use mathlib.Core.List.{List}
 use borrow.Author.Tests.{eqb-true, eqb-false, eq-eqb, ne-eqb}
 use lib.Dec.{eqb}
-use lib.ListN.{length}
+use lib.ListN.{length, length-set}
 use Rattle.rules.specs.Lists.{isEmpty}
 use Rattle.rules.specs.Build.{Build, groupCount}
-use Rattle.rules.specs.Node.{withTimer, Group, Node, powerOn, groupOf, withGroup, withFlags, withDescriptor, waiting, inBuffer, inQueue, line}
+use Rattle.rules.specs.Node.{withTimer, Group, Node, powerOn, groupOf, withGroup, withFlags, withTimerFlags, withDescriptor, waiting, inBuffer, inQueue, line}
 use Rattle.rules.specs.Settling.{settle, calls, upcall, upcallGroup}
-use Rattle.rules.specs.Private.{PrivateLine, atFirst, isCalled, called}
+use Rattle.rules.specs.Step.{timerFlagged, flagged, begun, ended}
+use Rattle.rules.specs.Private.{PrivateLine, atFirst, withAtomic, isCalled, called}
 use Rattle.rules.specs.Valid.{Valid}
 use Rattle.rules.specs.Sound.{Sound}
-use Rattle.rules.proofs.Steps.SoundLaws.{SameFlags}
-use Rattle.rules.proofs.Steps.NodeLaws.{group-same, group-other, line-same, reflagged-line}
+use Rattle.rules.proofs.Steps.SoundLaws.{SameFlags, flags-refl}
+use Rattle.rules.proofs.Steps.NodeLaws.{group-same, group-other, kept, line-same, reflagged-line}
 use Rattle.rules.proofs.Steps.StepLaws.{calls-group, power-on-group}
 use Rattle.rules.proofs.Steps.PagingLaws.{Repaged, repaged-line}
 use Rattle.rules.proofs.Steps.SettlingLaws.{upcall-cases, settle-line, settle-flags, settle-running}
@@ -115,7 +116,7 @@ unfolding withGroup
 regroup-other n G g run lo ne =
     let e : groupOf (withGroup (n .running) G n) g ≡ groupOf n g = group-other n (n .running) g G run lo ne in
     view-same g (withGroup (n .running) G n) n refl
-    (record { atomic = ap (λ (x : Group). x .atomic) e; pending = ap (λ (x : Group). x .pending) e; descriptor = ap (λ (x : Group). x .descriptor) e })
+    (subst (λ (G : Group). SameFlags G (groupOf n g)) (sym e) flags-refl)
     (line-same n (withGroup (n .running) G n) g (ap (λ (x : Group). x .buffer) e) refl)
 
 -- to the runner it shows its flags and descriptor, and the same line where the buffer is the same
@@ -145,6 +146,39 @@ unfolding view withFlags
 flags-own n len a p g r lo hi =
     regroup-own n len (withFlags a p (groupOf n (n .running))) g r lo hi refl
     ∙ (λ i. record { has = eqb (n .running) g; atomic = a; pending = p; messages = line n g; descriptor = groupOf n (r i) .descriptor })
+
+-- force and revoked are invisible to every group
+pub timer-flags-view : (g : ℕ) (f r : Bool) (n : Node) → view g (timerFlagged f r n) ≡ view g n
+unfolding view timerFlagged withTimerFlags withGroup
+timer-flags-view g f r n =
+    let x = n .running in
+    let G = withTimerFlags f r (groupOf n x) in
+    let atomic = kept (λ K. K .atomic) n x G refl g in
+    let pending = kept (λ K. K .pending) n x G refl g in
+    let descriptor = kept (λ K. K .descriptor) n x G refl g in
+    let l : line (withGroup x G n) g ≡ line n g = reflagged-line n x G refl g in
+    λ i. record { has = eqb x g; atomic = atomic i; pending = pending i; messages = l i; descriptor = descriptor i }
+
+-- so B and N show in atomic alone
+pub begun-own : (n : Node) → length (n .groups) ≡ groupCount → (force : Bool) → 1 ≤ n .running → n .running ≤ groupCount
+    → view (n .running) (begun force n) ≡ withAtomic true (view (n .running) n)
+unfolding begun flagged withAtomic view
+begun-own n len force lo hi =
+    let G = groupOf n (n .running) in
+    timer-flags-view (n .running) (force || G .force) (G .revoked) (flagged true (G .pending) n)
+    ∙ flags-own n len true (G .pending) (n .running) refl lo hi
+
+pub ended-own : (n : Node) → length (n .groups) ≡ groupCount → 1 ≤ n .running → n .running ≤ groupCount
+    → view (n .running) (ended n) ≡ withAtomic false (view (n .running) n)
+unfolding ended flagged withAtomic timerFlagged withGroup view
+ended-own n len lo hi =
+    let k = timerFlagged false false n in
+    let p = groupOf n (n .running) .pending in
+    let long : length (k .groups) ≡ groupCount =
+    length-set (n .groups) (pred (n .running)) (withTimerFlags false false (groupOf n (n .running))) ∙ len in
+    flags-own k long false p (n .running) refl lo hi
+    ∙ ap (λ (q : PrivateLine). record { has = q .has; atomic = false; pending = p; messages = q .messages; descriptor = q .descriptor })
+    (timer-flags-view (n .running) false false n)
 
 -- the runner's descriptor replaced, as it sees it
 pub descriptor-own : (n : Node) → length (n .groups) ≡ groupCount → (d : List ℕ) (g : ℕ) → n .running ≡ g → 1 ≤ g → g ≤ groupCount

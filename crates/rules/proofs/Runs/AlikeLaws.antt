@@ -4,16 +4,16 @@
 use Prim.Native.Nat.{ℕ, suc, pred, _+_, _-_, _≤_, _<_}
 use mathlib.Core.Path.{_≡_, refl, sym, subst, ap, _∙_}
 use mathlib.Core.Logic.{_≢_}
-use mathlib.Core.Bool.{Bool, true, false, true≢false, cond, not, _&&_}
+use mathlib.Core.Bool.{Bool, true, false, true≢false, cond, not, _&&_, _||_}
 use mathlib.Core.List.{List, [], _∷_, _++_}
 use native.Mathlib.Decide.{ℕ-discrete}
 use native.Mathlib.Omega.{arith}
-use lib.Dec.{eqb}
+use lib.Dec.{eqb, ltb}
 use lib.ListN.{length}
 use borrow.Author.Tests.{eq-eqb}
 use Rattle.rules.specs.Lists.{isEmpty}
 use Rattle.rules.specs.Build.{Build, groupCount}
-use Rattle.rules.specs.Node.{Message, Place, Group, Node, groupOf, withRunning, withTimer, withQueue, withGroup, buffered, placeOf, waiting, inBuffer, inQueue, line}
+use Rattle.rules.specs.Node.{Message, Place, Group, Node, groupOf, withRunning, withTimer, withQueue, withGroup, bufferHolds, buffered, forced, timerRuns, placeOf, waiting, inBuffer, inQueue, line}
 use Rattle.rules.specs.Frames.{pledge, pledges}
 use Rattle.rules.specs.Paging.{store}
 use Rattle.rules.specs.Settling.{Moved, mayStay, pass, restTimer, settle, drain, calls, upcallGroup, oneMore}
@@ -23,7 +23,7 @@ use Rattle.rules.proofs.Steps.SoundLaws.{SameFlags, flags-trans}
 use Rattle.rules.proofs.Steps.NodeLaws.{group-same, group-other}
 use Rattle.rules.proofs.Steps.PagingLaws.{Repaged, pages-waiting}
 use Rattle.rules.proofs.Steps.StoreLaws.{head-good, store-sound, store-own, store-other, store-flags}
-use Rattle.rules.proofs.Steps.SettlingLaws.{store-running, queue-stored, timer-stored}
+use Rattle.rules.proofs.Steps.SettlingLaws.{pass-running, store-running, queue-stored, timer-stored}
 
 -- two groups
 pub record AlikeGroup (G H : Group) : Type 0 where
@@ -41,7 +41,14 @@ pub record Alike (n k : Node) : Type 0 where
 
 -- flags the other way
 pub flags-sym : {G H : Group} → SameFlags G H → SameFlags H G
-flags-sym e = record { atomic = sym (e .atomic); pending = sym (e .pending); descriptor = sym (e .descriptor) }
+flags-sym e =
+    record {
+      atomic = sym (e .atomic);
+      pending = sym (e .pending);
+      force = sym (e .force);
+      revoked = sym (e .revoked);
+      descriptor = sym (e .descriptor);
+    }
 
 -- where pages are does not count
 pub paged-alike : {n n′ k k′ : Node} → Repaged n′ n → Repaged k′ k → Alike n k → Alike n′ k′
@@ -93,10 +100,15 @@ module _ {n k : Node} (a : Alike n k) where
     unfolding line inBuffer inQueue
     alike-line = rw (a .groups g low high .waits, a .queue)
 
-    -- whether it is buffered
+    -- whether its buffer holds a message, and whether it is buffered
+    pub alike-holds : bufferHolds n g ≡ bufferHolds k g
+    unfolding bufferHolds
+    alike-holds = ap (ltb 0) (a .groups g low high .count)
+
     pub alike-buffered : buffered n g ≡ buffered k g
     unfolding buffered
-    alike-buffered = rw (a .groups g low high .count)
+    alike-buffered =
+        ap (λ (t : Bool). t || groupOf n g .revoked) alike-holds ∙ ap (λ (t : Bool). bufferHolds k g || t) (a .groups g low high .flags .revoked)
 
     -- its pledge
     alike-pledge : {b c : Build} → SameButFrames b c → pledge b n g ≡ pledge c k g
@@ -184,16 +196,35 @@ alike-pass {b} {c} (m ∷ q) {n} {k} s t a =
     go false true e f r = absurd (true≢false f)
     go false false e f r = record { node = r .node; moved = ap suc (r .moved) }
 
--- timers put to rest
-alike-rested : {x y : Node} → Alike x y → Alike (restTimer x) (restTimer y)
-unfolding restTimer
-alike-rested {x} {y} e = go (isEmpty (x .queue)) (isEmpty (y .queue)) (ap isEmpty (e .queue))
+-- whether the timer is forced, and whether it runs
+pub alike-forced : {n k : Node} → Alike n k → n .running ≤ groupCount → forced n ≡ forced k
+unfolding forced
+alike-forced {n} {k} a high = go (ℕ-discrete (n .running) 0)
   where
-    go : (u w : Bool) → u ≡ w → Alike (cond u (withTimer 0 x) x) (cond w (withTimer 0 y) y)
-    go true true same = alike-timer e 0
+    go : Dec (n .running ≡ 0) → forced n ≡ forced k
+    go (yes none) = rw (eq-eqb (n .running) 0 none, eq-eqb (k .running) 0 (sym (a .running) ∙ none))
+    go (no some) =
+        let f = a .groups (n .running) (omega arith) high .flags in
+        let G = groupOf k (n .running) in
+        ap (λ (t : Bool). not (eqb (n .running) 0) && (t && groupOf n (n .running) .atomic)) (f .force)
+        ∙ ap (λ (t : Bool). not (eqb (n .running) 0) && (G .force && t)) (f .atomic)
+        ∙ ap (λ (r : ℕ). not (eqb r 0) && (groupOf k r .force && groupOf k r .atomic)) (a .running)
+
+pub alike-runs : {n k : Node} → Alike n k → n .running ≤ groupCount → timerRuns n ≡ timerRuns k
+unfolding timerRuns
+alike-runs {n} {k} a high =
+    ap (λ (q : List Message). not (isEmpty q) || forced n) (a .queue) ∙ ap (λ (t : Bool). not (isEmpty (k .queue)) || t) (alike-forced a high)
+
+-- timers put to rest
+alike-rested : {x y : Node} → Alike x y → x .running ≤ groupCount → Alike (restTimer x) (restTimer y)
+unfolding restTimer
+alike-rested {x} {y} e high = go (timerRuns x) (timerRuns y) (alike-runs e high)
+  where
+    go : (u w : Bool) → u ≡ w → Alike (cond u x (withTimer 0 x)) (cond w y (withTimer 0 y))
+    go true true same = e
     go true false same = absurd (true≢false same)
     go false true same = absurd (true≢false (sym same))
-    go false false same = e
+    go false false same = alike-timer e 0
 
 -- and so does settling
 pub alike-settled : {b c : Build} {n k : Node} → Sound b n → Sound c k → Alike n k → AlikeMoved (settle b n) (settle c k)
@@ -203,7 +234,7 @@ alike-settled {b} {c} {n} {k} s t a =
     let t′ : Sound c (withQueue (n .queue) k) = subst (λ (q : List Message). Sound c (withQueue q k)) (sym same) t in
     let p = alike-pass (n .queue) s t′ a in
     subst (λ (q : List Message). AlikeMoved (settle b n) (record { node = restTimer (pass c q k .node); moved = pass c q k .moved })) same
-    (record { node = alike-rested (p .node); moved = p .moved })
+    (record { node = alike-rested (p .node) (rw (pass-running b (n .queue) n) (s .running-bound)); moved = p .moved })
 
 -- a queue drained
 pub alike-drained : {b c : Build} (q : List Message) {n k : Node} → Sound b (withQueue q n) → Sound c (withQueue q k) → Alike n k
@@ -219,6 +250,9 @@ module _ {n k : Node} (a : Alike n k) (low : 1 ≤ n .running) (high : n .runnin
 
   pub runner-line : line n (n .running) ≡ line k (k .running)
   runner-line = alike-line a (n .running) low high ∙ ap (line k) (a .running)
+
+  pub runner-holds : bufferHolds n (n .running) ≡ bufferHolds k (k .running)
+  runner-holds = alike-holds a (n .running) low high ∙ ap (bufferHolds k) (a .running)
 
   pub runner-buffered : buffered n (n .running) ≡ buffered k (k .running)
   runner-buffered = alike-buffered a (n .running) low high ∙ ap (buffered k) (a .running)

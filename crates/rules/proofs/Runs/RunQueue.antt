@@ -10,19 +10,19 @@ use lib.ListN.{length, drop}
 use lib.Seq.{drop-length}
 use Rattle.rules.specs.Lists.{isEmpty}
 use Rattle.rules.specs.Build.{Build}
-use Rattle.rules.specs.Node.{Message, Node, withRunning, withTimer, withQueue, withGroup, buffered, line}
+use Rattle.rules.specs.Node.{Message, Node, withRunning, withTimer, withQueue, withGroup, bufferHolds, buffered, line}
 use Rattle.rules.specs.Operation.{poll, peek, dispose, beginAtomic, endAtomic, describe, launch}
 use Rattle.rules.specs.Operation.{Operation, arrive, schedule, tick, user, unknown, accepted, noTrap, disposeExtend}
 use Rattle.rules.specs.Paging.{runnerResident}
 use Rattle.rules.specs.Refusal.{refusal, refuseRequest, queued}
 use Rattle.rules.specs.Settling.{settle, drain, upcall}
-use Rattle.rules.specs.Step.{Effect, Stepped, valued, scheduled, timedOut, ticks, removed, flagged, disposed, extending, described, launched, serve, act, finish, step}
+use Rattle.rules.specs.Step.{Effect, Stepped, valued, scheduled, timerFlagged, revoke, timedOut, ticks, removed, flagged, disposed, begun, ended, extending, described, launched, serve, act, finish, step}
 use Rattle.rules.specs.Run.{Input, asked, Event, play, wasAccepted, arrivedBy, arrived, arrivals, disposedBy, leftBy, left}
 use Rattle.rules.specs.Valid.{Valid}
 use Rattle.rules.proofs.Steps.PagingLaws.{runner-repaged}
 use Rattle.rules.proofs.Steps.SettlingLaws.{upcall-kept, settle-queue, settle-moved, drain-queue}
-use Rattle.rules.proofs.Steps.LineLaws.{direct-head, removed-queue-buffered, removed-queue-direct}
-use Rattle.rules.proofs.Steps.TickLaws.{Ticked, idle, counting, timeout, ticked-by}
+use Rattle.rules.proofs.Steps.LineLaws.{direct-head, line-buffered, removed-queue-buffered, removed-queue-direct}
+use Rattle.rules.proofs.Steps.TickLaws.{timed, Ticked, idle, counting, timeout, ticked-by}
 use Rattle.rules.proofs.Steps.StepLaws.{step-cases, step-valid}
 use Rattle.rules.proofs.Private.EventLaws.{eventOf, refusal-answer, disposed-none, arrived-none}
 use Rattle.rules.proofs.Private.RequestLaws.{suc-zero, dispose-some}
@@ -41,7 +41,7 @@ scheduled-queue h n = scheduled-cases (λ k. k .queue ≡ n .queue) h n (λ e. r
 -- T
 ticked-queue : {b : Build} {n : Node} → Valid b n → (k : ℕ)
     → Flow (n .queue) (ticks b k (valued 0 n) .node .queue) [] (taken (tick k) (ticks b k (valued 0 n)))
-unfolding taken disposedBy valued timedOut withTimer
+unfolding taken disposedBy valued timed timedOut revoke timerFlagged withTimer withGroup
 ticked-queue {b} {n} v k = go (ticked-by v k)
   where
     Goal : Effect → Type 0
@@ -64,10 +64,10 @@ ticked-queue {b} {n} v k = go (ticked-by v k)
 disposed-queue : {b : Build} {n : Node} → Valid b n → isEmpty (line n (n .running)) ≡ false
     → Flow (n .queue) (disposed b n .queue) [] (disposedBy (user dispose) (eqb (cond (buffered n (n .running)) disposeExtend noTrap) noTrap))
 unfolding disposedBy disposed flagged withTimer withGroup
-disposed-queue {b} {n} v some = go (buffered n (n .running)) refl
+disposed-queue {b} {n} v some = rw (line-buffered v some) (go (bufferHolds n (n .running)) refl)
   where
     go : (t : Bool)
-        → buffered n (n .running) ≡ t
+        → bufferHolds n (n .running) ≡ t
         → Flow (n .queue) (removed b n .queue) [] (cond (eqb (cond t disposeExtend noTrap) noTrap) 1 0)
     go true t = flow-kept (removed-queue-buffered b n t)
     go false t =
@@ -79,7 +79,7 @@ disposed-queue {b} {n} v some = go (buffered n (n .running)) refl
 -- an accepted operation
 act-queue : {b : Build} {n : Node} → Valid b n → (op : Operation) → refusal b n op ≡ 0
     → Flow (n .queue) (act b n op .node .queue) (arrivedBy op true) (taken op (act b n op))
-unfolding act arrivedBy refusal valued taken disposedBy serve extending launched described flagged withGroup queued withQueue refuseRequest
+unfolding act arrivedBy refusal valued taken disposedBy serve extending launched described begun ended flagged timerFlagged withGroup queued withQueue refuseRequest
 act-queue {b} {n} v (arrive h ws) e = record { same = refl; enough = omega arith }
 act-queue {b} {n} v (schedule h) e = flow-kept (scheduled-queue h n)
 act-queue {b} {n} v (tick k) e = ticked-queue v k
@@ -87,7 +87,7 @@ act-queue {b} {n} v (user poll) e = flow-kept refl
 act-queue {b} {n} v (user (peek i)) e = flow-kept refl
 act-queue {b} {n} v (user dispose) e =
     rw zero-add (disposed-queue v (dispose-some (line n (n .running)) (user-accepted n dispose e .1)))
-act-queue {b} {n} v (user beginAtomic) e = flow-kept refl
+act-queue {b} {n} v (user (beginAtomic force)) e = flow-kept refl
 act-queue {b} {n} v (user endAtomic) e = flow-kept refl
 act-queue {b} {n} v (user (describe w)) e = flow-kept refl
 act-queue {b} {n} v (user (launch k)) e = flow-kept refl

@@ -17,13 +17,13 @@ use Rattle.rules.specs.Operation.{Operation, arrive, schedule, tick, use
 use Rattle.rules.specs.Paging.{runnerResident}
 use Rattle.rules.specs.Refusal.{refusal, queued}
 use Rattle.rules.specs.Settling.{mayStay, pass, settle, drain, upcall}
-use Rattle.rules.specs.Step.{Effect, Stepped, valued, scheduled, timedOut, ticks, flagged, disposed, extending, described, launched, serve, act, finish, step}
+use Rattle.rules.specs.Step.{Effect, Stepped, valued, scheduled, timerFlagged, revoke, timedOut, ticks, flagged, disposed, begun, ended, extending, described, launched, serve, act, finish, step}
 use Rattle.rules.specs.Run.{wasAccepted, disposedBy, leftBy, tickedBy}
 use Rattle.rules.specs.Valid.{Valid}
 use Rattle.rules.proofs.Steps.PagingLaws.{runner-repaged}
-use Rattle.rules.proofs.Steps.SettlingLaws.{pass-moves, settle-keeps, upcall-kept, settle-moved, drain-queue}
+use Rattle.rules.proofs.Steps.SettlingLaws.{runs-queued, pass-moves, settle-keeps, upcall-kept, settle-moved, drain-queue}
 use Rattle.rules.proofs.Steps.LineLaws.{stays, buffered-empty}
-use Rattle.rules.proofs.Steps.TickLaws.{Ticked, idle, counting, timeout, ticked-by}
+use Rattle.rules.proofs.Steps.TickLaws.{timed, leftOver, Ticked, idle, counting, timeout, ticked-by}
 use Rattle.rules.proofs.Steps.ActLaws.{scheduled-cases}
 use Rattle.rules.proofs.Steps.StepLaws.{step-cases}
 use Rattle.rules.proofs.Private.RequestLaws.{suc-zero}
@@ -81,7 +81,7 @@ module _ {b : Build} {n : Node} (v : Valid b n) (some : isEmpty (n .queue) ≡ f
   tick-timer : (k : ℕ) → isEmpty (settle b (ticks b k (valued 0 n) .node) .node .queue) ≡ false
       → k + n .timer
       ≤ b .timeout * (taken (tick k) (ticks b k (valued 0 n)) + settle b (ticks b k (valued 0 n) .node) .moved) + ticks b k (valued 0 n) .node .timer
-  unfolding valued timedOut withTimer
+  unfolding valued timed timedOut revoke timerFlagged withTimer withGroup
   tick-timer k = go (ticked-by v k)
     where
       Goal : Effect → Type 0
@@ -90,9 +90,9 @@ module _ {b : Build} {n : Node} (v : Valid b n) (some : isEmpty (n .queue) ≡ f
           → k + n .timer ≤ b .timeout * (taken (tick k) e + settle b (e .node) .moved) + e .node .timer
 
       go : Ticked b k n → Goal (ticks b k (valued 0 n))
-      go (idle q e) = absurd (queue-some q)
+      go (idle rests e) = absurd (true≢false (sym (runs-queued n some) ∙ rests))
       go (counting q h e) = subst Goal (sym e) (λ s. omega arith)
-      go (timeout q e) = subst Goal (sym e) (λ s. absurd (left-some (withTimer 0 (drain b (n .queue) n)) s (drain-queue b (n .queue) n)))
+      go (timeout q e) = subst Goal (sym e) (λ s. absurd (left-some (withTimer (leftOver b k n) (revoke (drain b (n .queue) n))) s (drain-queue b (n .queue) n)))
 
   -- D
   dispose-timer : (l : ℕ)
@@ -107,14 +107,14 @@ module _ {b : Build} {n : Node} (v : Valid b n) (some : isEmpty (n .queue) ≡ f
 
   act-timer : (op : Operation) → refusal b n op ≡ 0 → isEmpty (settle b (act b n op .node) .node .queue) ≡ false
       → tickedBy op true + n .timer ≤ b .timeout * (taken op (act b n op) + settle b (act b n op .node) .moved) + act b n op .node .timer
-  unfolding act tickedBy refusal valued taken disposedBy serve extending launched described flagged withGroup queued withQueue disposed withTimer
+  unfolding act tickedBy refusal valued taken disposedBy serve extending launched described begun ended flagged timerFlagged withGroup queued withQueue disposed withTimer
   act-timer (arrive h ws) z s = omega arith
   act-timer (schedule h) z s = schedule-timer h
   act-timer (tick k) z s = tick-timer k s
   act-timer (user poll) z s = omega arith
   act-timer (user (peek i)) z s = omega arith
   act-timer (user dispose) z s = dispose-timer (settle b (disposed b n) .moved)
-  act-timer (user beginAtomic) z s = omega arith
+  act-timer (user (beginAtomic force)) z s = omega arith
   act-timer (user endAtomic) z s = omega arith
   act-timer (user (describe w)) z s = omega arith
   act-timer (user (launch k)) z s = omega arith
@@ -140,7 +140,7 @@ module _ {b : Build} {n : Node} (v : Valid b n) (some : isEmpty (n .queue) ≡ f
           let paged = runner-repaged b k in
           let left : isEmpty (k .queue) ≡ false = ap isEmpty (sym (upcall-queue (runnerResident b k) ∙ paged .queue)) ∙ s in
           let kept : upcall (runnerResident b k) .timer ≡ e .node .timer =
-          upcall-timer (runnerResident b k) ∙ paged .timer ∙ settle-keeps b (e .node) left in
+          upcall-timer (runnerResident b k) ∙ paged .timer ∙ settle-keeps b (e .node) (runs-queued k left) in
           let d : ℕ = disposedBy op (eqb (e .trap) noTrap) in
           let m : ℕ = settle b (e .node) .moved in
           let order : b .timeout * (e .moved + d + m) ≡ b .timeout * (e .moved + m + d) = ap (λ (x : ℕ). b .timeout * x) (omega arith) in

@@ -1,9 +1,9 @@
 -- Where pages are shows in no report: on two nodes that are alike, perhaps of builds that differ in how many pages are frames, every operation
 -- is refused alike or acts alike, and so every run from power-on reports the same. Assumes nothing.
-use Prim.Native.Nat.{ℕ, zero, suc, _+_, _-_, _≤_}
+use Prim.Native.Nat.{ℕ, zero, suc, _+_, _-_, _%_, _≤_}
 use mathlib.Core.Path.{_≡_, refl, sym, subst, ap, _∙_}
 use mathlib.Core.Logic.{_≢_}
-use mathlib.Core.Bool.{Bool, true, false, true≢false, cond, _||_}
+use mathlib.Core.Bool.{Bool, true, false, true≢false, false≢true, cond, _||_}
 use mathlib.Core.List.{List, [], _∷_, _++_}
 use native.Mathlib.Decide.{ℕ-discrete}
 use native.Mathlib.Omega.{arith}
@@ -12,13 +12,13 @@ use lib.ListN.{length, drop}
 use borrow.Author.Tests.{ltb-true, ltb-false, eq-eqb}
 use Rattle.rules.specs.Lists.{isEmpty}
 use Rattle.rules.specs.Build.{Build, pageCount, groupCount, wordLimit}
-use Rattle.rules.specs.Node.{Message, Frame, Buffer, Group, Node, powerOn, groupOf, withRunning, withTimer, withQueue, withFree, withPaging, withGroup, withFlags, withDescriptor, buffered, waiting}
+use Rattle.rules.specs.Node.{Message, Frame, Buffer, Group, Node, powerOn, groupOf, withRunning, withTimer, withQueue, withFree, withPaging, withGroup, withFlags, withTimerFlags, withDescriptor, bufferHolds, forced, timerRuns, waiting}
 use Rattle.rules.specs.Frames.{Stock, freeFirst, useUp, removeFirst, withStock, pledges}
 use Rattle.rules.specs.Operation.{Request, poll, peek, dispose, beginAtomic, endAtomic, describe, launch}
 use Rattle.rules.specs.Operation.{Operation, arrive, schedule, tick, user, unknown, accepted, badGroup, badWords, queueFull, noFrames, nobodyRuns, noTrap, disposeExtend, atomicityExtend}
 use Rattle.rules.specs.Refusal.{queued, refuseArrive, refusePeek, refuseDispose, refuseEnd, refuseDescribe, refuseLaunch, refuseRequest, refusal}
 use Rattle.rules.specs.Settling.{settle, drain, calls, upcall}
-use Rattle.rules.specs.Step.{Effect, Stepped, valued, scheduled, timedOut, ticks, firstLength, firstWord, withoutFirst, removed, flagged, disposed, extending, described, launched, serve, act, finish, step}
+use Rattle.rules.specs.Step.{Effect, Stepped, valued, scheduled, timerFlagged, revoke, timedOut, ticks, firstLength, firstWord, withoutFirst, removed, flagged, disposed, begun, ended, extending, described, launched, serve, act, finish, step}
 use Rattle.rules.specs.Run.{Input, asked, play, run}
 use Rattle.rules.specs.Sound.{Sound}
 use Rattle.rules.specs.Unseen.{SameButFrames, PagingUnseen}
@@ -27,12 +27,12 @@ use Rattle.rules.proofs.Steps.SoundLaws.{flags-refl, flags-trans, valid
 use Rattle.rules.proofs.Steps.FrameLaws.{removed-first}
 use Rattle.rules.proofs.Steps.NodeLaws.{stock-same, stock-other, within, group-good, restocked-flags}
 use Rattle.rules.proofs.Steps.PagingLaws.{runner-repaged, runner-sound}
-use Rattle.rules.proofs.Steps.SettlingLaws.{settle-sound}
-use Rattle.rules.proofs.Steps.LineLaws.{removed-running}
-use Rattle.rules.proofs.Steps.TickLaws.{ticks-idle, ticks-counted, ticks-timeout}
-use Rattle.rules.proofs.Steps.ActLaws.{removed-sound, user-accepted}
+use Rattle.rules.proofs.Steps.SettlingLaws.{settle-sound, drain-sound, drain-running}
+use Rattle.rules.proofs.Steps.LineLaws.{timer-timed, removed-running}
+use Rattle.rules.proofs.Steps.TickLaws.{timed, leftOver, ticks-idle, ticks-counted, ticks-timeout}
+use Rattle.rules.proofs.Steps.ActLaws.{valid-ready, flagged-ready, timer-flagged-ready, removed-sound, user-accepted}
 use Rattle.rules.proofs.Steps.StepLaws.{calls-group, act-sound, step-accepted, step-refused, step-valid, power-on-valid}
-use Rattle.rules.proofs.Runs.AlikeLaws.{Alike, AlikeGroup, paged-alike, alike-queue, alike-timer, alike-running, alike-group, alike-pledges, alike-settled, alike-drained, runner-alike, runner-line, runner-buffered, alike-calls, alike-named, flags-sym}
+use Rattle.rules.proofs.Runs.AlikeLaws.{Alike, AlikeGroup, paged-alike, alike-queue, alike-timer, alike-running, alike-group, alike-pledges, alike-settled, alike-drained, alike-forced, alike-runs, runner-alike, runner-line, runner-holds, runner-buffered, alike-calls, alike-named, flags-sym}
 
 -- what two operations did is alike
 record AlikeEffect (e f : Effect) : Type 0 where
@@ -72,7 +72,7 @@ alike-upcall {n = n} {k} s t a = go (calls n) (calls k) refl (alike-calls a (s .
         let e = runner-alike a low (s .running-bound) in
         runner-group s t a low (withFlags true true (groupOf n (n .running))) (withFlags true true (groupOf k (k .running)))
         (record {
-          flags = record { atomic = refl; pending = refl; descriptor = e .flags .descriptor };
+          flags = record { atomic = refl; pending = refl; force = e .flags .force; revoked = e .flags .revoked; descriptor = e .flags .descriptor };
           used = e .used;
           count = e .count;
           waits = e .waits;
@@ -127,40 +127,71 @@ alike-scheduled {n} {k} a g = go (eqb g (n .running)) (eqb g (k .running)) (ap (
     go false true same = absurd (true≢false (sym same))
     go false false same = alike-timer (alike-running a g) 0
 
+-- the running group's flags force and revoked
+alike-timer-flagged : {b c : Build} {n k : Node} → Sound b n → Sound c k → Alike n k → 1 ≤ n .running → (x y x′ y′ : Bool) → x ≡ x′ → y ≡ y′
+    → Alike (timerFlagged x y n) (timerFlagged x′ y′ k)
+unfolding timerFlagged withTimerFlags
+alike-timer-flagged {n = n} {k} s t a low x y x′ y′ e f =
+    let mine = runner-alike a low (s .running-bound) in
+    runner-group s t a low (withTimerFlags x y (groupOf n (n .running))) (withTimerFlags x′ y′ (groupOf k (k .running)))
+    (record {
+      flags = record { atomic = mine .flags .atomic; pending = mine .flags .pending; force = e; revoked = f; descriptor = mine .flags .descriptor };
+      used = mine .used;
+      count = mine .count;
+      waits = mine .waits;
+    })
+
 -- T
 alike-ticks : {b c : Build} → SameButFrames b c → {n k : Node} → Valid b n → Valid c k → Alike n k → (i : ℕ)
     → AlikeEffect (ticks b i (valued 0 n)) (ticks c i (valued 0 k))
-unfolding valued timedOut withQueue
-alike-ticks {b} {c} same {n} {k} v w a i = go (n .queue) refl (ltb (n .timer + i) (b .timeout)) refl
+unfolding valued timed timedOut revoke withTimer withQueue
+alike-ticks {b} {c} same {n} {k} v w a i = go (timerRuns n) refl (ltb (n .timer + i) (b .timeout)) refl
   where
-    some : {m : Message} {q : List Message} → n .queue ≡ m ∷ q → isEmpty (k .queue) ≡ false
-    some e = rw (sym (a .queue) ∙ e) refl
+    runs : timerRuns n ≡ timerRuns k
+    runs = alike-runs a (v .running-bound)
 
-    out : AlikeEffect (timedOut b (valued 0 n)) (timedOut c (valued 0 k))
-    out =
+    drained : Alike (drain b (n .queue) n) (drain c (k .queue) k)
+    drained =
         let t : Sound c (withQueue (n .queue) k) = subst (λ (q : List Message). Sound c (withQueue q k)) (sym (a .queue)) (valid-sound w) in
+        subst (λ (q : List Message). Alike (drain b (n .queue) n) (drain c q k)) (a .queue) (alike-drained (n .queue) (valid-sound v) t a)
+
+    late : leftOver b i n ≡ leftOver c i k
+    late =
+        unfold leftOver in
+        ap (λ (t : Bool). cond t ((n .timer + i) % b .timeout) 0) (alike-forced a (v .running-bound))
+        ∙ ap (λ (t : ℕ). cond (forced k) ((t + i) % b .timeout) 0) (a .timer)
+        ∙ ap (λ (t : ℕ). cond (forced k) ((k .timer + i) % t) 0) (same .timeout)
+
+    out : timerRuns n ≡ true → AlikeEffect (timed (leftOver b i n) (timedOut b (valued 0 n))) (timed (leftOver c i k) (timedOut c (valued 0 k)))
+    out ticks =
+        let x = drain b (n .queue) n in
+        let low : 1 ≤ x .running = rw (drain-running b (n .queue) n) (timer-timed v ticks .runs) in
+        let s = drain-sound (n .queue) n (valid-sound v) in
+        let marked : Alike (revoke x) (revoke (drain c (k .queue) k)) =
+        alike-timer-flagged s (drain-sound (k .queue) k (valid-sound w)) drained low _ true _ true
+        (runner-alike drained low (s .running-bound) .flags .force) refl in
         record {
-          node = alike-timer
-              (subst (λ (q : List Message). Alike (drain b (n .queue) n) (drain c q k)) (a .queue) (alike-drained (n .queue) (valid-sound v) t a)) 0;
+          node = subst (λ (t : ℕ). Alike (withTimer (leftOver b i n) (revoke x)) (withTimer t (revoke (drain c (k .queue) k)))) late
+              (alike-timer marked (leftOver b i n));
           value = refl;
           trap = refl;
           moved = ap (λ (q : List Message). 0 + length q) (a .queue);
           sent = refl;
         }
 
-    go : (q : List Message) → n .queue ≡ q → (u : Bool) → ltb (n .timer + i) (b .timeout) ≡ u → AlikeEffect (ticks b i (valued 0 n)) (ticks c i (valued 0 k))
-    go [] e u f = rw (ticks-idle b i n e, ticks-idle c i k (sym (a .queue) ∙ e)) (alike-valued a 0 0 refl)
-    go (m ∷ q) e true f =
+    go : (t : Bool) → timerRuns n ≡ t → (u : Bool) → ltb (n .timer + i) (b .timeout) ≡ u → AlikeEffect (ticks b i (valued 0 n)) (ticks c i (valued 0 k))
+    go false e u f = rw (ticks-idle b i n e, ticks-idle c i k (sym runs ∙ e)) (alike-valued a 0 0 refl)
+    go true e true f =
         let below = ltb-true _ _ f in
-        rw (ticks-counted b i n (rw e refl) below, ticks-counted c i k (some e) (omega (arith, a .timer, same .timeout)))
+        rw (ticks-counted b i n e below, ticks-counted c i k (sym runs ∙ e) (omega (arith, a .timer, same .timeout)))
         (alike-valued (subst (λ (t : ℕ). Alike (withTimer (n .timer + i) n) (withTimer (t + i) k)) (a .timer) (alike-timer a (n .timer + i))) 0 0 refl)
-    go (m ∷ q) e false f =
+    go true e false f =
         let reached = ltb-false _ _ f in
         rw (
-          ticks-timeout b i n (rw e refl) (v .timer-bound) reached,
-          ticks-timeout c i k (some e) (w .timer-bound) (omega (arith, a .timer, same .timeout)),
+          ticks-timeout b i n e (v .timer-bound) reached,
+          ticks-timeout c i k (sym runs ∙ e) (w .timer-bound) (omega (arith, a .timer, same .timeout)),
         )
-        out
+        (out e)
 
 -- what is left of a buffer's counts when its first message is removed
 removed-counts : (b : Build) (fs : List Frame) (es : List ℕ) (u : Buffer)
@@ -175,7 +206,7 @@ removed-counts b fs es u = go (eqb (u .count) 1 || eqb (u .used + 1) (b .perFram
 
 -- the first message of a buffer removed
 module _ {b c : Build} (same : SameButFrames b c) {n k : Node} (s : Sound b n) (t : Sound c k) (a : Alike n k) (g : ℕ) (low : 1 ≤ g) (high : g ≤ groupCount)
-    (e : buffered n g ≡ true) (f : buffered k g ≡ true) where
+    (e : bufferHolds n g ≡ true) (f : bufferHolds k g ≡ true) where
   abbrev left : Stock
   left = removeFirst b (n .free) (n .paging .entered) (groupOf n g .buffer)
 
@@ -184,7 +215,7 @@ module _ {b c : Build} (same : SameButFrames b c) {n k : Node} (s : Sound b n) (
 
   -- its group
   unbuffered-own : AlikeGroup (groupOf (withStock g left n) g) (groupOf (withStock g right k) g)
-  unfolding buffered
+  unfolding bufferHolds
   unbuffered-own =
       let x = a .groups g low high in
       let v = groupOf n g .buffer in
@@ -226,7 +257,7 @@ module _ {b c : Build} (same : SameButFrames b c) {n k : Node} (s : Sound b n) (
       go h low′ high′ (yes mine) = rw mine unbuffered-own
       go h low′ high′ (no other) = unbuffered-other h low′ high′ other
 
--- the running group's flags
+-- the running group's flags atomic and pending
 alike-flagged : {b c : Build} {n k : Node} → Sound b n → Sound c k → Alike n k → 1 ≤ n .running → (x y x′ y′ : Bool) → x ≡ x′ → y ≡ y′
     → Alike (flagged x y n) (flagged x′ y′ k)
 unfolding flagged withFlags
@@ -234,11 +265,19 @@ alike-flagged {n = n} {k} s t a low x y x′ y′ e f =
     let mine = runner-alike a low (s .running-bound) in
     runner-group s t a low (withFlags x y (groupOf n (n .running))) (withFlags x′ y′ (groupOf k (k .running)))
     (record {
-      flags = record { atomic = e; pending = f; descriptor = mine .flags .descriptor };
+      flags = record { atomic = e; pending = f; force = mine .flags .force; revoked = mine .flags .revoked; descriptor = mine .flags .descriptor };
       used = mine .used;
       count = mine .count;
       waits = mine .waits;
     })
+
+-- between the two acts of B, and of N
+atomic-sound : {b : Build} {n : Node} → Valid b n → 1 ≤ n .running → Sound b (flagged true (groupOf n (n .running) .pending) n)
+atomic-sound {b} {n} v low =
+    flagged-ready (valid-ready v) low true (groupOf n (n .running) .pending) (λ e. refl) (λ e. e) (λ e. refl) (λ e. refl) .sound
+
+unforced-sound : {b : Build} {n : Node} → Valid b n → 1 ≤ n .running → Sound b (timerFlagged false false n)
+unforced-sound v low = timer-flagged-ready (valid-ready v) low false false (λ e. absurd (false≢true e)) (λ e. absurd (false≢true e)) .sound
 
 -- M to L.
 module _ {b c : Build} (same : SameButFrames b c) {n k : Node} (v : Valid b n) (w : Valid c k) (a : Alike n k) (low : 1 ≤ n .running) where
@@ -254,7 +293,13 @@ module _ {b c : Build} (same : SameButFrames b c) {n k : Node} (v : Valid b n) (
   alike-described d d′ e =
       runner-group (valid-sound v) (valid-sound w) a low (withDescriptor d (groupOf n (n .running))) (withDescriptor d′ (groupOf k (k .running)))
       (record {
-        flags = record { atomic = mine .flags .atomic; pending = mine .flags .pending; descriptor = e };
+        flags = record {
+          atomic = mine .flags .atomic;
+          pending = mine .flags .pending;
+          force = mine .flags .force;
+          revoked = mine .flags .revoked;
+          descriptor = e;
+        };
         used = mine .used;
         count = mine .count;
         waits = mine .waits;
@@ -269,13 +314,13 @@ module _ {b c : Build} (same : SameButFrames b c) {n k : Node} (v : Valid b n) (
   -- D
   alike-removed : Alike (removed b n) (removed c k)
   unfolding removed
-  alike-removed = go (buffered n (n .running)) (buffered k (k .running)) refl refl (runner-buffered a low high)
+  alike-removed = go (bufferHolds n (n .running)) (bufferHolds k (k .running)) refl refl (runner-holds a low high)
     where
-      stocked : buffered n (n .running) ≡ true → buffered k (k .running) ≡ true
+      stocked : bufferHolds n (n .running) ≡ true → bufferHolds k (k .running) ≡ true
           → Alike (withStock (n .running) (removeFirst b (n .free) (n .paging .entered) (groupOf n (n .running) .buffer)) n)
           (withStock (k .running) (removeFirst c (k .free) (k .paging .entered) (groupOf k (k .running) .buffer)) k)
       stocked e f =
-          let f′ : buffered k (n .running) ≡ true = ap (buffered k) (a .running) ∙ f in
+          let f′ : bufferHolds k (n .running) ≡ true = ap (bufferHolds k) (a .running) ∙ f in
           subst
           (λ (r : ℕ).
           Alike (withStock (n .running) (removeFirst b (n .free) (n .paging .entered) (groupOf n (n .running) .buffer)) n)
@@ -287,7 +332,7 @@ module _ {b c : Build} (same : SameButFrames b c) {n k : Node} (v : Valid b n) (
           subst (λ (q : List Message). Alike (withQueue (withoutFirst (n .running) (n .queue)) n) (withQueue q k))
           (ap (λ (r : ℕ). withoutFirst r (n .queue)) (a .running) ∙ ap (withoutFirst (k .running)) (a .queue)) (alike-queue a (withoutFirst (n .running) (n .queue)))
 
-      go : (u x : Bool) → buffered n (n .running) ≡ u → buffered k (k .running) ≡ x → buffered n (n .running) ≡ buffered k (k .running)
+      go : (u x : Bool) → bufferHolds n (n .running) ≡ u → bufferHolds k (k .running) ≡ x → bufferHolds n (n .running) ≡ bufferHolds k (k .running)
           → Alike (cond u (withStock (n .running) (removeFirst b (n .free) (n .paging .entered) (groupOf n (n .running) .buffer)) n) (withQueue (withoutFirst (n .running) (n .queue)) n))
           (cond x (withStock (k .running) (removeFirst c (k .free) (k .paging .entered) (groupOf k (k .running) .buffer)) k) (withQueue (withoutFirst (k .running) (k .queue)) k))
       go true true e f r = stocked e f
@@ -302,16 +347,29 @@ module _ {b c : Build} (same : SameButFrames b c) {n k : Node} (v : Valid b n) (
       let runs : 1 ≤ removed b n .running = omega (arith, removed-running b n) in
       alike-timer (alike-flagged (removed-sound v low) (removed-sound w low′) alike-removed runs _ _ _ _ (mine .flags .atomic) refl) 0
 
+  -- B
+  alike-begun : (force : Bool) → Alike (begun force n) (begun force k)
+  unfolding begun flagged withGroup
+  alike-begun force =
+      alike-timer-flagged (atomic-sound v low) (atomic-sound w (omega (arith, a .running)))
+      (alike-flagged (valid-sound v) (valid-sound w) a low true _ true _ refl (mine .flags .pending)) low _ _ _ _
+      (ap (λ (t : Bool). force || t) (mine .flags .force)) (mine .flags .revoked)
+
+  -- N
+  alike-ended : Alike (ended n) (ended k)
+  unfolding ended timerFlagged withGroup
+  alike-ended =
+      alike-flagged (unforced-sound v low) (unforced-sound w (omega (arith, a .running)))
+      (alike-timer-flagged (valid-sound v) (valid-sound w) a low false false false false refl refl) low false _ false _ refl (mine .flags .pending)
+
   -- an accepted request
   alike-served : (r : Request) → AlikeEffect (serve b n r) (serve c k r)
   unfolding serve launched
   alike-served poll = alike-valued a _ _ (ap firstLength (runner-line a low high))
   alike-served (peek i) = alike-valued a _ _ (ap (λ (l : List Message). firstWord l i) (runner-line a low high))
   alike-served dispose = alike-extending disposeExtend alike-disposed
-  alike-served beginAtomic =
-      alike-valued (alike-flagged (valid-sound v) (valid-sound w) a low true _ true _ refl (mine .flags .pending)) 0 0 refl
-  alike-served endAtomic =
-      alike-extending atomicityExtend (alike-flagged (valid-sound v) (valid-sound w) a low false _ false _ refl (mine .flags .pending))
+  alike-served (beginAtomic force) = alike-valued (alike-begun force) 0 0 refl
+  alike-served endAtomic = alike-extending atomicityExtend alike-ended
   alike-served (describe x) =
       let d = ap (λ (l : List ℕ). l ++ (x ∷ [])) (mine .flags .descriptor) in
       alike-valued (alike-described _ _ d) _ _ (ap length d)
@@ -331,7 +389,7 @@ module _ {b c : Build} (same : SameButFrames b c) {n k : Node} (v : Valid b n) (
   alike-request poll = refl
   alike-request (peek i) = ap (λ (l : List Message). refusePeek l i) (runner-line a low high)
   alike-request dispose = ap refuseDispose (runner-line a low high)
-  alike-request beginAtomic = refl
+  alike-request (beginAtomic force) = refl
   alike-request endAtomic = ap refuseEnd (mine .flags .pending)
   alike-request (describe x) = ap refuseDescribe (mine .flags .descriptor)
   alike-request (launch i) = ap (λ (l : List ℕ). refuseLaunch l i) (mine .flags .descriptor)

@@ -92,7 +92,7 @@ pub record Ready (b : Build) (n : Node) : Type 0 where
   pub pending : PendingLines n
 
 -- a node is ready
-valid-ready : {b : Build} {n : Node} → Valid b n → Ready b n
+pub valid-ready : {b : Build} {n : Node} → Valid b n → Ready b n
 valid-ready v = record { sound = valid-sound v; pending = v .pending-line }
 
 -- a buffer exchanged for one with no more messages, and no group has more
@@ -158,7 +158,7 @@ ready-group {b} {n} y g low high G good same pending =
 
 module _ {b : Build} {n : Node} (y : Ready b n) (low : 1 ≤ n .running) where
   -- so do the running group's flags atomic and pending, where it stays atomic if it is pending, revoked or has force on
-  flagged-ready : (a p : Bool) → (p ≡ true → a ≡ true) → (p ≡ true → groupOf n (n .running) .pending ≡ true)
+  pub flagged-ready : (a p : Bool) → (p ≡ true → a ≡ true) → (p ≡ true → groupOf n (n .running) .pending ≡ true)
       → (groupOf n (n .running) .force ≡ true → a ≡ true) → (groupOf n (n .running) .revoked ≡ true → a ≡ true) → Ready b (flagged a p n)
   unfolding flagged withFlags
   flagged-ready a p atomic pending force revoked =
@@ -167,7 +167,7 @@ module _ {b : Build} {n : Node} (y : Ready b n) (low : 1 ≤ n .running) where
       (record { buffer = G .buffer; descriptor = G .descriptor; pending-atomic = atomic; force-atomic = force; revoked-atomic = revoked }) refl pending
 
   -- and its flags force and revoked, where it is atomic if one of them is on
-  timer-flagged-ready : (f r : Bool) → (f ≡ true → groupOf n (n .running) .atomic ≡ true) → (r ≡ true → groupOf n (n .running) .atomic ≡ true)
+  pub timer-flagged-ready : (f r : Bool) → (f ≡ true → groupOf n (n .running) .atomic ≡ true) → (r ≡ true → groupOf n (n .running) .atomic ≡ true)
       → Ready b (timerFlagged f r n)
   unfolding timerFlagged withTimerFlags
   timer-flagged-ready f r force revoked =

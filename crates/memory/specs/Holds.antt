@@ -8,7 +8,7 @@ use Rattle.rules.specs.Build.{paper01}
 use Rattle.rules.specs.Lists.{countOf}
 use Rattle.rules.specs.Frames.{takeFrame, appended, without, freeFirst, useUp, removeFirst, withStock}
 use Rattle.rules.specs.Memory.{words, placeWords}
-use Rattle.rules.specs.Node.{Message, Frame, Buffer, Node, groupOf, withQueue, withFree, withPaging, withEntered, withBuffer, placeOf, withFlags, withGroup}
+use Rattle.rules.specs.Node.{Message, Frame, Buffer, Node, groupOf, withQueue, withFree, withPaging, withEntered, withBuffer, placeOf, withFlags, withTimerFlags, withGroup}
 use Rattle.rules.specs.Sound.{Mapped}
 
 -- the memory m is the map of the node n, with the rest behind it
@@ -129,6 +129,10 @@ QueueRoom n = length (n .queue) < 16
 abbrev pub Any : Node → Type 0
 Any n = Unit {0}
 
--- the flags of group g are set
+-- the flags atomic and pending of group g are set
 unfoldable pub flagging : ℕ → Bool → Bool → Node → Node
 flagging g a p n = withGroup g (withFlags a p (groupOf n g)) n
+
+-- its timer's flags, force and revoked
+unfoldable pub timerFlagging : ℕ → Bool → Bool → Node → Node
+timerFlagging g f r n = withGroup g (withTimerFlags f r (groupOf n g)) n

@@ -1,10 +1,10 @@
 -- What a write does to memory: the one relation by which the functions over lent words say what they change. Assumes nothing.
 use Prim.Native.Nat.{ℕ, _+_, _≤_, _<_}
 use mathlib.Core.Path.{_≡_}
-use mathlib.Core.List.{List}
+use mathlib.Core.List.{List, [], _∷_}
 use lib.ListN.{length}
 use Rattle.rules.specs.Build.{groupCount}
-use Rattle.rules.specs.Memory.{size, groupStride, atomicOffset, pendingOffset, usedOffset, countOffset, word, wordsAt, groupAddress}
+use Rattle.rules.specs.Memory.{size, groupStride, atomicOffset, pendingOffset, forceOffset, revokedOffset, usedOffset, countOffset, word, wordsAt, groupAddress}
 use Rattle.memory.specs.declared.group.Group.{Group as Group·rt}
 
 -- m′ is m with the words ws at address a
@@ -34,14 +34,24 @@ groupRead m g =
     record {
       atomic = word m (groupAddress g + atomicOffset);
       pending = word m (groupAddress g + pendingOffset);
+      force = word m (groupAddress g + forceOffset);
+      revoked = word m (groupAddress g + revokedOffset);
       used = word m (groupAddress g + usedOffset);
       count = word m (groupAddress g + countOffset);
     }
 
--- the same with other flags
-abbrev pub reflagged : ℕ → ℕ → Group·rt → Group·rt
-reflagged a p x = record { atomic = a; pending = p; used = x .used; count = x .count }
+-- their words, which stand first in a group's record
+abbrev pub groupFront : Group·rt → List ℕ
+groupFront x = x .atomic ∷ x .pending ∷ x .force ∷ x .revoked ∷ x .used ∷ x .count ∷ []
 
--- and with other counts
+-- the same with these of the flags atomic and pending
+abbrev pub reflagged : ℕ → ℕ → Group·rt → Group·rt
+reflagged a p x = record { atomic = a; pending = p; force = x .force; revoked = x .revoked; used = x .used; count = x .count }
+
+-- with these of the timer's flags
+abbrev pub retimed : ℕ → ℕ → Group·rt → Group·rt
+retimed f r x = record { atomic = x .atomic; pending = x .pending; force = f; revoked = r; used = x .used; count = x .count }
+
+-- and with these counts
 abbrev pub recounted : ℕ → ℕ → Group·rt → Group·rt
-recounted h n x = record { atomic = x .atomic; pending = x .pending; used = h; count = n }
+recounted h n x = record { atomic = x .atomic; pending = x .pending; force = x .force; revoked = x .revoked; used = h; count = n }

@@ -42,52 +42,56 @@ pub const LINE: usize = 32;
 // The groups' records, and what stands where in one.
 pub const GROUPS_AT: usize = 196;
 
-pub const GROUP_STRIDE: usize = 110;
+pub const GROUP_STRIDE: usize = 112;
 
 pub const ATOMIC: usize = 0;
 
 pub const PENDING: usize = 1;
 
-pub const USED: usize = 2;
+pub const FORCE: usize = 2;
 
-pub const COUNT: usize = 3;
+pub const REVOKED: usize = 3;
 
-pub const HELD: usize = 4;
+pub const USED: usize = 4;
 
-pub const DESCRIBED: usize = 5;
+pub const COUNT: usize = 5;
 
-pub const DESCRIPTOR: usize = 6;
+pub const HELD: usize = 6;
 
-pub const LIST: usize = 14;
+pub const DESCRIBED: usize = 7;
+
+pub const DESCRIPTOR: usize = 8;
+
+pub const LIST: usize = 16;
 
 // How many page numbers a list has room for.
 pub const PAGES: usize = 96;
 
 // The frames and behind them the swap pages, and the words of one and of one of its places: length, eight words.
-pub const FRAMES_AT: usize = 1076;
+pub const FRAMES_AT: usize = 1092;
 
 pub const FRAME_STRIDE: usize = 72;
 
 pub const PLACE_STRIDE: usize = 9;
 
 // Swap space: the counts of the swap line and of the order of entry, the pages sent out and brought in, and the two lines.
-pub const SWAP_COUNT: usize = 7988;
+pub const SWAP_COUNT: usize = 8004;
 
-pub const ENTERED_COUNT: usize = 7989;
+pub const ENTERED_COUNT: usize = 8005;
 
-pub const OUT: usize = 7990;
+pub const OUT: usize = 8006;
 
-pub const BROUGHT: usize = 7991;
+pub const BROUGHT: usize = 8007;
 
-pub const SWAP_AT: usize = 7992;
+pub const SWAP_AT: usize = 8008;
 
-pub const ENTERED_AT: usize = 8056;
+pub const ENTERED_AT: usize = 8072;
 
 // How many page numbers the swap line has room for.
 pub const SWAP_LINE: usize = 64;
 
 // The words of a node.
-pub const SIZE: usize = 8088;
+pub const SIZE: usize = 8104;
 
 // Where place i of the hardware queue stands.
 pub fn queue_at(i: u32) -> usize

@@ -1,7 +1,7 @@
--- The head call: the part of the memory that it names holds the words of the running group's first message. A buffered group's first
--- message waits at the place after the used-up ones of its first frame, whose number stands first in the group's list; a direct group's is
--- the head of the hardware queue, which may stay only if it is the running group's. Both places are within the memory, for a frame's number
--- is below 96 and a buffer's used-up places are fewer than a frame's. Assumes nothing.
+-- The head call: the part of the memory that it names holds the words of the running group's first message. Where the group's buffer holds
+-- one, the first waits at the place after the used-up ones of its first frame, whose number stands first in the group's list; where it holds
+-- none, the first is the head of the hardware queue, which may stay only if it is the running group's. Both places are within the memory, for
+-- a frame's number is below 96 and a buffer's used-up places are fewer than a frame's. Assumes nothing.
 use Prim.Native.Nat.{ℕ, zero, suc, pred, _+_, _-_, _*_, _≤_, _<_}
 use mathlib.Core.Path.{_≡_, refl, sym, ap, _∙_}
 use mathlib.Core.Bool.{Bool, true, false, true≢false, false≢true}
@@ -13,7 +13,7 @@ use lib.Seq.{drop-cons}
 use borrow.Author.Tests.{ltb-true, ne-eqb}
 use Rattle.rules.specs.Lists.{Every, isEmpty, concatMap}
 use Rattle.rules.specs.Build.{paper01, pageCount, groupCount, wordLimit}
-use Rattle.rules.specs.Node.{Message, Place, Buffer, Group, Node, emptyGroup, emptyPlace, groupOf, buffered, messageOf, waiting, inBuffer, isOf, inQueue, line}
+use Rattle.rules.specs.Node.{Message, Place, Buffer, Group, Node, emptyGroup, emptyPlace, groupOf, bufferHolds, messageOf, waiting, inBuffer, isOf, inQueue, line}
 use Rattle.rules.specs.Valid.{GoodBuffer, Valid, frameNumber, frameList, idle, frameNumbers}
 use Rattle.rules.specs.Memory.{queuedAt, queueAt, queueStride, groupsAt, groupStride, placeStride, listOffset, heldOffset, usedOffset}
 use Rattle.rules.specs.Memory.{word, wordsAt, frameAddress, groupAddress, messageAt, messagesAt, placeAt, framePlaces, listAt, bufferAt, groupAt, nodeAt}
@@ -87,7 +87,7 @@ list-bounded n v g low high =
 unfoldable partWords : List ℕ → Part → List ℕ
 partWords m p = take (p .len) (drop (p .start) m)
 
--- The first message of a buffered group.
+-- The first message of a group whose buffer holds one.
 
 module _ (m : List ℕ) (h : isMemory m ≡ true) (g : ℕ) (low : 1 ≤ g) (high : g ≤ groupCount)
     (some : 1 ≤ groupOf (nodeAt m) g .buffer .count) where
@@ -135,33 +135,33 @@ module _ (m : List ℕ) (h : isMemory m ≡ true) (g : ℕ) (low : 1 ≤ g) (hig
       rw (buffer-at m g low high, waits-there)
       (some-words m (firstPlace m g + 1) (word m (firstPlace m g)) (few .0 .few-words) place-within)
 
--- The first message of the running group where it is direct: the head of the hardware queue.
+-- The first message of the running group where its buffer holds none: the head of the hardware queue.
 
-module _ (n : Node) (direct : buffered n (n .running) ≡ false) where
+module _ (n : Node) (none : bufferHolds n (n .running) ≡ false) where
   -- without messages in the queue it has none
   queue-empty : n .queue ≡ [] → isEmpty (line n (n .running)) ≡ true
   unfolding inQueue
-  queue-empty e = rw (direct-line n (n .running) direct, e)
+  queue-empty e = rw (direct-line n (n .running) none, e)
 
   -- the head that may stay is its first
   queue-first : Valid paper01 n → (x : Message) (q : List Message) → n .queue ≡ x ∷ q → firstWords (line n (n .running)) ≡ x .words
   unfolding firstWords inQueue
   queue-first v x q e =
       let own = is-of (n .running) x (stays n x (v .head-stays x q e) .0) in
-      rw (direct-line n (n .running) direct, e, filter-pass (isOf (n .running)) x q own)
+      rw (direct-line n (n .running) none, e, filter-pass (isOf (n .running)) x q own)
 
 module _ (m : List ℕ) (h : isMemory m ≡ true) where
   -- so the part that the head call names holds its words
-  queue-head : buffered (nodeAt m) (nodeAt m .running) ≡ false → isEmpty (line (nodeAt m) (nodeAt m .running)) ≡ false
+  queue-head : bufferHolds (nodeAt m) (nodeAt m .running) ≡ false → isEmpty (line (nodeAt m) (nodeAt m .running)) ≡ false
       → firstWords (line (nodeAt m) (nodeAt m .running)) ≡ partWords m (queuePart m)
   unfolding nodeAt partWords queuePart messageAt
-  queue-head direct some = go (word m queuedAt) refl
+  queue-head none some = go (word m queuedAt) refl
     where
       go : (k : ℕ) → word m queuedAt ≡ k → firstWords (line (nodeAt m) (nodeAt m .running)) ≡ partWords m (queuePart m)
-      go zero e = absurd (true≢false (sym (queue-empty (nodeAt m) direct (rw e (messages m .none queueAt))) ∙ some))
+      go zero e = absurd (true≢false (sym (queue-empty (nodeAt m) none (rw e (messages m .none queueAt))) ∙ some))
       go (suc k) e =
           let fits = memory-fits m .0 h .1 .0 .messages 0 (omega arith) in
-          queue-first (nodeAt m) direct (test-valid m h) (messageAt m queueAt) (messagesAt m (queueAt + queueStride) k)
+          queue-first (nodeAt m) none (test-valid m h) (messageAt m queueAt) (messagesAt m (queueAt + queueStride) k)
           (rw e (messages m .more queueAt k))
           ∙ some-words m (queueAt + 2) (word m (queueAt + 1)) (fits .few-words) (omega (arith, test-size m h))
 
@@ -172,14 +172,14 @@ module _ (m : List ℕ) (h : isMemory m ≡ true) where
 
   -- the head call's words are those of the running group's first message
   pub head-part : 1 ≤ nodeAt m .running → headWords m ≡ firstWords (line (nodeAt m) (nodeAt m .running))
-  unfolding runnerPart buffered partWords
+  unfolding runnerPart bufferHolds partWords
   head-part low =
       let n = nodeAt m in
       let runs = ne-eqb (n .running) 0 (omega arith) in
-      head-runner ∙ go runs (isEmpty (line n (n .running))) (buffered n (n .running)) refl refl
+      head-runner ∙ go runs (isEmpty (line n (n .running))) (bufferHolds n (n .running)) refl refl
     where
       go : eqb (nodeAt m .running) 0 ≡ false → (empty waits : Bool)
-          → isEmpty (line (nodeAt m) (nodeAt m .running)) ≡ empty → buffered (nodeAt m) (nodeAt m .running) ≡ waits
+          → isEmpty (line (nodeAt m) (nodeAt m .running)) ≡ empty → bufferHolds (nodeAt m) (nodeAt m .running) ≡ waits
           → partWords m (runnerPart m (nodeAt m)) ≡ firstWords (line (nodeAt m) (nodeAt m .running))
       go runs true waits e w = rw (runs, e) (sym (first-empty (line (nodeAt m) (nodeAt m .running)) e))
       go runs false true e w =

@@ -14,7 +14,7 @@ use Rattle.rules.specs.Lists.{concatMap, pad}
 use Rattle.rules.specs.Build.{paper01, pageCount, wordLimit}
 use Rattle.rules.specs.Node.{Message, Place, Group}
 use Rattle.rules.specs.Valid.{GoodMessage, GoodPlace}
-use Rattle.rules.specs.Memory.{queueStride, groupStride, placeStride, atomicOffset, pendingOffset, usedOffset, countOffset, heldOffset, describedOffset, descriptorOffset, listOffset}
+use Rattle.rules.specs.Memory.{queueStride, groupStride, placeStride, atomicOffset, pendingOffset, forceOffset, revokedOffset, usedOffset, countOffset, heldOffset, describedOffset, descriptorOffset, listOffset}
 use Rattle.rules.specs.Memory.{word, wordsAt, flagWord, messageWords, listWords, groupWords, placeWords, messageAt, messagesAt, placeAt, placesAt, framePlaces, flagAt, listAt, bufferAt, groupAt, groupsFrom}
 use Rattle.rules.specs.MemoryTest.{zeroAt}
 use Rattle.rules.proofs.Steps.ListLaws.{length-pad}
@@ -115,7 +115,7 @@ pub groups : (m : List ℕ) → Records (groupAt m) groupStride (groupsFrom m)
 unfolding groupsFrom
 groups m = record { none = λ a. refl; more = λ a k. refl }
 
--- a group takes 110 words
+-- a group takes 112 words
 pub length-group : (G : Group) → length (groupWords G) ≡ groupStride
 unfolding groupWords listWords
 length-group G = simp (length-append, length-pad)
@@ -124,6 +124,8 @@ length-group G = simp (length-append, length-pad)
 pub record GroupStands (m : List ℕ) (a : ℕ) (G : Group) : Type 0 where
   pub atomic : word m (a + atomicOffset) ≡ flagWord (G .atomic)
   pub pending : word m (a + pendingOffset) ≡ flagWord (G .pending)
+  pub force : word m (a + forceOffset) ≡ flagWord (G .force)
+  pub revoked : word m (a + revokedOffset) ≡ flagWord (G .revoked)
   pub used : word m (a + usedOffset) ≡ G .buffer .used
   pub count : word m (a + countOffset) ≡ G .buffer .count
   pub held : word m (a + heldOffset) ≡ length (G .buffer .frames)
@@ -137,6 +139,8 @@ pub record GroupStands (m : List ℕ) (a : ℕ) (G : Group) : Type 0 where
 pub record GroupFits (m : List ℕ) (a : ℕ) : Type 0 where
   pub atomic : word m (a + atomicOffset) ≤ 1
   pub pending : word m (a + pendingOffset) ≤ 1
+  pub force : word m (a + forceOffset) ≤ 1
+  pub revoked : word m (a + revokedOffset) ≤ 1
   pub held : word m (a + heldOffset) ≤ pageCount paper01
   pub described : word m (a + describedOffset) ≤ wordLimit
   pub list-zero : zeroAt m (a + listOffset + word m (a + heldOffset)) (pageCount paper01 - word m (a + heldOffset)) ≡ true
@@ -161,25 +165,36 @@ module _ (m : List ℕ) (a : ℕ) where
       → Stands m a (groupWords G) ↔ GroupStands m a G
   unfolding groupWords listWords
   group-stands G h l =
-      let both = stands-append m (a + 6) (pad wordLimit (G .descriptor)) (listWords (G .buffer .frames)) in
-      let e : a + 6 + 8 ≡ a + 14 = omega arith in
+      let both = stands-append m (a + descriptorOffset) (pad wordLimit (G .descriptor)) (listWords (G .buffer .frames)) in
+      let e : a + descriptorOffset + wordLimit ≡ a + listOffset = omega arith in
       simp (stands-cons, next-address, both, length-pad, e, pad-stands) (
         λ k.
             record {
               atomic = rw add-zero (k .0);
               pending = k .1 .0;
-              used = k .1 .1 .0;
-              count = k .1 .1 .1 .0;
-              held = k .1 .1 .1 .1 .0;
-              described = k .1 .1 .1 .1 .1 .0;
-              descriptor = k .1 .1 .1 .1 .1 .1 .0 .0;
-              descriptor-zero = k .1 .1 .1 .1 .1 .1 .0 .1;
-              list = k .1 .1 .1 .1 .1 .1 .1 .0;
-              list-zero = k .1 .1 .1 .1 .1 .1 .1 .1;
+              force = k .1 .1 .0;
+              revoked = k .1 .1 .1 .0;
+              used = k .1 .1 .1 .1 .0;
+              count = k .1 .1 .1 .1 .1 .0;
+              held = k .1 .1 .1 .1 .1 .1 .0;
+              described = k .1 .1 .1 .1 .1 .1 .1 .0;
+              descriptor = k .1 .1 .1 .1 .1 .1 .1 .1 .0 .0;
+              descriptor-zero = k .1 .1 .1 .1 .1 .1 .1 .1 .0 .1;
+              list = k .1 .1 .1 .1 .1 .1 .1 .1 .1 .0;
+              list-zero = k .1 .1 .1 .1 .1 .1 .1 .1 .1 .1;
             },
         λ k. (
           rw add-zero at (k .atomic),
-          (k .pending, (k .used, (k .count, (k .held, (k .described, ((k .descriptor, k .descriptor-zero), (k .list, k .list-zero))))))),
+          (
+            k .pending,
+            (
+              k .force,
+              (
+                k .revoked,
+                (k .used, (k .count, (k .held, (k .described, ((k .descriptor, k .descriptor-zero), (k .list, k .list-zero)))))),
+              ),
+            ),
+          ),
         ),
       )
 
@@ -191,18 +206,24 @@ module _ (m : List ℕ) (a : ℕ) where
       let k = group-stands G h l .0 s in
       let atomic : flagAt m (a + atomicOffset) ≡ G .atomic = rw (k .atomic) (flag-read (G .atomic) .0) in
       let pending : flagAt m (a + pendingOffset) ≡ G .pending = rw (k .pending) (flag-read (G .pending) .0) in
+      let force : flagAt m (a + forceOffset) ≡ G .force = rw (k .force) (flag-read (G .force) .0) in
+      let revoked : flagAt m (a + revokedOffset) ≡ G .revoked = rw (k .revoked) (flag-read (G .revoked) .0) in
       let list : listAt m a ≡ G .buffer .frames = wordsAt-stands m (a + listOffset) (word m (a + heldOffset)) (G .buffer .frames) (sym (k .held)) (k .list) in
       let descriptor = wordsAt-stands m (a + descriptorOffset) (word m (a + describedOffset)) (G .descriptor) (sym (k .described)) (k .descriptor) in
       let places = ap (concatMap (framePlaces m)) list ∙ e in (
         λ i. record {
           atomic = atomic i;
           pending = pending i;
+          force = force i;
+          revoked = revoked i;
           buffer = record { used = k .used i; count = k .count i; frames = list i; places = places i };
           descriptor = descriptor i;
         },
         record {
           atomic = rw (k .atomic) (flag-read (G .atomic) .1);
           pending = rw (k .pending) (flag-read (G .pending) .1);
+          force = rw (k .force) (flag-read (G .force) .1);
+          revoked = rw (k .revoked) (flag-read (G .revoked) .1);
           held = rw (k .held) l;
           described = rw (k .described) h;
           list-zero = rw (k .held) (k .list-zero);
@@ -220,6 +241,8 @@ module _ (m : List ℕ) (a : ℕ) where
       (record {
         atomic = flag-word (word m (a + atomicOffset)) (f .atomic);
         pending = flag-word (word m (a + pendingOffset)) (f .pending);
+        force = flag-word (word m (a + forceOffset)) (f .force);
+        revoked = flag-word (word m (a + revokedOffset)) (f .revoked);
         used = refl;
         count = refl;
         held = sym held;

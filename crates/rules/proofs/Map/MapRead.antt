@@ -27,17 +27,17 @@ use Rattle.rules.proofs.Map.MapPaging.{length-paging, read-paging, Pagi
 use Rattle.rules.proofs.Map.MapTest.{Fits}
 
 -- four numbers and five lists of these lengths fill the node's size
-regions-length : (a b c d : ℕ) (q l g f p : List ℕ) → length q ≡ 160 → length l ≡ 32 → length g ≡ 880 → length f ≡ 6912 → length p ≡ 100
+regions-length : (a b c d : ℕ) (q l g f p : List ℕ) → length q ≡ 160 → length l ≡ 32 → length g ≡ 896 → length f ≡ 6912 → length p ≡ 100
     → length (a ∷ b ∷ c ∷ d ∷ q ++ (l ++ (g ++ (f ++ p)))) ≡ size
 regions-length a b c d q l g f p eq el eg ef ep = simp (length-append, eq, el, eg, ef, ep)
 
 -- and stand each at its own address
-regions-stand : (m : List ℕ) (a b c d : ℕ) (q l g f p : List ℕ) → length q ≡ 160 → length l ≡ 32 → length g ≡ 880 → length f ≡ 6912
+regions-stand : (m : List ℕ) (a b c d : ℕ) (q l g f p : List ℕ) → length q ≡ 160 → length l ≡ 32 → length g ≡ 896 → length f ≡ 6912
     → Stands m 0 (a ∷ b ∷ c ∷ d ∷ q ++ (l ++ (g ++ (f ++ p))))
     ↔ ((word m 0 ≡ a) × ((word m 1 ≡ b) × ((word m 2 ≡ c) × ((word m 3 ≡ d)
-    × (Stands m 4 q × (Stands m 164 l × (Stands m 196 g × (Stands m 1076 f × Stands m 7988 p))))))))
+    × (Stands m queueAt q × (Stands m freeAt l × (Stands m groupsAt g × (Stands m framesAt f × Stands m pagingAt p))))))))
 regions-stand m a b c d q l g f p eq el eg ef =
-    let both = stands-append m 4 q (l ++ (g ++ (f ++ p))) in
+    let both = stands-append m queueAt q (l ++ (g ++ (f ++ p))) in
     simp (stands-cons, both, stands-append, eq, el, eg, ef) Iff·rfl
 
 -- what stands where in the map of a node
@@ -62,8 +62,8 @@ pub length-line : (fs : List ℕ) → length (lineWords fs) ≡ 32
 unfolding lineWords
 length-line fs = length-pad (paper01 .frames) fs
 
--- and eight groups have 110 words each
-length-groups : (Gs : List Group) → length Gs ≡ groupCount → length (concatMap groupWords Gs) ≡ 880
+-- and eight groups have 112 words each
+length-groups : (Gs : List Group) → length Gs ≡ groupCount → length (concatMap groupWords Gs) ≡ 896
 length-groups Gs e = length-parts groupWords groupStride Gs (every-of _ Gs (λ G h. length-group G)) ∙ ap (λ (k : ℕ). groupStride * k) e
 
 module _ (n : Node) (v : Mapped n) where

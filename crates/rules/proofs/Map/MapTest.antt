@@ -61,11 +61,16 @@ module _ (m : List ℕ) where
               held = h .0 .0;
               described = h .0 .1;
               atomic = h .1 .0 .0;
-              pending = h .1 .0 .1;
+              pending = h .1 .0 .1 .0;
+              force = h .1 .0 .1 .1 .0;
+              revoked = h .1 .0 .1 .1 .1;
               list-zero = h .1 .1 .0;
               descriptor-zero = h .1 .1 .1;
             },
-        λ f. ((f .held, f .described), ((f .atomic, f .pending), (f .list-zero, f .descriptor-zero))),
+        λ f. (
+          (f .held, f .described),
+          ((f .atomic, (f .pending, (f .force, f .revoked))), (f .list-zero, f .descriptor-zero)),
+        ),
       )
 
   -- the tests of all groups

@@ -4,7 +4,7 @@
 use Prim.Native.Nat.{ℕ, zero, suc, _+_, _≤_, _<_}
 use mathlib.Core.Path.{_≡_, refl, sym, subst}
 use mathlib.Core.Logic.{_↔_, _⊎_, inl, inr, Iff·trans, Iff·and, Iff·rfl}
-use mathlib.Core.Bool.{Bool, true, false, not, _||_, and-eq-true-iff, true≢false, false≢true}
+use mathlib.Core.Bool.{Bool, true, false, not, _||_, or-comm, and-eq-true-iff, true≢false, false≢true}
 use mathlib.Core.List.{List, [], _∷_, nil≢cons, head-eq-of-cons-eq}
 use native.Mathlib.Omega.{arith}
 use native.Mathlib.Nat.{eq-or-lt-of-le}
@@ -12,11 +12,11 @@ use lib.Dec.{leb, ltb, eqb}
 use borrow.Author.Tests.{leb-true, ltb-true, eqb-true, le-leb, lt-ltb, eq-eqb, eqb-false, ne-eqb, not-true}
 use Rattle.rules.specs.Lists.{all, Every, passes, isEmpty, countOf, upFrom}
 use Rattle.rules.specs.Build.{Build, Sensible, groupCount}
-use Rattle.rules.specs.Node.{Message, Place, Frame, Buffer, Group, Node, groupOf, line}
+use Rattle.rules.specs.Node.{Message, Place, Frame, Buffer, Group, Node, groupOf, forced, line}
 use Rattle.rules.specs.Paging.{inFrame}
 use Rattle.rules.specs.Settling.{mayStay}
 use Rattle.rules.specs.Valid.{Zero, GoodMessage, GoodPlace, GoodWaiting, GoodFrame, GoodBuffer, GoodGroup, IsSwap, FirstInFrame, Valid}
-use Rattle.rules.specs.Valid.{isMessage, isPlace, isWaiting, isFrame, isBuffer, isGroup, pendingHasLine, runnerAtomic, headStays, isSwap, firstInFrame, runnerInFrame, standsOnce, nodeTests, isNode}
+use Rattle.rules.specs.Valid.{isMessage, isPlace, isWaiting, isFrame, isBuffer, onlyAtomic, isGroup, pendingHasLine, runnerAtomic, headStays, isSwap, firstInFrame, runnerInFrame, standsOnce, nodeTests, isNode}
 
 -- Tests in general.
 
@@ -60,6 +60,11 @@ implies-tells false b = (λ e h. absurd (false≢true h), λ f. refl)
 pub or-tells : (a b : Bool) → (a || b ≡ true) ↔ (a ≡ false → b ≡ true)
 or-tells true b = (λ e h. absurd (true≢false h), λ f. refl)
 or-tells false b = (λ e h. e, λ f. f refl)
+
+-- what follows from "a or b" follows from each
+either-tells : (a b : Bool) (P : Type 0) → ((a || b ≡ true) → P) ↔ ((a ≡ true → P) × (b ≡ true → P))
+either-tells true b P = (λ f. (f, λ e. f refl), λ p. p .0)
+either-tells false b P = (λ f. (λ e. absurd (false≢true e), f), λ p. p .1)
 
 -- and "not a" is that failure
 pub not-tells : (a : Bool) → (not a ≡ true) ↔ (a ≡ false)
@@ -118,6 +123,13 @@ waiting-tells p =
 waitings-tell : (ps : List Place) → (all isWaiting ps ≡ true) ↔ Every GoodWaiting ps
 waitings-tell = all-every isWaiting GoodWaiting waiting-tells
 
+-- flags that stand only with atomic
+flags-tell : (G : Group)
+    → (onlyAtomic G ≡ true)
+    ↔ ((G .pending ≡ true → G .atomic ≡ true) × ((G .force ≡ true → G .atomic ≡ true) × (G .revoked ≡ true → G .atomic ≡ true)))
+unfolding onlyAtomic
+flags-tell G = rw (or-comm (G .atomic)) (simp (implies-tells, either-tells) Iff·rfl)
+
 module _ (b : Build) where
   -- a free frame
   frame-tells : (f : Frame) → (isFrame b f ≡ true) ↔ GoodFrame b f
@@ -140,8 +152,10 @@ module _ (b : Build) where
   -- a group
   group-tells : (G : Group) → (isGroup b G ≡ true) ↔ GoodGroup b G
   unfolding isGroup
-  group-tells G =
-      (λ (h : isGroup b G ≡ true). let k = simp (tells, buffer-tells) at h in search, λ g. simp (tells, buffer-tells) (search))
+  group-tells G = (
+    λ (h : isGroup b G ≡ true). let k = simp (tells, buffer-tells, flags-tell) at h in search,
+    λ g. simp (tells, buffer-tells, flags-tell) (search),
+  )
 
   -- the groups
   groups-tell : (Gs : List Group) → (all (isGroup b) Gs ≡ true) ↔ Every (GoodGroup b) Gs
@@ -187,11 +201,14 @@ resident-tells : (b : Build) (n : Node) → (runnerInFrame b n ≡ true) ↔ (1 
 unfolding runnerInFrame
 resident-tells b n = simp (or-tells, zero-tells, first-tells) Iff·rfl
 
--- the head of the queue may stay, and without one the timer is 0
+-- the head of the queue may stay, and without one the timer is 0 or forced
 head-tells : (n : Node) (q : List Message)
-    → (headStays q n ≡ true) ↔ (((m : Message) (r : List Message) → q ≡ m ∷ r → mayStay n m ≡ true) × (q ≡ [] → n .timer ≡ 0))
+    → (headStays q n ≡ true)
+    ↔ (((m : Message) (r : List Message) → q ≡ m ∷ r → mayStay n m ≡ true) × (q ≡ [] → forced n ≡ false → n .timer ≡ 0))
 unfolding headStays
-head-tells n [] = (λ e. (λ m r p. absurd (nil≢cons p), λ p. eqb-true (n .timer) 0 e), λ h. eq-eqb (n .timer) 0 (h .1 refl))
+head-tells n [] =
+    let idle : (eqb (n .timer) 0 || forced n ≡ true) ↔ (forced n ≡ false → n .timer ≡ 0) = rw (or-comm (eqb (n .timer) 0)) (simp (or-tells, eqb-tells) Iff·rfl) in
+    (λ e. (λ m r p. absurd (nil≢cons p), λ p. idle .0 e), λ h. idle .1 (h .1 refl))
 head-tells n (x ∷ xs) =
     (λ e. (λ m r p. rw (head-eq-of-cons-eq p) at e, λ p. absurd (nil≢cons (sym p))), λ h. h .0 x xs refl)
 

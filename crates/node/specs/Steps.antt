@@ -1,16 +1,16 @@
 -- What the functions over the memory of a node promise: settling, the upcall, and each step. Assumes nothing.
-use Prim.Native.Nat.{ℕ, _≤_}
+use Prim.Native.Nat.{ℕ, _%_, _≤_}
 use mathlib.Core.Bool.{true, cond, false}
 use mathlib.Core.List.{List, [], _∷_}
 use mathlib.Core.Path.{_≡_}
 use lib.ListN.{length, getD}
 use Rattle.rules.specs.Build.{paper01}
 use Rattle.rules.specs.Lists.{isEmpty}
-use Rattle.rules.specs.Node.{Message, Node, buffered, line}
-use Rattle.rules.specs.Operation.{Request, Operation, user, disposeExtend, noTrap}
+use Rattle.rules.specs.Node.{Message, Node, groupOf, withTimer, buffered, forced, line}
+use Rattle.rules.specs.Operation.{Request, Operation, user, disposeExtend, noTrap, timeoutTrap}
 use Rattle.rules.specs.Paging.{store}
 use Rattle.rules.specs.Settling.{mayStay, settle, drain, upcall, upcallGroup}
-use Rattle.rules.specs.Step.{Effect, finish, step, removed}
+use Rattle.rules.specs.Step.{Effect, finish, revoke, step, removed}
 use Rattle.rules.specs.Types.{operationOf, reportOf}
 use Rattle.rules.specs.declared.Operation.{Operation as Operation·rt}
 use Rattle.rules.specs.Valid.{Valid}
@@ -81,9 +81,23 @@ pub record Called (m′ : List ℕ) (n : Node) (rest : List ℕ) (g : ℕ) : Typ
   pub group : g ≡ upcallGroup n
   pub holds : Holds m′ (upcall n) rest
 
+-- a node in the middle of a step whose timer runs: a group runs, and it is atomic
+pub record Ticking (n : Node) : Type 0 where
+  pub sound : Sound paper01 n
+  pub some : 1 ≤ n .running
+  pub atomic : groupOf n (n .running) .atomic ≡ true
+
+-- what is left over of t ticks once the timeout has come: nothing where the timer is not forced
+unfoldable pub rest : ℕ → Node → ℕ
+rest t n = cond (forced n) (t % paper01 .timeout) 0
+
 -- an operation that sends nothing
 abbrev pub effect : Node → ℕ → ℕ → ℕ → Effect
 effect n value trap moved = record { node = n; value = value; trap = trap; moved = moved; sent = [] }
+
+-- t ticks on the timer reach the timeout
+abbrev pub late : ℕ → Node → Effect
+late t n = effect (withTimer (rest t n) (revoke (drain paper01 (n .queue) n))) 0 timeoutTrap (length (n .queue))
 
 -- what comes after an operation with this effect
 pub record Finished (m′ : List ℕ) (e : Effect) (rest : List ℕ) (rep : Report·rt) : Type 0 where

@@ -1,14 +1,19 @@
 // The kernel's operations: S and T.
 use super::settling;
 use memory::Node;
+use memory::group;
 use memory::map;
 use rules::Report;
+ghost use mathlib.Core.List.{List};
+ghost use mathlib.Core.Path.{_≡_};
+ghost use Prim.Native.Nat.{ℕ};
 ghost use Rattle.rules.specs.Build.{paper01};
+ghost use Rattle.rules.specs.Node.{Node};
 ghost use Rattle.rules.specs.Operation.{schedule, tick};
-ghost use Rattle.rules.specs.Step.{valued, timedOut};
+ghost use Rattle.rules.specs.Step.{revoke};
 ghost use Rattle.rules.specs.Sound.{Sound};
-ghost use Rattle.memory.specs.Holds.{Some};
-ghost use Rattle.node.specs.Steps.{IsNode, Steps, Finishes};
+ghost use Rattle.memory.specs.Holds.{Holds, Some, Becomes};
+ghost use Rattle.node.specs.Steps.{IsNode, Steps, Ticking, Finished, rest, late};
 
 // S: the processor is given to group g, 0 to nobody.
 pub fn schedule(m: &mut [u32], g: u32) -> Report
@@ -26,7 +31,8 @@ pub fn schedule(m: &mut [u32], g: u32) -> Report
     settling::finish(m, 0, 0, 0)
 }
 
-// T: k ticks, which count while the queue isn't empty.
+// T: k ticks, which count while the timer runs. They are not played one by one: ticks in a row leave what one timeout leaves, and on a forced
+// timer what is left over.
 pub fn tick(m: &mut [u32], k: u32) -> Report
     requires { ⌜ IsNode (now m) ⌝ }
     ensures { λ rep. ⌜ Steps (now (m .entry)) (now (m .exit)) (tick k) rep ⌝ }
@@ -37,7 +43,7 @@ pub fn tick(m: &mut [u32], k: u32) -> Report
     if k > Node::TICK_LIMIT {
         return Report::refused(Report::BAD_TICKS);
     }
-    if m[map::QUEUED] == 0 {
+    if !settling::timer_runs(m) {
         return Report::accepted(0, 0, 0, 0);
     }
     let t = m[map::TIMER] + k;
@@ -45,15 +51,38 @@ pub fn tick(m: &mut [u32], k: u32) -> Report
         m[map::TIMER] = t;
         return Report::accepted(0, 0, 0, 0);
     }
-    timeout(m)
+    timeout(m, t)
 }
 
-// The whole queue moves to the buffers, and the timer is 0.
-pub fn timeout(m: &mut [u32]) -> Report
+// What is left over of t ticks on the timer once a timeout has come: nothing where it is not forced.
+pub fn left_over(m: &[u32], t: u32) -> u32
     requires { ⌜ Some (now m) (Sound paper01) ⌝ }
-    ensures { λ rep. ⌜ Finishes (now (m .entry)) (now (m .exit)) (λ n. timedOut paper01 (valued 0 n)) rep ⌝ }
+    ensures { λ x. ⌜ ((n : Node) (r : List ℕ) → Holds (now (m .entry)) n r → Sound paper01 n → x ≡ rest t n) ⌝ }
 {
+    if settling::forced(m) {
+        return t % Node::TIMEOUT;
+    }
+    0
+}
+
+// The running group is marked revoked.
+pub fn revoke(m: &mut [u32])
+    requires { ⌜ Some (now m) Ticking ⌝ }
+    ensures { λ _. ⌜ Becomes (now (m .entry)) (now (m .exit)) Ticking revoke ⌝ }
+{
+    let g = m[map::RUNNING];
+    let x = group::read(m, g);
+    group::set_timer_flags(m, g, x.force, 1);
+}
+
+// The t ticks on the timer reach the timeout: the whole queue moves to the buffers, and the running group is revoked.
+pub fn timeout(m: &mut [u32], t: u32) -> Report
+    requires { ⌜ Some (now m) Ticking ⌝ }
+    ensures { λ rep. ⌜ ((n : Node) (r : List ℕ) → Holds (now (m .entry)) n r → Ticking n → Finished (now (m .exit)) (late t n) r rep) ⌝ }
+{
+    let left = left_over(m, t);
     let moved = settling::drain(m);
-    m[map::TIMER] = 0;
+    revoke(m);
+    m[map::TIMER] = left;
     settling::finish(m, 0, Report::TIMED_OUT, moved)
 }

@@ -103,7 +103,7 @@ fn request(memory: &mut [u32], op: Operation) -> Report
         Operation::Poll => user::poll(memory),
         Operation::Peek(i) => user::peek(memory, i),
         Operation::Dispose => section::dispose(memory),
-        Operation::BeginAtomic => section::begin(memory),
+        Operation::BeginAtomic(force) => section::begin(memory, force),
         Operation::EndAtomic => section::end(memory),
         Operation::Describe(w) => user::describe(memory, w),
         Operation::Launch(k) => user::launch(memory, k),

@@ -1,4 +1,4 @@
-// The running group's first message, where it stands: in its first frame while the group is buffered, else at the head of the queue.
+// The running group's first message, where it stands: in its first frame while its buffer holds one, else at the head of the queue.
 use memory::map;
 ghost use Rattle.node.specs.Steps.{IsNode};
 ghost use Rattle.node.specs.Parts.{FirstPart, FirstWords};

@@ -12,18 +12,20 @@ ghost use Rattle.rules.specs.Operation.{beginAtomic, endAtomic, dispose};
 ghost use Rattle.memory.specs.Holds.{Holds, Some};
 ghost use Rattle.node.specs.Steps.{IsRunning, Serves, WithLine, TookFirst};
 
-// B: atomic on.
-pub fn begin(m: &mut [u32]) -> Report
+// B: atomic on, and force too if it is so asked.
+pub fn begin(m: &mut [u32], force: bool) -> Report
     requires { ⌜ IsRunning (now m) ⌝ }
-    ensures { λ rep. ⌜ Serves (now (m .entry)) (now (m .exit)) beginAtomic rep ⌝ }
+    ensures { λ rep. ⌜ Serves (now (m .entry)) (now (m .exit)) (beginAtomic force) rep ⌝ }
 {
     let g = m[map::RUNNING];
     let x = group::read(m, g);
+    let forced = if force { 1 } else { x.force };
     group::set_flags(m, g, 1, x.pending);
+    group::set_timer_flags(m, g, forced, x.revoked);
     Report::accepted(0, 0, 0, 0)
 }
 
-// N: atomic off.
+// N: atomic off, and with it force and revoked.
 pub fn end(m: &mut [u32]) -> Report
     requires { ⌜ IsRunning (now m) ⌝ }
     ensures { λ rep. ⌜ Serves (now (m .entry)) (now (m .exit)) endAtomic rep ⌝ }
@@ -38,6 +40,7 @@ pub fn end(m: &mut [u32]) -> Report
     } else {
         0
     };
+    group::set_timer_flags(m, g, 0, 0);
     group::set_flags(m, g, 0, 0);
     settling::finish(m, 0, trap, 0)
 }
@@ -65,7 +68,7 @@ pub fn remove(m: &mut [u32], g: u32) -> u32
     requires { ⌜ Some (now m) (WithLine g) ⌝ }
     ensures { λ t. ⌜ ((n : Node) (r : List ℕ) → Holds (now (m .entry)) n r → WithLine g n → TookFirst (now (m .exit)) n r t) ⌝ }
 {
-    if group::buffered(m, g) {
+    if group::holds(m, g) {
         buffer::unbuffer(m, g);
         return Report::DISPOSE_EXTEND;
     }

@@ -12,10 +12,10 @@ ghost use Prim.Native.Nat.{ℕ, _≤_};
 ghost use lib.ListN.{length};
 ghost use Rattle.rules.specs.Build.{paper01, groupCount};
 ghost use Rattle.rules.specs.Memory.{size};
-ghost use Rattle.rules.specs.Node.{Message, Node};
+ghost use Rattle.rules.specs.Node.{Message, Node, forced, timerRuns};
 ghost use Rattle.rules.specs.Settling.{mayStay, restTimer};
 ghost use Rattle.rules.specs.Sound.{Sound};
-ghost use Rattle.memory.specs.Holds.{Holds, Some, Becomes, Any};
+ghost use Rattle.memory.specs.Holds.{Holds, Some, Becomes};
 ghost use Rattle.node.specs.Steps.{Headed, Settled, Drained, Settles, Called, Finishes, movingHead, effect};
 
 // Whether a message of group g may stay at the head of the queue.
@@ -42,12 +42,35 @@ pub fn move_head(m: &mut [u32])
     queue::drop_head(m);
 }
 
-// An empty queue puts the timer to rest.
-pub fn rest_timer(m: &mut [u32])
-    requires { ⌜ size ≤ length (now m) ⌝ }
-    ensures { λ _. ⌜ Becomes (now (m .entry)) (now (m .exit)) Any restTimer ⌝ }
+// Whether the timer is forced: the running group has force on, and is then atomic.
+pub fn forced(m: &[u32]) -> bool
+    requires { ⌜ Some (now m) (Sound paper01) ⌝ }
+    ensures { λ t. ⌜ ((n : Node) (r : List ℕ) → Holds (now (m .entry)) n r → Sound paper01 n → forced n ≡ t) ⌝ }
 {
-    if m[map::QUEUED] == 0 {
+    let g = m[map::RUNNING];
+    if g == 0 {
+        return false;
+    }
+    map::group_word(m, g, map::FORCE) != 0
+}
+
+// Whether the timer runs: a message is queued, or it is forced.
+pub fn timer_runs(m: &[u32]) -> bool
+    requires { ⌜ Some (now m) (Sound paper01) ⌝ }
+    ensures { λ t. ⌜ ((n : Node) (r : List ℕ) → Holds (now (m .entry)) n r → Sound paper01 n → timerRuns n ≡ t) ⌝ }
+{
+    if m[map::QUEUED] != 0 {
+        return true;
+    }
+    forced(m)
+}
+
+// A timer that does not run is put to rest.
+pub fn rest_timer(m: &mut [u32])
+    requires { ⌜ Some (now m) (Sound paper01) ⌝ }
+    ensures { λ _. ⌜ Becomes (now (m .entry)) (now (m .exit)) (Sound paper01) restTimer ⌝ }
+{
+    if !timer_runs(m) {
         m[map::TIMER] = 0;
     }
 }

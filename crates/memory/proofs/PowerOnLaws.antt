@@ -1,6 +1,6 @@
 -- The words at power-on: all 0 but the counts and the lines of the free frames and the free swap pages. Assumes nothing.
 use Rattle.rules.specs.MemoryTest.{powerOnMemory, replaced}
-use Prim.Native.Nat.{_+_, _≤_, suc, zero, ℕ, _<_}
+use Prim.Native.Nat.{_+_, _-_, _≤_, suc, zero, ℕ, _<_}
 use native.Mathlib.Nat.{add-zero}
 use native.Mathlib.Omega.{arith}
 use mathlib.Core.List.{List, [], _++_, _∷_}
@@ -9,7 +9,7 @@ use lib.ListN.{drop, length, replicate}
 use borrow.Author.Tests.{lt-leb, le-leb}
 use Rattle.rules.specs.Build.{paper01}
 use Rattle.rules.specs.Lists.{upFrom}
-use Rattle.rules.specs.Memory.{freeAt, freeCountAt, swapAt, swapCountAt, words, allFrames, flagWord, frameWords, groupWords, lineWords, listWords, pagingWords, placeWords, queueWords, size}
+use Rattle.rules.specs.Memory.{freeAt, freeCountAt, groupsAt, queueAt, swapAt, swapCountAt, words, allFrames, flagWord, frameWords, groupWords, lineWords, listWords, pagingWords, placeWords, queueWords, size}
 use Rattle.rules.specs.Node.{emptyFrame, emptyPaging, powerOn}
 use Rattle.rules.specs.Operation.{allZero, notNode, refused}
 use Rattle.rules.specs.Types.{reportOf}
@@ -32,7 +32,7 @@ wrote-front {m} {m′} {ws} w l long =
 
 -- the words of a node at power-on: those before the swap line's count, and from there on
 abbrev power-on-front : List ℕ
-power-on-front = 0 ∷ 0 ∷ 0 ∷ 32 ∷ replicate 160 0 ++ (upFrom 0 32 ++ replicate 7792 0)
+power-on-front = 0 ∷ 0 ∷ 0 ∷ 32 ∷ replicate (freeAt - queueAt) 0 ++ (upFrom 0 32 ++ replicate (swapCountAt - groupsAt) 0)
 
 pub power-on-words : words (powerOn paper01) ≡ power-on-front ++ ((64 ∷ 0 ∷ 0 ∷ 0 ∷ []) ++ (upFrom 32 64 ++ replicate 32 0))
 unfolding words powerOn emptyPaging emptyFrame queueWords lineWords listWords groupWords pagingWords flagWord allFrames idle framesOf framesFrom frameWords placesOf placeWords frameNumber
@@ -47,13 +47,13 @@ upFrom-more a (suc k) =
     rw e (rw (upFrom-more (suc a) k, f))
 
 -- all words are 0, then the count and the line of the free frames are written, and those of the swap pages
-pub powered : {m m₁ m₂ m₃ m₄ m₅ : List ℕ} → size ≤ length m → Wrote m m₁ 0 (replicate 8088 0)
+pub powered : {m m₁ m₂ m₃ m₄ m₅ : List ℕ} → size ≤ length m → Wrote m m₁ 0 (replicate size 0)
     → Wrote m₁ m₂ freeCountAt (32 ∷ []) → Wrote m₂ m₃ freeAt (upFrom 0 32) → Wrote m₃ m₄ swapCountAt (64 ∷ []) → Wrote m₄ m₅ swapAt (upFrom 32 64)
     → m₅ ≡ replaced (powerOn paper01) m
 unfolding replaced
 powered {m} long w₁ w₂ w₃ w₄ w₅ =
-    let u₂ = wrote-over w₁ (widened w₂ 0 (0 ∷ 0 ∷ 0 ∷ []) (0 ∷ []) (replicate 8084 0) refl refl (wrote-stands w₁)) refl in
-    let u₃ = wrote-over u₂ (widened w₃ 0 (0 ∷ 0 ∷ 0 ∷ 32 ∷ replicate 160 0) (replicate 32 0) (replicate 7892 0) refl refl (wrote-stands u₂)) refl in
+    let u₂ = wrote-over w₁ (widened w₂ 0 (0 ∷ 0 ∷ 0 ∷ []) (0 ∷ []) (replicate (size - queueAt) 0) refl refl (wrote-stands w₁)) refl in
+    let u₃ = wrote-over u₂ (widened w₃ 0 (0 ∷ 0 ∷ 0 ∷ 32 ∷ replicate (freeAt - queueAt) 0) (replicate 32 0) (replicate (size - groupsAt) 0) refl refl (wrote-stands u₂)) refl in
     let u₄ = wrote-over u₃ (widened w₄ 0 power-on-front (0 ∷ []) (replicate 99 0) refl refl (wrote-stands u₃)) refl in
     let u₅ = wrote-over u₄ (widened w₅ 0 (power-on-front ++ (64 ∷ 0 ∷ 0 ∷ 0 ∷ [])) (replicate 64 0) (replicate 32 0) refl refl (wrote-stands u₄)) refl in
     wrote-front u₅ refl long ∙ ap (λ (ws : List ℕ). ws ++ drop size m) (sym power-on-words)

@@ -231,14 +231,16 @@ wrote-part m p a k ws h l v =
     here : wordsAt p 0 (length ws) ≡ ws → wordsAt (take a m ++ p) a (length ws) ≡ ws
     here q = let e = add-zero a in rw e at (moved 0 (length ws)) ∙ q
 
--- four words, written one behind the other
-pub wrote-four : (m : List ℕ) (a x y z w : ℕ) → a + 4 ≤ length m
-    → Wrote m (set (set (set (set m a x) (a + 1) y) (a + 2) z) (a + 3) w) a (x ∷ y ∷ z ∷ w ∷ [])
-wrote-four m a x y z w h =
-    let w₁ = wrote-set m a x (omega arith) in
-    let w₂ = wrote-next w₁ (a + 1) y refl (omega arith) in
-    let w₃ = wrote-next w₂ (a + 2) z refl (omega arith) in
-    wrote-next w₃ (a + 3) w refl (omega arith)
+-- six words, written one behind the other
+pub wrote-six : (m : List ℕ) (a t u v x y z : ℕ) → a + 6 ≤ length m
+    → Wrote m (set (set (set (set (set (set m a t) (a + 1) u) (a + 2) v) (a + 3) x) (a + 4) y) (a + 5) z) a (t ∷ u ∷ v ∷ x ∷ y ∷ z ∷ [])
+wrote-six m a t u v x y z h =
+    let w₁ = wrote-set m a t (omega arith) in
+    let w₂ = wrote-next w₁ (a + 1) u refl (omega arith) in
+    let w₃ = wrote-next w₂ (a + 2) v refl (omega arith) in
+    let w₄ = wrote-next w₃ (a + 3) x refl (omega arith) in
+    let w₅ = wrote-next w₄ (a + 4) y refl (omega arith) in
+    wrote-next w₅ (a + 5) z refl (omega arith)
 
 -- one element more
 pub replicate-more : (k x : ℕ) → replicate (k + 1) x ≡ replicate k x ++ (x ∷ [])

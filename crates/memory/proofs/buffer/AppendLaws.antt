@@ -9,7 +9,7 @@ use borrow.Author.Tests.{le-ltb, lt-ltb}
 use Rattle.rules.specs.Build.{groupCount, pageCount, paper01}
 use Rattle.rules.specs.Frames.{appended, extended, put, takeFrame, withRoom, withStock}
 use Rattle.rules.specs.Lists.{Every}
-use Rattle.rules.specs.Memory.{groupAddress, size, word}
+use Rattle.rules.specs.Memory.{groupAddress, size, word, usedOffset, countOffset, heldOffset, listOffset}
 use Rattle.rules.specs.Node.{Frame, Message, Node, emptyGroup, groupOf, withBuffer, withEntered, withFree, withGroup, withPaging}
 use Rattle.rules.specs.Valid.{GoodFrame}
 use Rattle.rules.proofs.Steps.NodeLaws.{stock-same}
@@ -22,8 +22,8 @@ use Rattle.memory.proofs.PieceLaws.{holds-pieces}
 -- the end of group g's buffer, as it is read from memory
 pub record Ends (m : List ℕ) (g : ℕ) : Type 0 where
   pub long : size ≤ length m
-  pub end : word m (groupAddress g + 2) + word m (groupAddress g + 3) ≤ 768
-  pub held : word m (groupAddress g + 4) ≤ 96
+  pub end : word m (groupAddress g + usedOffset) + word m (groupAddress g + countOffset) ≤ 768
+  pub held : word m (groupAddress g + heldOffset) ≤ 96
 
 pub ends : {m : List ℕ} {n : Node} {r : List ℕ} → Holds m n r → (g : ℕ) → 1 ≤ g → g ≤ groupCount
     → groupOf n g .buffer .used + groupOf n g .buffer .count ≤ length (groupOf n g .buffer .places) → Ends m g
@@ -37,14 +37,14 @@ ends h g low high fits =
 
 -- with room, it is one of 768 places
 pub room-end : {m : List ℕ} {n : Node} {r : List ℕ} → Holds m n r → (g : ℕ) → 1 ≤ g → g ≤ groupCount → Room g n
-    → word m (groupAddress g + 2) + word m (groupAddress g + 3) < 768
+    → word m (groupAddress g + usedOffset) + word m (groupAddress g + countOffset) < 768
 room-end h g low high room =
     let words = group-words (holds-pieces h) (h .mapped) g low high in
     omega (arith, words .used, words .count, group-whole (h .mapped) g low high .whole, lists-short (h .mapped) g low high)
 
 -- the page of the place behind the last message
 pub last-frame : {m : List ℕ} {n : Node} {r : List ℕ} → Holds m n r → (g : ℕ) → 1 ≤ g → g ≤ groupCount → Room g n
-    → word m (groupAddress g + (14 + (word m (groupAddress g + 2) + word m (groupAddress g + 3)) / 8)) < pageCount paper01
+    → word m (groupAddress g + (listOffset + (word m (groupAddress g + usedOffset) + word m (groupAddress g + countOffset)) / 8)) < pageCount paper01
 last-frame {m} {n} h g low high room =
     let p = holds-pieces h in
     let v = h .mapped in
@@ -53,13 +53,13 @@ last-frame {m} {n} h g low high room =
     let B = groupOf n g .buffer in
     let end = B .used + B .count in
     let inside : end / 8 < length (B .frames) = omega (arith, whole .whole) in
-    let at : word m (groupAddress g + 2) + word m (groupAddress g + 3) ≡ end = cc (words .used, words .count) in
+    let at : word m (groupAddress g + usedOffset) + word m (groupAddress g + countOffset) ≡ end = cc (words .used, words .count) in
     rw (at, listed m (groupAddress g) (B .frames) (end / 8) inside (words .list)) (its-bounded v g low high (end / 8) inside)
 
 -- whether there is room is read from the counts
 pub full-read : {m : List ℕ} {n : Node} {r : List ℕ} → Holds m n r → (g : ℕ) → 1 ≤ g → g ≤ groupCount
-    → (8 * word m (groupAddress g + 4) ≡ length (groupOf n g .buffer .places))
-    × (word m (groupAddress g + 2) + word m (groupAddress g + 3) ≡ groupOf n g .buffer .used + groupOf n g .buffer .count)
+    → (8 * word m (groupAddress g + heldOffset) ≡ length (groupOf n g .buffer .places))
+    × (word m (groupAddress g + usedOffset) + word m (groupAddress g + countOffset) ≡ groupOf n g .buffer .used + groupOf n g .buffer .count)
 full-read h g low high =
     let words = group-words (holds-pieces h) (h .mapped) g low high in
     (omega (arith, words .held, group-whole (h .mapped) g low high .whole), cc (words .used, words .count))
@@ -107,7 +107,7 @@ pub record Ready (m : List ℕ) (g : ℕ) (n : Node) (r : List ℕ) : Type 0 whe
 
 module _ {m : List ℕ} {n : Node} {r : List ℕ} (h : Holds m n r) (g : ℕ) (low : 1 ≤ g) (high : g ≤ groupCount) (fit : Storable g n) where
   -- there was room
-  pub ready-room : word m (groupAddress g + 2) + word m (groupAddress g + 3) < 8 * word m (groupAddress g + 4) → Ready m g n r
+  pub ready-room : word m (groupAddress g + usedOffset) + word m (groupAddress g + countOffset) < 8 * word m (groupAddress g + heldOffset) → Ready m g n r
   ready-room less =
       let read = full-read h g low high in
       let room : Room g n = omega (arith, read .0, read .1) in
@@ -119,11 +119,11 @@ module _ {m : List ℕ} {n : Node} {r : List ℕ} (h : Holds m n r) (g : ℕ) (l
       }
 
   -- a full buffer is left a frame
-  pub full-left : 8 * word m (groupAddress g + 4) ≤ word m (groupAddress g + 2) + word m (groupAddress g + 3) → FrameLeft n
+  pub full-left : 8 * word m (groupAddress g + heldOffset) ≤ word m (groupAddress g + usedOffset) + word m (groupAddress g + countOffset) → FrameLeft n
   full-left full = let read = full-read h g low high in fit .1 (omega (arith, read .0, read .1))
 
   -- and has taken it
-  pub ready-taken : {m′ : List ℕ} → 8 * word m (groupAddress g + 4) ≤ word m (groupAddress g + 2) + word m (groupAddress g + 3)
+  pub ready-taken : {m′ : List ℕ} → 8 * word m (groupAddress g + heldOffset) ≤ word m (groupAddress g + usedOffset) + word m (groupAddress g + countOffset)
       → Holds m′ (taking g n) r → Ready m′ g n r
   ready-taken full h′ =
       let read = full-read h g low high in

@@ -11,7 +11,7 @@ use borrow.Author.Tests.{eq-eqb, ne-eqb}
 use Rattle.rules.specs.Build.{groupCount, pageCount, paper01}
 use Rattle.rules.specs.Frames.{firstFrame, freeFirst, removeFirst, useUp, withStock}
 use Rattle.rules.specs.Lists.{Every}
-use Rattle.rules.specs.Memory.{atomicOffset, countOffset, flagWord, freeAt, freeCountAt, groupAddress, groupWords, heldOffset, listOffset, pendingOffset, size, usedOffset, word}
+use Rattle.rules.specs.Memory.{countOffset, freeAt, freeCountAt, groupAddress, groupWords, heldOffset, listOffset, size, usedOffset, word}
 use Rattle.rules.specs.Node.{Frame, Node, groupOf, withBuffer, withEntered, withFree, withGroup, withPaging}
 use Rattle.rules.specs.Paging.{framesFrom, framesOf}
 use Rattle.rules.specs.Valid.{GoodFrame, GoodPlace, frameNumber}
@@ -21,9 +21,10 @@ use Rattle.rules.proofs.Steps.ListLaws.{weight-append}
 use Rattle.rules.proofs.Map.MapParts.{length-group}
 use Rattle.memory.specs.Holds.{Holds, InOrder, Waits, departing, freeing, releasing, removing, usingUp, withBoth}
 use Rattle.memory.specs.Lines.{InLine, Joined, Left}
-use Rattle.memory.specs.Writes.{Wrote}
+use Rattle.memory.specs.Writes.{Wrote, groupFront, groupRead, recounted}
 use Rattle.memory.proofs.LinePieces.{free-line, free-put}
-use Rattle.memory.proofs.group.GroupLaws.{group-whole, group-words, list-line, list-wrote, mapped-group, record-held, record-stands, record-within, record-wrote, withPages, withRecord}
+use Rattle.memory.proofs.CountLaws.{lists-short}
+use Rattle.memory.proofs.group.GroupLaws.{group-whole, group-words, list-line, list-wrote, mapped-group, record-stands, record-within, counts-held, counts-wrote, withPages, withCounts}
 use Rattle.memory.proofs.lines.LineLaws.{LineWrote, joined-wrote, left-below, left-length, left-wrote, line-first, line-within}
 use Rattle.memory.proofs.lines.IndexLaws.{index-below}
 use Rattle.memory.proofs.PieceLaws.{FrameStands, Pieces, holds-pieces, pieces-hold}
@@ -34,13 +35,13 @@ use Rattle.memory.proofs.WriteLaws.{wrote-over, wrote-stands}
 
 pub using-up-held : {m m₁ : List ℕ} {n : Node} {r : List ℕ} → Holds m n r → (g : ℕ) → 1 ≤ g → g ≤ groupCount
     → Wrote m m₁ (groupAddress g)
-    (word m (groupAddress g + atomicOffset) ∷ word m (groupAddress g + pendingOffset) ∷ (word m (groupAddress g + usedOffset) + 1) ∷ (word m (groupAddress g + countOffset) - 1) ∷ [])
+    (groupFront (recounted (word m (groupAddress g + usedOffset) + 1) (word m (groupAddress g + countOffset) - 1) (groupRead m g)))
     → Holds m₁ (usingUp g n) r
-unfolding usingUp useUp withStock withGroup withFree withPaging withEntered withBuffer withRecord
+unfolding usingUp useUp withStock withGroup withFree withPaging withEntered withBuffer withCounts
 using-up-held {n = n} h g low high w =
     let words = group-words (holds-pieces h) (h .mapped) g low high in
-    let G = groupOf n g in
-    record-held h g low high (G .atomic) (G .pending) (G .buffer .used + 1) (G .buffer .count - 1) (rw (words .atomic, words .pending, words .used, words .count) at w)
+    let B = groupOf n g .buffer in
+    counts-held h g low high (B .used + 1) (B .count - 1) (rw (words .used, words .count) at w)
 
 -- The first frame is freed.
 
@@ -48,11 +49,11 @@ using-up-held {n = n} h g low high w =
 released : {m m₁ m₂ m₃ : List ℕ} {n : Node} {r : List ℕ} → Holds m n r → (g : ℕ) → 1 ≤ g → g ≤ groupCount → length (n .free) < paper01 .frames
     → (f : ℕ) (fs : List ℕ) → groupOf n g .buffer .frames ≡ f ∷ fs
     → LineWrote m m₁ (groupAddress g + heldOffset) (groupAddress g + listOffset) (pageCount paper01) fs
-    → Wrote m₁ m₂ (groupAddress g) (flagWord (groupOf n g .atomic) ∷ flagWord (groupOf n g .pending) ∷ 0 ∷ (groupOf n g .buffer .count - 1) ∷ [])
+    → Wrote m₁ m₂ (groupAddress g) (groupFront (recounted 0 (groupOf n g .buffer .count - 1) (groupRead m₁ g)))
     → Joined m₂ m₃ freeCountAt freeAt f
     → Holds m₃ (withBoth g (n .free ++ (record { number = f; places = take 8 (groupOf n g .buffer .places) } ∷ []))
     (record { used = 0; count = groupOf n g .buffer .count - 1; frames = fs; places = drop 8 (groupOf n g .buffer .places) }) n) r
-unfolding withBoth withGroup withFree withBuffer withPages withRecord framesOf framesFrom groupOf frameNumber
+unfolding withBoth withGroup withFree withBuffer withPages withCounts framesOf framesFrom groupOf frameNumber
 released {m} {m₁} {m₂} {m₃} {n} {r} h g low high few f fs e w₁ w₂ came =
     let v = h .mapped in
     let p = holds-pieces h in
@@ -63,9 +64,9 @@ released {m} {m₁} {m₂} {m₃} {n} {r} h g low high few f fs e w₁ w₂ came
     let many : length (B .frames) ≡ suc (length fs) = ap length e in
     let ps = drop 8 (B .places) in
     let G₁ = withPages fs ps G in
-    let G′ = withRecord (G .atomic) (G .pending) 0 (B .count - 1) G₁ in
+    let G′ = withCounts 0 (B .count - 1) G₁ in
     let u₁ = list-wrote a G fs ps (record-stands p g low high) w₁ in
-    let u₂ = record-wrote a G₁ (wrote-stands u₁) (G .atomic) (G .pending) 0 (B .count - 1) w₂ in
+    let u₂ = counts-wrote g G₁ (whole .descriptor) (omega (arith, lists-short v g low high)) (wrote-stands u₁) 0 (B .count - 1) w₂ in
     let u : Wrote m m₂ a (groupWords G′) = wrote-over u₁ u₂ (length-group G₁ ∙ sym (length-group G′)) in
     let x : Frame = record { number = f; places = take 8 (B .places) } in
     let frames : Every (FrameStands m) (framesFrom paper01 (f ∷ fs) (B .places)) = rw e at (p .group-frames (pred g) (omega arith)) in
@@ -129,7 +130,7 @@ module _ {m : List ℕ} {n : Node} {r : List ℕ} (h : Holds m n r) (g : ℕ) (l
 
   -- it has gone to the free line
   pub releasing-held : {m₁ m₂ m₃ : List ℕ} (f : ℕ) → Left m m₁ (groupAddress g + heldOffset) (groupAddress g + listOffset) 0 f
-      → Wrote m₁ m₂ (groupAddress g) (word m (groupAddress g + atomicOffset) ∷ word m (groupAddress g + pendingOffset) ∷ 0 ∷ (word m (groupAddress g + countOffset) - 1) ∷ [])
+      → Wrote m₁ m₂ (groupAddress g) (groupFront (recounted 0 (word m (groupAddress g + countOffset) - 1) (groupRead m₁ g)))
       → Joined m₂ m₃ freeCountAt freeAt f → Holds m₃ (releasing g n) r
   unfolding releasing freeFirst firstFrame
   releasing-held {m₁} {m₂} {m₃} f gone w came = go (groupOf n g .buffer .frames) refl
@@ -142,7 +143,7 @@ module _ {m : List ℕ} {n : Node} {r : List ℕ} (h : Holds m n r) (g : ℕ) (l
           let words = group-words (holds-pieces h) (h .mapped) g low high in
           let t = left-wrote (list-line (holds-pieces h) (h .mapped) g low high) (waits .held) gone in
           let first : f ≡ x = t .0 ∙ ap (λ (ys : List ℕ). getD ys 0 0) e in
-          released h g low high (waits-room g n waits) x fs e (rw e at (t .1)) (rw (words .atomic, words .pending, words .count) at w) (rw first at came)
+          released h g low high (waits-room g n waits) x fs e (rw e at (t .1)) (rw (words .count) at w) (rw first at came)
 
   -- it is still once in the order of entry
   pub releasing-order : InOrder (word m (groupAddress g + listOffset)) (releasing g n)
@@ -175,11 +176,6 @@ free-room g reads gone w =
     let few = reads .free in
     let l = w .same-length ∙ left-length gone in
     (record { counted = omega arith; inside = omega arith }, (omega arith, omega arith))
-
--- and a number that leaves the list leaves the flags and counts
-pub counts-kept : {m m₁ : List ℕ} {f : ℕ} (g : ℕ) → Left m m₁ (groupAddress g + heldOffset) (groupAddress g + listOffset) 0 f → (k : ℕ) → k < heldOffset
-    → word m₁ (groupAddress g + k) ≡ word m (groupAddress g + k)
-counts-kept g gone k h = left-below gone (groupAddress g + k) (omega arith) (omega arith)
 
 -- which of the two it is, is read
 pub removing-last : (n : Node) (g : ℕ) → groupOf n g .buffer .count ≡ 1 → freeing g n ≡ removing g n

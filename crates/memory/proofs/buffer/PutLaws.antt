@@ -1,14 +1,14 @@
 -- A message is put behind the last of a buffer: from writes to the node that the memory then holds. Assumes nothing.
 use Prim.Native.Nat.{_%_, _*_, _+_, _/_, _<_, _≤_, pred, ℕ}
 use native.Mathlib.Omega.{arith}
-use mathlib.Core.List.{List, [], _∷_, map}
+use mathlib.Core.List.{List, map}
 use mathlib.Core.Path.{_∙_, _≡_, refl, subst}
 use lib.ListN.{getD, length, length-set, set}
 use lib.Seq.{getD-set-same, set-set}
 use Rattle.rules.specs.Build.{groupCount, paper01}
 use Rattle.rules.specs.Frames.{appended}
 use Rattle.rules.specs.Lists.{Every}
-use Rattle.rules.specs.Memory.{atomicOffset, countOffset, frameAddress, groupAddress, groupStride, groupWords, groupsAt, pagingAt, pendingOffset, placeStride, placeWords, usedOffset, word}
+use Rattle.rules.specs.Memory.{countOffset, frameAddress, groupAddress, groupStride, groupWords, groupsAt, pagingAt, placeStride, placeWords, usedOffset, word, listOffset}
 use Rattle.rules.specs.Node.{Group, Message, Node, Place, emptyGroup, groupOf, placeOf, withBuffer, withFree, withGroup}
 use Rattle.rules.specs.Paging.{framesOf}
 use Rattle.rules.specs.Valid.{GoodPlace, frameNumber}
@@ -20,9 +20,9 @@ use Rattle.rules.proofs.Map.MapRead.{length-line, length-queue}
 use Rattle.rules.proofs.Map.MapWords.{Stands}
 use Rattle.rules.specs.Sound.{Mapped, WholeGroup}
 use Rattle.memory.specs.Holds.{Holds, Room, putting}
-use Rattle.memory.specs.Writes.{Wrote}
-use Rattle.memory.proofs.CountLaws.{its-bounded, its-free, its-once, its-other, its-swap}
-use Rattle.memory.proofs.group.GroupLaws.{group-whole, group-words, listed, mapped-group, record-stands, record-wrote, withRecord}
+use Rattle.memory.specs.Writes.{Wrote, groupFront, groupRead, recounted}
+use Rattle.memory.proofs.CountLaws.{its-bounded, its-free, its-once, its-other, its-swap, lists-short}
+use Rattle.memory.proofs.group.GroupLaws.{group-whole, group-words, listed, mapped-group, record-stands, counts-wrote, withCounts}
 use Rattle.memory.proofs.PieceLaws.{FrameStands, Pieces, holds-pieces, pieces-hold}
 use Rattle.memory.proofs.PieceWrites.{group-put, rest-kept, set-cases}
 use Rattle.memory.proofs.buffer.PlaceLaws.{frames-kept, frames-put}
@@ -79,25 +79,20 @@ place-put {m} {m′} {n} p v g low high j q inside below x gx w =
 -- the address of the place behind the last message of group g's buffer, as it is read from memory
 abbrev pub endPlace : List ℕ → ℕ → ℕ
 endPlace m g =
-    frameAddress (word m (groupAddress g + (14 + (word m (groupAddress g + 2) + word m (groupAddress g + 3)) / 8)))
-    + placeStride * ((word m (groupAddress g + 2) + word m (groupAddress g + 3)) % 8)
+    frameAddress (word m (groupAddress g + (listOffset + (word m (groupAddress g + usedOffset) + word m (groupAddress g + countOffset)) / 8)))
+    + placeStride * ((word m (groupAddress g + usedOffset) + word m (groupAddress g + countOffset)) % 8)
 
--- it lies above the flags of every group
-pub flags-below : (m : List ℕ) (g : ℕ) → g ≤ groupCount → groupAddress g + pendingOffset < endPlace m g
-unfolding frameAddress groupAddress
-flags-below m g high = omega arith
-
--- the flags and counts of group g with one message more, as they are read
-abbrev pub counted : List ℕ → ℕ → List ℕ
-counted m g =
-    word m (groupAddress g + atomicOffset) ∷ word m (groupAddress g + pendingOffset) ∷ word m (groupAddress g + usedOffset) ∷ (word m (groupAddress g + countOffset) + 1) ∷ []
+-- the flags and counts of group g in m₁ with one message more than is read in m
+abbrev pub counted : List ℕ → List ℕ → ℕ → List ℕ
+counted m m₁ g =
+    groupFront (recounted (word m (groupAddress g + usedOffset)) (word m (groupAddress g + countOffset) + 1) (groupRead m₁ g))
 
 -- a message is written there, and counted: it is put
 pub putting-held : {m m₁ m₂ : List ℕ} {n : Node} {r : List ℕ} → Holds m n r → (x : Message) → 1 ≤ x .group → x .group ≤ groupCount → Room (x .group) n
     → Wrote m m₁ (endPlace m (x .group)) (placeWords (placeOf x))
-    → Wrote m₁ m₂ (groupAddress (x .group)) (counted m (x .group))
+    → Wrote m₁ m₂ (groupAddress (x .group)) (counted m m₁ (x .group))
     → Holds m₂ (putting x n) r
-unfolding putting withFree withGroup withBuffer withRecord groupWords framesOf placed appended groupOf
+unfolding putting withFree withGroup withBuffer withCounts groupWords framesOf placed appended groupOf
 putting-held {m} {m₁} {m₂} {n} {r} h x low high room w₁ w₂ =
     let g = x .group in
     let v = h .mapped in
@@ -111,8 +106,8 @@ putting-held {m} {m₁} {m₂} {n} {r} h x low high room w₁ w₂ =
     let count = v .group-count in
     let good = placeOf-good x in
     let inside : end / 8 < length (B .frames) = omega (arith, whole .whole) in
-    let at : word m (a + 2) + word m (a + 3) ≡ end = cc (words .used, words .count) in
-    let last : word m (a + (14 + end / 8)) ≡ getD (B .frames) (end / 8) 0 = listed m a (B .frames) (end / 8) inside (words .list) in
+    let at : word m (a + usedOffset) + word m (a + countOffset) ≡ end = cc (words .used, words .count) in
+    let last : word m (a + (listOffset + end / 8)) ≡ getD (B .frames) (end / 8) 0 = listed m a (B .frames) (end / 8) inside (words .list) in
     let w₁′ : Wrote m m₁ (frameAddress (getD (B .frames) (end / 8) 0) + placeStride * (end % 8)) (placeWords (placeOf x)) = rw (at, last) at w₁ in
     let G′ = placed (8 * (end / 8) + end % 8) (placeOf x) G in
     let n′ = withGroup g G′ n in
@@ -123,7 +118,7 @@ putting-held {m} {m₁} {m₂} {n} {r} h x low high room w₁ w₂ =
     let e : 8 * (end / 8) + end % 8 ≡ end = omega arith in
     let G″ = withBuffer (appended x B) G in
     let w₂′ : Wrote m₁ m₂ a (groupWords G″) =
-    record-wrote a G′ stands (G .atomic) (G .pending) (B .used) (B .count + 1) (rw (words .atomic, words .pending, words .used, words .count) at w₂) in
+    counts-wrote g G′ (whole .descriptor) (omega (arith, lists-short v g low high)) stands (B .used) (B .count + 1) (rw (words .used, words .count) at w₂) in
     let p₂ : Pieces m₂ (withGroup g G″ n′) r = group-put p₁ g low high (length-set (n .groups) (pred g) G′ ∙ count) G″ w₂′ (rw e at frames) in
     let over : withGroup g G″ n′ ≡ withGroup g G″ n = λ i. record {
       running = n .running;
@@ -145,7 +140,7 @@ putting-held {m} {m₁} {m₂} {n} {r} h x low high room w₁ w₂ =
 
 pub putting-kept : {m m₁ m₂ : List ℕ} {n : Node} {r : List ℕ} → Holds m n r → (x : Message) (g : ℕ) → x .group ≡ g → 1 ≤ g → g ≤ groupCount → Room g n
     → Wrote m m₁ (endPlace m g) (placeWords (placeOf x))
-    → Wrote m₁ m₂ (groupAddress g) (counted m g)
+    → Wrote m₁ m₂ (groupAddress g) (counted m m₁ g)
     → Holds m₂ (putting x n) r
 unfolding placeOf
 putting-kept {m₁ = m₁} h x g e low high room w₁ w₂ = putting-held {m₁ = m₁} h x (rw e low) (rw e high) (rw e room) (rw e w₁) (rw e w₂)

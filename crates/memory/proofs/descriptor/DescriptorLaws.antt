@@ -6,7 +6,7 @@ use mathlib.Core.Path.{_∙_, _≡_, ap, refl, sym}
 use lib.ListN.{length, length-append, set}
 use Rattle.rules.specs.Build.{groupCount, wordLimit}
 use Rattle.rules.specs.Lists.{pad}
-use Rattle.rules.specs.Memory.{describedOffset, descriptorOffset, flagWord, groupAddress, groupWords, listWords, word, wordsAt}
+use Rattle.rules.specs.Memory.{describedOffset, descriptorOffset, groupAddress, groupWords, listWords, word, wordsAt}
 use Rattle.rules.specs.Node.{Node, groupOf, withDescriptor, withFree}
 use Rattle.rules.specs.Paging.{framesOf}
 use Rattle.rules.proofs.Steps.ListLaws.{length-pad}
@@ -15,7 +15,7 @@ use Rattle.memory.specs.Descriptors.{descriptorOf, redescribed}
 use Rattle.memory.specs.Holds.{Holds}
 use Rattle.memory.specs.Writes.{Wrote}
 use Rattle.memory.specs.declared.descriptor.Descriptor.{Descriptor as Descriptor·rt}
-use Rattle.memory.proofs.group.GroupLaws.{group-whole, group-words, mapped-group, record-stands}
+use Rattle.memory.proofs.group.GroupLaws.{group-whole, group-words, mapped-group, record-stands, recordFront}
 use Rattle.memory.proofs.PieceLaws.{holds-pieces, pieces-hold}
 use Rattle.memory.proofs.PieceWrites.{group-put}
 use Rattle.memory.proofs.WriteLaws.{widened, wrote-then}
@@ -58,7 +58,7 @@ module _ {m : List ℕ} {n : Node} {r : List ℕ} (h : Holds m n r) (g : ℕ) (l
       let whole = group-whole v g low high in
       let wrote : Wrote m m₂ (groupAddress g + describedOffset) (length d ∷ pad wordLimit d) = wrote-then w₁ (groupAddress g + descriptorOffset) (omega arith) w₂ in
       let all = widened wrote (groupAddress g)
-      (flagWord (G .atomic) ∷ flagWord (G .pending) ∷ G .buffer .used ∷ G .buffer .count ∷ length (G .buffer .frames) ∷ [])
+      (recordFront G ++ (length (G .buffer .frames) ∷ []))
       (length (G .descriptor) ∷ pad wordLimit (G .descriptor)) (listWords (G .buffer .frames)) refl (ap suc (length-pad wordLimit (G .descriptor) ∙ sym (length-pad wordLimit d))) (record-stands pieces g low high) in
       pieces-hold
       (mapped-group v g low high (withDescriptor d G) (n .free) (record { descriptor = few; whole = whole .whole; places = whole .places }) (v .free-good) (v .free-short) (λ x. refl))

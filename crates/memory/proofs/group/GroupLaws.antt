@@ -3,15 +3,15 @@
 use Prim.Native.Nat.{_*_, _+_, _-_, _<_, _≤_, pred, ℕ}
 use native.Mathlib.Nat.{add-zero}
 use native.Mathlib.Omega.{arith}
-use mathlib.Core.Bool.{Bool}
+use mathlib.Core.Bool.{Bool, true, false}
 use mathlib.Core.List.{List, [], _++_, _∷_}
 use mathlib.Core.Path.{_∙_, _≡_, refl, sym, ap}
 use lib.Dec.{ltb}
 use lib.ListN.{getD, length, length-set}
 use Rattle.rules.specs.Build.{groupCount, pageCount, paper01, wordLimit}
 use Rattle.rules.specs.Lists.{Every, pad}
-use Rattle.rules.specs.Memory.{flagWord, framesAt, groupAddress, groupStride, groupWords, groupsAt, heldOffset, listOffset, listWords, word, countOffset, usedOffset}
-use Rattle.rules.specs.Node.{Frame, Group, Node, Place, emptyGroup, groupOf, withBuffer, withFree, withPaging, withEntered, withGroup, buffered, withFlags}
+use Rattle.rules.specs.Memory.{flagWord, framesAt, groupAddress, groupStride, groupWords, groupsAt, heldOffset, listOffset, listWords, word, countOffset, revokedOffset}
+use Rattle.rules.specs.Node.{Frame, Group, Node, Place, emptyGroup, groupOf, withBuffer, withFree, withPaging, withEntered, withGroup, bufferHolds, withFlags, withTimerFlags}
 use Rattle.rules.specs.Paging.{framesOf}
 use Rattle.rules.specs.Valid.{GoodFrame, frameNumbers, idle}
 use Rattle.rules.proofs.Steps.EveryLaws.{every-getD, every-set}
@@ -21,8 +21,8 @@ use Rattle.rules.proofs.Map.MapParts.{GroupStands, group-stands}
 use Rattle.rules.proofs.Map.MapWords.{Stands, stands-append}
 use Rattle.rules.proofs.Steps.NodeLaws.{reweighed, weights-count, weights-length}
 use Rattle.rules.specs.Sound.{Mapped, WholeGroup}
-use Rattle.memory.specs.Holds.{Holds, flagging}
-use Rattle.memory.specs.Writes.{Wrote}
+use Rattle.memory.specs.Holds.{Holds, flagging, timerFlagging}
+use Rattle.memory.specs.Writes.{Wrote, groupFront, groupRead, reflagged, retimed, recounted}
 use Rattle.memory.proofs.CountLaws.{lists-short}
 use Rattle.memory.proofs.lines.LineLaws.{LineStands, LineWrote}
 use Rattle.memory.proofs.PieceLaws.{Pieces, holds-pieces, pieces-hold}
@@ -51,8 +51,8 @@ group-words {m} {n} p v g low high =
     (record-stands p g low high)
 
 -- a number of a group's list
-pub listed : (m : List ℕ) (a : ℕ) (fs : List ℕ) (j : ℕ) → j < length fs → Stands m (a + 14) fs → word m (a + (14 + j)) ≡ getD fs j 0
-listed m a fs j h s = let e : a + (14 + j) ≡ a + 14 + j = omega arith in rw e (stands-word m (a + 14) fs j h s)
+pub listed : (m : List ℕ) (a : ℕ) (fs : List ℕ) (j : ℕ) → j < length fs → Stands m (a + listOffset) fs → word m (a + (listOffset + j)) ≡ getD fs j 0
+listed m a fs j h s = let e : a + (listOffset + j) ≡ a + listOffset + j = omega arith in rw e (stands-word m (a + listOffset) fs j h s)
 
 -- the record of a group lies within the memory
 pub record-within : (g : ℕ) → g ≤ groupCount → groupAddress g + groupStride ≤ framesAt
@@ -61,13 +61,17 @@ record-within g high = omega arith
 
 -- The list of a group.
 
--- what stands in a group's record before its list
-abbrev pub beforeList : Group → List ℕ
-beforeList G =
-    flagWord (G .atomic) ∷ flagWord (G .pending) ∷ G .buffer .used ∷ G .buffer .count ∷ length (G .buffer .frames) ∷ length (G .descriptor) ∷ pad wordLimit (G .descriptor)
+-- the flags and counts of a group, which stand first in its record
+abbrev pub recordFront : Group → List ℕ
+recordFront G =
+    flagWord (G .atomic) ∷ flagWord (G .pending) ∷ flagWord (G .force) ∷ flagWord (G .revoked) ∷ G .buffer .used ∷ G .buffer .count ∷ []
 
--- it is 14 words
-length-before : (G : Group) → length (beforeList G) ≡ listOffset
+-- what stands in it before its list
+abbrev pub beforeList : Group → List ℕ
+beforeList G = recordFront G ++ (length (G .buffer .frames) ∷ length (G .descriptor) ∷ pad wordLimit (G .descriptor))
+
+-- it is 16 words
+pub length-before : (G : Group) → length (beforeList G) ≡ listOffset
 length-before G = omega (arith, length-pad wordLimit (G .descriptor))
 
 -- the list stands as a line
@@ -99,7 +103,7 @@ list-wrote a G fs ps s w =
     let new = pad (pageCount paper01) fs in
     let w₁ = widened-end (w .numbers) a (beforeList G) old (ap (λ (k : ℕ). a + k) (sym (length-before G)))
     (length-pad (pageCount paper01) (G .buffer .frames) ∙ sym (length-pad (pageCount paper01) fs)) s in
-    let w₂ = widened (w .counted) a (flagWord (G .atomic) ∷ flagWord (G .pending) ∷ G .buffer .used ∷ G .buffer .count ∷ []) (length (G .buffer .frames) ∷ [])
+    let w₂ = widened (w .counted) a (recordFront G) (length (G .buffer .frames) ∷ [])
     (length (G .descriptor) ∷ pad wordLimit (G .descriptor) ++ new) refl refl (wrote-stands w₁) in
     wrote-over w₁ w₂ refl
 
@@ -129,50 +133,88 @@ mapped-group {n} v g low high G fs whole free-good few even =
 
 -- Flags and counts.
 
--- a group with these flags and counts
-unfoldable pub withRecord : Bool → Bool → ℕ → ℕ → Group → Group
-withRecord a p h k G =
+-- a flag is on where its word is above 0
+flag-above : (f : Bool) → f ≡ ltb 0 (flagWord f)
+unfolding flagWord
+flag-above true = refl
+flag-above false = refl
+
+-- the group with the flags and counts of another
+unfoldable withFront : Group → Group → Group
+withFront F G =
     record {
-      atomic = a;
-      pending = p;
-      buffer = record { used = h; count = k; frames = G .buffer .frames; places = G .buffer .places };
+      atomic = F .atomic;
+      pending = F .pending;
+      force = F .force;
+      revoked = F .revoked;
+      buffer = record { used = F .buffer .used; count = F .buffer .count; frames = G .buffer .frames; places = G .buffer .places };
       descriptor = G .descriptor;
     }
 
 -- they are written, and nothing else of the record
-pub record-wrote : {m m′ : List ℕ} (at : ℕ) (G : Group) → Stands m at (groupWords G) → (a p : Bool) (h k : ℕ)
-    → Wrote m m′ at (flagWord a ∷ flagWord p ∷ h ∷ k ∷ []) → Wrote m m′ at (groupWords (withRecord a p h k G))
-unfolding groupWords withRecord
-record-wrote at G s a p h k w =
-    let B = G .buffer in
-    widened w at [] (flagWord (G .atomic) ∷ flagWord (G .pending) ∷ B .used ∷ B .count ∷ [])
-    (length (B .frames) ∷ length (G .descriptor) ∷ pad wordLimit (G .descriptor) ++ listWords (B .frames)) (sym (add-zero at)) refl s
+record-wrote : {m m′ : List ℕ} (a : ℕ) (F G : Group) → Stands m a (groupWords G) → Wrote m m′ a (recordFront F) → Wrote m m′ a (groupWords (withFront F G))
+unfolding groupWords withFront
+record-wrote a F G s w =
+    widened w a [] (recordFront G) (length (G .buffer .frames) ∷ length (G .descriptor) ∷ pad wordLimit (G .descriptor) ++ listWords (G .buffer .frames))
+    (sym (add-zero a)) refl s
 
 -- the node has them
-pub record-held : {m m′ : List ℕ} {n : Node} {r : List ℕ} → Holds m n r → (g : ℕ) → 1 ≤ g → g ≤ groupCount → (a p : Bool) (h k : ℕ)
-    → Wrote m m′ (groupAddress g) (flagWord a ∷ flagWord p ∷ h ∷ k ∷ []) → Holds m′ (withGroup g (withRecord a p h k (groupOf n g)) n) r
-unfolding withRecord withFree framesOf groupOf
-record-held {n = n} held g low high a p h k w =
+record-held : {m m′ : List ℕ} {n : Node} {r : List ℕ} → Holds m n r → (g : ℕ) → 1 ≤ g → g ≤ groupCount → (F : Group)
+    → Wrote m m′ (groupAddress g) (recordFront F) → Holds m′ (withGroup g (withFront F (groupOf n g)) n) r
+unfolding withFront withFree framesOf groupOf
+record-held {n = n} held g low high F w =
     let v = held .mapped in
     let pieces = holds-pieces held in
     let whole = group-whole v g low high in
+    let G = withFront F (groupOf n g) in
     pieces-hold
-    (mapped-group v g low high (withRecord a p h k (groupOf n g)) (n .free)
-    (record { descriptor = whole .descriptor; whole = whole .whole; places = whole .places }) (v .free-good) (v .free-short) (λ x. refl))
-    (group-put pieces g low high (v .group-count) (withRecord a p h k (groupOf n g)) (record-wrote (groupAddress g) (groupOf n g) (record-stands pieces g low high) a p h k w)
+    (mapped-group v g low high G (n .free) (record { descriptor = whole .descriptor; whole = whole .whole; places = whole .places }) (v .free-good) (v .free-short) (λ x. refl))
+    (group-put pieces g low high (v .group-count) G (record-wrote (groupAddress g) F (groupOf n g) (record-stands pieces g low high) w)
     (pieces .group-frames (pred g) (omega arith)))
 
--- the flags alone, the counts as they are read
-pub flags-held : {m m′ : List ℕ} {n : Node} {r : List ℕ} → Holds m n r → (g : ℕ) → 1 ≤ g → g ≤ groupCount → (a p : Bool)
-    → Wrote m m′ (groupAddress g) (flagWord a ∷ flagWord p ∷ word m (groupAddress g + usedOffset) ∷ word m (groupAddress g + countOffset) ∷ [])
-    → Holds m′ (flagging g a p n) r
-unfolding flagging withFlags withRecord
-flags-held {n = n} held g low high a p w =
-    let words = group-words (holds-pieces held) (held .mapped) g low high in
-    record-held held g low high a p (groupOf n g .buffer .used) (groupOf n g .buffer .count) (rw (words .used, words .count) at w)
+-- a group with these counts
+unfoldable pub withCounts : ℕ → ℕ → Group → Group
+withCounts h k G = withBuffer (record { used = h; count = k; frames = G .buffer .frames; places = G .buffer .places }) G
 
--- whether a group is buffered is read from its count
-pub buffered-read : {m : List ℕ} {n : Node} {r : List ℕ} → Holds m n r → (g : ℕ) → 1 ≤ g → g ≤ groupCount
-    → buffered n g ≡ ltb 0 (word m (groupAddress g + countOffset))
-unfolding buffered
-buffered-read held g low high = ap (ltb 0) (sym (group-words (holds-pieces held) (held .mapped) g low high .count))
+-- the counts are written, and the flags as they are read
+pub counts-wrote : {m m′ : List ℕ} (g : ℕ) (G : Group) → length (G .descriptor) ≤ wordLimit → length (G .buffer .frames) ≤ pageCount paper01
+    → Stands m (groupAddress g) (groupWords G) → (h k : ℕ) → Wrote m m′ (groupAddress g) (groupFront (recounted h k (groupRead m g)))
+    → Wrote m m′ (groupAddress g) (groupWords (withCounts h k G))
+unfolding withCounts withBuffer withFront
+counts-wrote {m} g G few short s h k w =
+    let words = group-stands m (groupAddress g) G few short .0 s in
+    record-wrote (groupAddress g) (withCounts h k G) G s (rw (words .atomic, words .pending, words .force, words .revoked) at w)
+
+module _ {m : List ℕ} {n : Node} {r : List ℕ} (held : Holds m n r) (g : ℕ) (low : 1 ≤ g) (high : g ≤ groupCount) where
+  -- the node has the counts
+  pub counts-held : {m′ : List ℕ} (h k : ℕ) → Wrote m m′ (groupAddress g) (groupFront (recounted h k (groupRead m g)))
+      → Holds m′ (withGroup g (withCounts h k (groupOf n g)) n) r
+  unfolding withCounts withBuffer withFront
+  counts-held h k w =
+      let words = group-words (holds-pieces held) (held .mapped) g low high in
+      record-held held g low high (withCounts h k (groupOf n g)) (rw (words .atomic, words .pending, words .force, words .revoked) at w)
+
+  -- the flags atomic and pending
+  pub flags-held : {m′ : List ℕ} (a p : Bool) → Wrote m m′ (groupAddress g) (groupFront (reflagged (flagWord a) (flagWord p) (groupRead m g)))
+      → Holds m′ (flagging g a p n) r
+  unfolding flagging withFlags withFront
+  flags-held a p w =
+      let words = group-words (holds-pieces held) (held .mapped) g low high in
+      record-held held g low high (withFlags a p (groupOf n g)) (rw (words .force, words .revoked, words .used, words .count) at w)
+
+  -- or the timer's flags
+  pub timer-flags-held : {m′ : List ℕ} (f t : Bool) → Wrote m m′ (groupAddress g) (groupFront (retimed (flagWord f) (flagWord t) (groupRead m g)))
+      → Holds m′ (timerFlagging g f t n) r
+  unfolding timerFlagging withTimerFlags withFront
+  timer-flags-held f t w =
+      let words = group-words (holds-pieces held) (held .mapped) g low high in
+      record-held held g low high (withTimerFlags f t (groupOf n g)) (rw (words .atomic, words .pending, words .used, words .count) at w)
+
+  -- whether a group's buffer holds messages is read from its count
+  pub holds-read : bufferHolds n g ≡ ltb 0 (word m (groupAddress g + countOffset))
+  unfolding bufferHolds
+  holds-read = ap (ltb 0) (sym (group-words (holds-pieces held) (held .mapped) g low high .count))
+
+  -- and whether it is revoked from that flag
+  pub revoked-read : groupOf n g .revoked ≡ ltb 0 (word m (groupAddress g + revokedOffset))
+  revoked-read = flag-above (groupOf n g .revoked) ∙ ap (ltb 0) (sym (group-words (holds-pieces held) (held .mapped) g low high .revoked))

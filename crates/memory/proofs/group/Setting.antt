@@ -1,4 +1,4 @@
--- What `group::set_flags` and `group::set_counts` do: the record of a group is read, lent to a setter, and written. The two differ in the setter that they call, and their one walk is here.
+-- What `group::set_flags`, `group::set_timer_flags` and `group::set_counts` do: the record of a group is read, lent to a setter, and written. They differ in the setter that they call, and their one walk is here.
 --     function     their MIR, where k names the setter
 --     walk         the memory is lent to `read` for the time of that call; the record that it hands out lies in _5, is lent to the setter for the time of the next call, and is back changed; and the memory goes to `write` with it. What is known of `read` and `write` is that each meets its contract, and of the setter what it leaves.
 -- Assumes `Given`.
@@ -39,9 +39,9 @@ use denote.Triple.Call.{calls-at, calls-from}
 use denote.Triple.Clauses.{ensured, lasts}
 use denote.Triple.Walked.{says}
 use borrow.Rule.Slice.Reshare.{keptS}
-use Rattle.rules.specs.Memory.{groupAddress}
+use Rattle.rules.specs.Memory.{countOffset, groupAddress}
 use Rattle.memory.specs.declared.group.Group.{Group}
-use Rattle.memory.specs.Writes.{InGroup, Wrote, groupRead}
+use Rattle.memory.specs.Writes.{InGroup, Wrote, groupFront, groupRead}
 use Rattle.memory.proofs.group.Lending.{lends-to-read, read-back, lends-local, local-back}
 use Rattle.memory.proofs.group.Group as T
 use Rattle.memory.proofs.group.Group.Laws as T′
@@ -87,7 +87,7 @@ module _ {M : Type 1} (𝓤 : URA M) (H : Heap 𝓤) (A : Atoms 𝓤) (at-mem : 
 is-unit : (w : Val) → w ∷ [] ≡ vunit ∷ [] → Holds (hasTy tyUnit w) × WT w
 is-unit w e = subst (λ (z : Val). Holds (hasTy tyUnit z) × WT z) (sym (ap only e)) (tt, tt)
 
-module _ {M : Type 1} (𝓤 : URA M) (H : Heap 𝓤) (A : Atoms 𝓤) (W : Given 𝓤 H A) (at-mem : Memory → SProp 𝓤) (run : Routine → Fun 𝓤) (κ : Lft) (q : Share) (b o : ℕ) (γ : GName) (ys : List ℕ) (g u v : ℕ) (g-fits : g < 2 ^ 32) (u-fits : u < 2 ^ 32) (v-fits : v < 2 ^ 32) (within : InGroup ys g 3) (h′ : Group) where
+module _ {M : Type 1} (𝓤 : URA M) (H : Heap 𝓤) (A : Atoms 𝓤) (W : Given 𝓤 H A) (at-mem : Memory → SProp 𝓤) (run : Routine → Fun 𝓤) (κ : Lft) (q : Share) (b o : ℕ) (γ : GName) (ys : List ℕ) (g u v : ℕ) (g-fits : g < 2 ^ 32) (u-fits : u < 2 ^ 32) (v-fits : v < 2 ^ 32) (within : InGroup ys g countOffset) (h′ : Group) where
   -- the memory, under the name δ; the record that is read, in the local l under the name δ; and the memory's machine value
   abbrev x : GName → RefT (List ℕ)
   x δ = record { ptr = (b, o); name = δ; now = ys }
@@ -103,7 +103,7 @@ module _ {M : Type 1} (𝓤 : URA M) (H : Heap 𝓤) (A : Atoms 𝓤) (W : Given
 
   -- the record h′ is written
   abbrev Wrote′ : List ℕ → Type 0
-  Wrote′ zs = Wrote ys zs (groupAddress g) (h′ .atomic ∷ h′ .pending ∷ h′ .used ∷ h′ .count ∷ [])
+  Wrote′ zs = Wrote ys zs (groupAddress g) (groupFront h′)
 
   abbrev Arg : Type 0
   Arg = RefT (List ℕ) × (ℕ × (ℕ × (ℕ × Unit {0})))

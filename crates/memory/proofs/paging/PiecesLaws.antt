@@ -6,20 +6,21 @@ use native.Mathlib.Omega.{arith}
 use mathlib.Core.Path.{_≡_, refl, sym, ap, _∙_, subst}
 use mathlib.Core.List.{List, [], _∷_, _++_, map}
 use lib.ListN.{length, getD, replicate, length-map, length-replicate, List·getD-map}
-use Rattle.rules.specs.Build.{paper01, pageCount, groupCount, wordLimit}
+use Rattle.rules.specs.Build.{paper01, pageCount, groupCount}
 use Rattle.rules.specs.Lists.{Every, concatMap, pad}
-use Rattle.rules.specs.Memory.{flagWord, frameAddress, framesAt, groupAddress, groupStride, groupWords, groupsAt, heldOffset, listAt, listOffset, listWords, pagingAt, placeWords, queueAt, freeAt, size, word, wordsAt}
+use Rattle.rules.specs.Memory.{frameAddress, framesAt, groupAddress, groupStride, groupWords, groupsAt, heldOffset, listAt, listOffset, listWords, pagingAt, placeWords, queueAt, freeAt, size, word, wordsAt}
 use Rattle.rules.specs.Node.{Frame, Group, Node, emptyGroup, withBuffer, withGroups}
 use Rattle.rules.specs.Paging.{framesFrom, framesOf, traded, tradedIn, trading}
 use Rattle.rules.specs.Sound.{WholeGroup}
 use Rattle.rules.specs.Valid.{GoodFrame, frameNumber}
 use Rattle.rules.proofs.Steps.EveryLaws.{every-getD, every-mono}
-use Rattle.rules.proofs.Steps.ListLaws.{length-pad, pad-fits}
+use Rattle.rules.proofs.Steps.ListLaws.{pad-fits}
 use Rattle.rules.proofs.Steps.PageLaws.{good-from}
 use Rattle.rules.proofs.Map.MapParts.{length-group}
 use Rattle.rules.proofs.Map.MapRead.{length-line, length-queue}
 use Rattle.rules.proofs.Map.MapWords.{Stands, stands-append, stands-cons}
 use Rattle.memory.specs.Paging.{InList, Listing, Traded}
+use Rattle.memory.proofs.group.GroupLaws.{beforeList, length-before, recordFront}
 use Rattle.memory.proofs.PieceLaws.{FrameStands, Pieces, same-drop}
 use Rattle.memory.proofs.WriteLaws.{same-stands}
 use Rattle.memory.proofs.paging.MoveLaws.{Follows, pages-follow, pages-kept}
@@ -35,9 +36,7 @@ pub record Laid (n : Node) : Type 0 where
 -- how many pages a group has is read
 held-read : (m : List ℕ) (a : ℕ) (G : Group) → Stands m a (groupWords G) → word m (a + heldOffset) ≡ length (G .buffer .frames)
 unfolding groupWords
-held-read m a G s =
-    let four = flagWord (G .atomic) ∷ flagWord (G .pending) ∷ G .buffer .used ∷ G .buffer .count ∷ [] in
-    stands-cons m (a + 4) (length (G .buffer .frames)) _ .0 (stands-append m a four _ .0 s .1) .0
+held-read m a G s = stands-cons m (a + heldOffset) (length (G .buffer .frames)) _ .0 (stands-append m a (recordFront G) _ .0 s .1) .0
 
 -- the lists of the memory of such a node are short
 pub laid-listing : {m : List ℕ} {n : Node} {r : List ℕ} → Pieces m n r → Laid n → Listing m
@@ -94,20 +93,19 @@ module _ {m m′ : List ℕ} {p q : ℕ} (L : Listing m) (s : Traded m m′ p q 
       let fs = G .buffer .frames in
       let gs = map (traded p q) fs in
       let zs : List ℕ = replicate (pageCount paper01 - length fs) 0 in
-      let front : List ℕ =
-      flagWord (G .atomic) ∷ flagWord (G .pending) ∷ G .buffer .used ∷ G .buffer .count ∷ length fs ∷ length (G .descriptor) ∷ pad wordLimit (G .descriptor) in
-      let l14 : length front ≡ 14 = omega (arith, length-pad wordLimit (G .descriptor)) in
+      let front = beforeList G in
+      let lf : length front ≡ listOffset = length-before G in
       let lg : length gs ≡ length fs = length-map fs (traded p q) in
       let lz : length zs ≡ pageCount paper01 - length fs = length-replicate {A = ℕ} (pageCount paper01 - length fs) 0 in
       let held = held-read m a G st in
-      let first = rw l14 at (stands-append m a front (fs ++ zs) .0 (rw (pad-fits (pageCount paper01) fs few) at st)) in
-      let second = stands-append m (a + 14) fs zs .0 (first .1) in
+      let first = rw lf at (stands-append m a front (fs ++ zs) .0 (rw (pad-fits (pageCount paper01) fs few) at st)) in
+      let second = stands-append m (a + listOffset) fs zs .0 (first .1) in
       let new-front : Stands m′ a front = same-stands m m′ a front (λ b l h. beside a refl b l (omega arith) (λ k. omega arith)) (first .0) in
-      let new-list : Stands m′ (a + 14) gs = traded-list i li fs held (second .0) in
-      let new-zeros : Stands m′ (a + 14 + length fs) zs =
-      same-stands m m′ (a + 14 + length fs) zs (λ b l h. beside a refl b (omega arith) (omega arith) (λ k. omega arith)) (second .1) in
+      let new-list : Stands m′ (a + listOffset) gs = traded-list i li fs held (second .0) in
+      let new-zeros : Stands m′ (a + listOffset + length fs) zs =
+      same-stands m m′ (a + listOffset + length fs) zs (λ b l h. beside a refl b (omega arith) (omega arith) (λ k. omega arith)) (second .1) in
       let e : pad (pageCount paper01) gs ≡ gs ++ zs = pad-fits (pageCount paper01) gs (omega arith) ∙ rw lg in
-      rw (lg, e) (stands-append m′ a front (gs ++ zs) .1 (new-front, rw l14 (stands-append m′ (a + 14) gs zs .1 (new-list, rw lg new-zeros))))
+      rw (lg, e) (stands-append m′ a front (gs ++ zs) .1 (new-front, rw lf (stands-append m′ (a + listOffset) gs zs .1 (new-list, rw lg new-zeros))))
     where
       beside : (a : ℕ) → groupsAt + groupStride * i ≡ a → (b : ℕ) → a ≤ b → b < a + groupStride → (a + listOffset ≤ b → a + listOffset + word m (a + heldOffset) ≤ b)
           → word m′ b ≡ word m b

@@ -9,7 +9,7 @@ use lib.ListN.{getD, length}
 use borrow.Author.Tests.{eq-eqb, le-ltb, lt-ltb, ne-eqb}
 use Rattle.rules.specs.Build.{groupCount, paper01}
 use Rattle.rules.specs.Frames.{put}
-use Rattle.rules.specs.Memory.{freeCountAt, groupAddress, heldOffset, listOffset, runningAt, word}
+use Rattle.rules.specs.Memory.{freeCountAt, groupAddress, heldOffset, listOffset, runningAt, word, usedOffset, countOffset}
 use Rattle.rules.specs.Node.{Frame, Message, Node, groupOf}
 use Rattle.rules.specs.Paging.{firstResident, freed, inFrame, nextPage, prepared, resident, runnerResident, store}
 use Rattle.rules.specs.Sound.{Sound}
@@ -68,11 +68,11 @@ module _ {g : ℕ} (low : 1 ≤ g) (high : g ≤ groupCount) {n : Node} (c : Wan
     wanting-ends = ends h g low high (fits (group-good (c .sound) g low high .buffer))
 
     -- so is whether there is room, and the page to write to
-    module _ (room : word m (groupAddress g + 2) + word m (groupAddress g + 3) < 8 * word m (groupAddress g + 4)) where
+    module _ (room : word m (groupAddress g + usedOffset) + word m (groupAddress g + countOffset) < 8 * word m (groupAddress g + heldOffset)) where
       is-room : groupOf n g .buffer .used + groupOf n g .buffer .count < length (groupOf n g .buffer .places)
       is-room = let read = full-read h g low high in omega (arith, read .0, read .1)
 
-      next-read : word m (groupAddress g + (14 + (word m (groupAddress g + 2) + word m (groupAddress g + 3)) / 8)) ≡ nextPage paper01 (groupOf n g .buffer)
+      next-read : word m (groupAddress g + (listOffset + (word m (groupAddress g + usedOffset) + word m (groupAddress g + countOffset)) / 8)) ≡ nextPage paper01 (groupOf n g .buffer)
       unfolding nextPage
       next-read =
           let B = groupOf n g .buffer in
@@ -81,14 +81,14 @@ module _ {g : ℕ} (low : 1 ≤ g) (high : g ≤ groupCount) {n : Node} (c : Wan
           let inside : (B .used + B .count) / 8 < length (B .frames) = omega (arith, whole .whole) in
           rw (full-read h g low high .1) (listed m (groupAddress g) (B .frames) ((B .used + B .count) / 8) inside (group-words (holds-pieces h) (h .mapped) g low high .list))
 
-      pub next-owned : Owned (word m (groupAddress g + (14 + (word m (groupAddress g + 2) + word m (groupAddress g + 3)) / 8))) n
+      pub next-owned : Owned (word m (groupAddress g + (listOffset + (word m (groupAddress g + usedOffset) + word m (groupAddress g + countOffset)) / 8))) n
       next-owned = record { sound = c .sound; listed = rw next-read (next-listed (c .sound) g low high is-room) }
 
-      pub next-prepared : resident paper01 (word m (groupAddress g + (14 + (word m (groupAddress g + 2) + word m (groupAddress g + 3)) / 8))) n ≡ prepared paper01 g n
+      pub next-prepared : resident paper01 (word m (groupAddress g + (listOffset + (word m (groupAddress g + usedOffset) + word m (groupAddress g + countOffset)) / 8))) n ≡ prepared paper01 g n
       next-prepared = rw next-read (prepared-room is-room)
 
     -- and whether it is full
-    module _ (full : 8 * word m (groupAddress g + 4) ≤ word m (groupAddress g + 2) + word m (groupAddress g + 3)) where
+    module _ (full : 8 * word m (groupAddress g + heldOffset) ≤ word m (groupAddress g + usedOffset) + word m (groupAddress g + countOffset)) where
       is-full : length (groupOf n g .buffer .places) ≤ groupOf n g .buffer .used + groupOf n g .buffer .count
       is-full = let read = full-read h g low high in omega (arith, read .0, read .1)
 

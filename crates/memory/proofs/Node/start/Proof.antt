@@ -3,6 +3,7 @@ use native.Mathlib.Omega.{arith}
 use mathlib.Core.Path.{_∙_}
 use lib.ListN.{length-set}
 use borrow.Author.Needs.{needs}
+use Rattle.rules.specs.Memory.{freeCountAt, swapCountAt}
 use Rattle.memory.proofs.WriteLaws.{wrote-set}
 use Rattle.memory.proofs.PowerOnLaws.{powered}
 use Rattle.memory.proofs.Node.start.Statement.{statement}
@@ -32,7 +33,7 @@ returns c =
     let w₁ = c .before .before .before .before .before .before .before .before .before .before .clear .ensures in
     let w₃ = c .before .before .before .before .before .before .count-up .ensures in
     let l = simp length-set at (w₃ .same-length) in
-    powered long w₁ (wrote-set _ 3 32 (omega (arith, w₁ .same-length))) w₃ (wrote-set _ 7988 64 (omega (arith, w₁ .same-length))) (c .before .before .count-up2 .ensures)
+    powered long w₁ (wrote-set _ freeCountAt 32 (omega (arith, w₁ .same-length))) w₃ (wrote-set _ swapCountAt 64 (omega (arith, w₁ .same-length))) (c .before .before .count-up2 .ensures)
 
 pub start-spec : {M : Type 1} → statement M
 start-spec =

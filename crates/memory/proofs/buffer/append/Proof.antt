@@ -5,7 +5,7 @@ use mathlib.Core.List.{List}
 use mathlib.Core.Logic.{⊎-elim}
 use mathlib.Core.Path.{_≡_, sym, ap, _∙_, subst}
 use lib.ListN.{length}
-use Rattle.rules.specs.Memory.{word, groupAddress, groupStride}
+use Rattle.rules.specs.Memory.{word, groupAddress, groupStride, usedOffset, countOffset, heldOffset}
 use Rattle.rules.specs.Node.{Node}
 use Rattle.memory.specs.Holds.{Holds, Storable}
 use Rattle.memory.specs.Writes.{InGroup}
@@ -22,9 +22,9 @@ in-group c k h = record { long = facts c .long; low = c .pre .0 .0; high = c .pr
 -- what is read
 abbrev Read : tie.After-group-word3 → Type 0
 Read c =
-    (c .group-word3 .result ≡ word (c .before .before .before .before .before .before .before .args .m .now) (groupAddress (c .before .before .before .before .before .before .before .args .g) + 4))
-    × ((c .before .before .group-word2 .result ≡ word (c .before .before .before .before .before .before .before .args .m .now) (groupAddress (c .before .before .before .before .before .before .before .args .g) + 3))
-    × (c .before .before .before .before .group-word .result ≡ word (c .before .before .before .before .before .before .before .args .m .now) (groupAddress (c .before .before .before .before .before .before .before .args .g) + 2)))
+    (c .group-word3 .result ≡ word (c .before .before .before .before .before .before .before .args .m .now) (groupAddress (c .before .before .before .before .before .before .before .args .g) + heldOffset))
+    × ((c .before .before .group-word2 .result ≡ word (c .before .before .before .before .before .before .before .args .m .now) (groupAddress (c .before .before .before .before .before .before .before .args .g) + countOffset))
+    × (c .before .before .before .before .group-word .result ≡ word (c .before .before .before .before .before .before .before .args .m .now) (groupAddress (c .before .before .before .before .before .before .before .args .g) + usedOffset)))
 
 reads : (c : tie.After-group-word3) → Read c
 reads c = (c .group-word3 .ensures, (c .before .before .group-word2 .ensures, c .before .before .before .before .group-word .ensures))
@@ -39,7 +39,7 @@ ready c n r h fit =
     let q = reads (c .before) in
     ⊎-elim
     (λ w.
-    let full : 8 * word (s .args .m .now) (groupAddress g + 4) ≤ word (s .args .m .now) (groupAddress g + 2) + word (s .args .m .now) (groupAddress g + 3) =
+    let full : 8 * word (s .args .m .now) (groupAddress g + heldOffset) ≤ word (s .args .m .now) (groupAddress g + usedOffset) + word (s .args .m .now) (groupAddress g + countOffset) =
     omega (arith, w .0 .taken) in
     subst (λ (k : List ℕ). Ready k g n r) (sym (w .5))
     (ready-taken h g low high fit full (w .2 .ensures n r h (full-left h g low high fit full))))
@@ -50,16 +50,16 @@ ready-length : (c : tie.Joined1) → length (c .if1 .m) ≡ length (c .before .b
 ready-length c = ⊎-elim (λ w. ap length (w .5) ∙ w .2 .kept .0) (λ w. ap length (w .1)) (c .if1 .came)
 
 group-word-requires : tie.Need-group-word-requires
-group-word-requires c κs = in-group (c .before .before) 2 (omega arith)
+group-word-requires c κs = in-group (c .before .before) usedOffset (omega arith)
 
 group-word-requires-2 : tie.Need-group-word-requires-2
-group-word-requires-2 c κs = in-group (c .before .before .before .before) 3 (omega arith)
+group-word-requires-2 c κs = in-group (c .before .before .before .before) countOffset (omega arith)
 
 add-end : tie.Need-add-end
 add-end c = let f = facts (c .before .before .before .before .before) in omega (arith, c .group-word2 .ensures, c .before .before .group-word .ensures)
 
 group-word-requires-3 : tie.Need-group-word-requires-3
-group-word-requires-3 c κs = in-group (c .before .before .before .before .before .before) 4 (omega arith)
+group-word-requires-3 c κs = in-group (c .before .before .before .before .before .before) heldOffset (omega arith)
 
 mul-places : tie.Need-mul-places
 mul-places c = let f = facts (c .before .before .before .before .before .before .before) in omega (arith, c .group-word3 .ensures)
@@ -69,8 +69,8 @@ extend-requires c κs =
     let s = c .before .before .before .before .before .before .before .before .before in
     let p = s .pre .1 in
     let q = reads (c .before .before) in
-    let full : 8 * word (s .args .m .now) (groupAddress (s .args .g) + 4)
-    ≤ word (s .args .m .now) (groupAddress (s .args .g) + 2) + word (s .args .m .now) (groupAddress (s .args .g) + 3) =
+    let full : 8 * word (s .args .m .now) (groupAddress (s .args .g) + heldOffset)
+    ≤ word (s .args .m .now) (groupAddress (s .args .g) + usedOffset) + word (s .args .m .now) (groupAddress (s .args .g) + countOffset) =
     omega (arith, c .before .if1 .taken) in (
       s .pre .0,
       record {

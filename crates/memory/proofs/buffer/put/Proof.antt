@@ -7,10 +7,10 @@ use lib.ListN.{length, length-drop, length-take}
 use borrow.Author.Needs.{needs}
 use borrow.Rule.Slice.PartMut.{putMid}
 use Rattle.rules.specs.Build.{pageCount, paper01}
-use Rattle.rules.specs.Memory.{frameAddress, groupAddress, groupStride, size}
+use Rattle.rules.specs.Memory.{countOffset, frameAddress, groupStride, size}
 use Rattle.memory.specs.Writes.{InGroup, Wrote}
 use Rattle.memory.proofs.buffer.AppendLaws.{Ends, ends, last-frame, room-end}
-use Rattle.memory.proofs.buffer.PutLaws.{endPlace, flags-below, putting-kept}
+use Rattle.memory.proofs.buffer.PutLaws.{endPlace, putting-kept}
 use Rattle.memory.proofs.WriteLaws.{wrote-as, wrote-at, wrote-part}
 use Rattle.memory.proofs.buffer.put.Statement.{statement}
 use Rattle.memory.proofs.buffer.put.Tie as tie
@@ -52,7 +52,7 @@ wrote c =
     (at-end (c .before .before))
 
 read-requires : tie.Need-read-requires
-read-requires c κs = in-group (c .before .before) _ 3 refl (omega arith)
+read-requires c κs = in-group (c .before .before) _ countOffset refl (omega arith)
 
 add-end : tie.Need-add-end
 add-end c = let b = below (c .before) in omega arith
@@ -88,7 +88,7 @@ add-set-counts : tie.Need-add-set-counts
 add-set-counts c = let b = below (c .before .before .before .before .before .before .before .before .before .before) in omega arith
 
 set-counts-requires : tie.Need-set-counts-requires
-set-counts-requires c κs = in-group (c .before .before .before .before .before .before .before .before .before .before .before .before .before) _ 3 (wrote (c .before .before .before .before) .same-length) (omega arith)
+set-counts-requires c κs = in-group (c .before .before .before .before .before .before .before .before .before .before .before .before .before) _ countOffset (wrote (c .before .before .before .before) .same-length) (omega arith)
 
 same-length : tie.Need-same-length
 same-length c = search needs
@@ -97,9 +97,8 @@ returns : tie.Need-returns
 returns c x kept n r h room =
     let s = (c .before .before .before .before .before .before .before .before .before .before .before .before .before .before .before .before) in
     let w = wrote (c .before .before .before .before .before .before .before) in
-    let above = flags-below (s .args .m .now) (s .args .g) (s .pre .0 .1) in
     putting-kept h x (s .args .g) (kept .group) (s .pre .0 .0) (s .pre .0 .1) room (wrote-as w (sym (kept .words)))
-    (rw (w .below (groupAddress (s .args .g) + 0) (omega arith), w .below (groupAddress (s .args .g) + 1) (omega arith), c .before .before .before .before .before .before .before .before .before .before .before .before .before .read .ensures) at (c .before .before .set-counts .ensures))
+    (rw (c .before .before .before .before .before .before .before .before .before .before .before .before .before .read .ensures) at (c .before .before .set-counts .ensures))
 
 pub put-spec : {M : Type 1} → statement M
 put-spec =

@@ -5,7 +5,7 @@ use mathlib.Core.List.{List}
 use mathlib.Core.Path.{_≡_, refl, sym, subst, _∙_}
 use lib.ListN.{length}
 use borrow.Author.Needs.{needs}
-use Rattle.rules.specs.Memory.{groupStride}
+use Rattle.rules.specs.Memory.{groupStride, usedOffset, countOffset}
 use Rattle.rules.specs.Node.{Node}
 use Rattle.memory.specs.Holds.{Holds}
 use Rattle.memory.specs.Writes.{InGroup}
@@ -22,7 +22,7 @@ in-group : (c : tie.Start) (m : List ℕ) (k : ℕ) → length m ≡ length (c .
 in-group c m k l h = record { long = omega (arith, facts c .long); low = c .pre .0 .0; high = c .pre .0 .1; inside = h }
 
 group-word-requires : tie.Need-group-word-requires
-group-word-requires c κs = in-group (c .before .before) _ 3 refl (omega arith)
+group-word-requires c κs = in-group (c .before .before) _ countOffset refl (omega arith)
 
 free-first-requires : tie.Need-free-first-requires
 free-first-requires c κs = search needs
@@ -40,7 +40,7 @@ returns c n r h waits =
     (c .before .before .free-first .ensures n r h waits)
 
 group-word-requires-2 : tie.Need-group-word-requires-2
-group-word-requires-2 c κs = in-group (c .before .before .before .before .before) _ 2 refl (omega arith)
+group-word-requires-2 c κs = in-group (c .before .before .before .before .before) _ usedOffset refl (omega arith)
 
 free-first-requires-2 : tie.Need-free-first-requires-2
 free-first-requires-2 c κs = search needs

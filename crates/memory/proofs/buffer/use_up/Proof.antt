@@ -5,7 +5,7 @@ use mathlib.Core.List.{List}
 use mathlib.Core.Path.{_≡_, ap, refl}
 use lib.ListN.{length}
 use borrow.Author.Needs.{needs}
-use Rattle.rules.specs.Memory.{groupStride}
+use Rattle.rules.specs.Memory.{countOffset, groupStride}
 use Rattle.memory.specs.declared.group.Group.{Group as Group·rt}
 use Rattle.memory.specs.Writes.{InGroup}
 use Rattle.memory.proofs.buffer.FreeLaws.{Reads, reads, using-up-held}
@@ -19,7 +19,7 @@ in-group : (c : tie.Start) (m : List ℕ) (k : ℕ) → length m ≡ length (c .
 in-group c m k l h = record { long = omega (arith, facts c .long); low = c .pre .0 .0; high = c .pre .0 .1; inside = h }
 
 read-requires : tie.Need-read-requires
-read-requires c κs = in-group (c .before .before) _ 3 refl (omega arith)
+read-requires c κs = in-group (c .before .before) _ countOffset refl (omega arith)
 
 add-set-counts : tie.Need-add-set-counts
 add-set-counts c = let e = ap (λ (x : Group·rt). x .used) (c .before .before .read .ensures) in let f = facts (c .before .before .before .before .before) in omega arith
@@ -28,7 +28,7 @@ sub-set-counts : tie.Need-sub-set-counts
 sub-set-counts c = let e = ap (λ (x : Group·rt). x .count) (c .before .before .before .read .ensures) in let f = facts (c .before .before .before .before .before .before) in omega arith
 
 set-counts-requires : tie.Need-set-counts-requires
-set-counts-requires c κs = in-group (c .before .before .before .before .before .before) _ 3 refl (omega arith)
+set-counts-requires c κs = in-group (c .before .before .before .before .before .before) _ countOffset refl (omega arith)
 
 same-length : tie.Need-same-length
 same-length c = search needs

@@ -5,11 +5,11 @@ use mathlib.Core.List.{List}
 use mathlib.Core.Path.{_≡_, ap, refl}
 use lib.ListN.{length}
 use borrow.Author.Needs.{needs}
-use Rattle.rules.specs.Memory.{groupStride}
+use Rattle.rules.specs.Memory.{countOffset, groupStride}
 use Rattle.memory.specs.Writes.{InGroup}
 use Rattle.memory.specs.declared.group.Group.{Group as Group·rt}
 use Rattle.memory.proofs.group.GroupLaws.{record-within}
-use Rattle.memory.proofs.buffer.FreeLaws.{Reads, counts-kept, free-room, reads, releasing-held}
+use Rattle.memory.proofs.buffer.FreeLaws.{Reads, free-room, reads, releasing-held}
 use Rattle.memory.proofs.frames.release.Statement.{statement}
 use Rattle.memory.proofs.frames.release.Tie as tie
 
@@ -20,7 +20,7 @@ in-group : (c : tie.Start) (m : List ℕ) (k : ℕ) → length m ≡ length (c .
 in-group c m k l h = record { long = omega (arith, facts c .long); low = c .pre .0 .0; high = c .pre .0 .1; inside = h }
 
 read-requires : tie.Need-read-requires
-read-requires c κs = in-group (c .before .before) _ 3 refl (omega arith)
+read-requires c κs = in-group (c .before .before) _ countOffset refl (omega arith)
 
 group-at-requires : tie.Need-group-at-requires
 group-at-requires c κs = search needs
@@ -38,7 +38,7 @@ sub-set-counts : tie.Need-sub-set-counts
 sub-set-counts c = let e = ap (λ (x : Group·rt). x .count) (c .before .before .before .before .before .before .before .read .ensures) in let f = facts (c .before .before .before .before .before .before .before .before .before .before) in omega arith
 
 set-counts-requires : tie.Need-set-counts-requires
-set-counts-requires c κs = in-group (c .before .before .before .before .before .before .before .before .before .before) _ 3 (c .before .before .before .before .leave .kept .0) (omega arith)
+set-counts-requires c κs = in-group (c .before .before .before .before .before .before .before .before .before .before) _ countOffset (c .before .before .before .before .leave .kept .0) (omega arith)
 
 join-requires : tie.Need-join-requires
 join-requires c κs =
@@ -54,7 +54,7 @@ returns c n r h waits =
     let g = s .args .g in
     let gone = rw (c .before .before .before .before .before .before .before .before .before .before .before .before .before .group-at .ensures) at (c .before .before .before .before .before .before .before .before .before .before .before .leave .ensures) in
     releasing-held h g (s .pre .0 .0) (s .pre .0 .1) waits _ gone
-    (rw (counts-kept g gone 0 (omega arith), counts-kept g gone 1 (omega arith), c .before .before .before .before .before .before .before .before .before .before .before .before .before .before .read .ensures) at (c .before .before .before .before .before .before .set-counts .ensures))
+    (rw (c .before .before .before .before .before .before .before .before .before .before .before .before .before .before .read .ensures) at (c .before .before .before .before .before .before .set-counts .ensures))
     (c .before .before .join .ensures)
 
 pub release-spec : {M : Type 1} → statement M

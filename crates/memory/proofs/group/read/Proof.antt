@@ -1,4 +1,4 @@
--- `memory::group::read` meets its contract: four words from the record on. Assumes nothing.
+-- `memory::group::read` meets its contract: six words from the record on. Assumes nothing.
 use native.Mathlib.Nat.{add-zero}
 use native.Mathlib.Omega.{arith}
 use borrow.Author.Needs.{needs}
@@ -53,9 +53,33 @@ shared-slice-read-t18 : tie.Need-shared-slice-read-t18
 unfolding groupAddress
 shared-slice-read-t18 c = omega arith
 
+add-t19 : tie.Need-add-t19
+unfolding groupAddress
+add-t19 c = omega arith
+
+mul-t20 : tie.Need-mul-t20
+unfolding groupAddress
+mul-t20 c = omega arith
+
+shared-slice-read-t22 : tie.Need-shared-slice-read-t22
+unfolding groupAddress
+shared-slice-read-t22 c = omega arith
+
+add-t23 : tie.Need-add-t23
+unfolding groupAddress
+add-t23 c = omega arith
+
+mul-t24 : tie.Need-mul-t24
+unfolding groupAddress
+mul-t24 c = omega arith
+
+shared-slice-read-t26 : tie.Need-shared-slice-read-t26
+unfolding groupAddress
+shared-slice-read-t26 c = omega arith
+
 returns : tie.Need-returns
 unfolding word
-returns c = rw (c .before .before .before .before .group-at .ensures, add-zero)
+returns c = rw (c .before .before .before .before .before .before .group-at .ensures, add-zero)
 
 pub read-spec : {M : Type 1} → statement M
 read-spec =
@@ -73,4 +97,10 @@ read-spec =
     add-t15
     mul-t16
     shared-slice-read-t18
+    add-t19
+    mul-t20
+    shared-slice-read-t22
+    add-t23
+    mul-t24
+    shared-slice-read-t26
     returns)

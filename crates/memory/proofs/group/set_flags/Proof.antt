@@ -1,4 +1,4 @@
--- `memory::group::set_flags` meets its contract: the record is read, lent to its setter and written, so the flags are the new ones and the counts are written as they were read. The walk of its MIR is `Setting`'s; here is what the setter is given and leaves, and what is had at exit. Assumes nothing.
+-- `memory::group::set_flags` meets its contract: the record is read, lent to its setter and written, so the flags atomic and pending are the new ones and the rest is written as it was read. The walk of its MIR is `Setting`'s; here is what the setter is given and leaves, and what is had at exit. Assumes nothing.
 use mathlib.Core.Path.{_≡_, refl}
 use Prim.Native.Nat.{ℕ, _<_, _^_}
 use mathlib.Core.List.{[], _∷_, List}
@@ -31,9 +31,9 @@ use denote.Triple.Clauses.{ensured, lasts}
 use denote.Triple.Table.{entered, cited}
 use denote.Triple.Walked.{says, needs, Stays, stay-none, gave-slice, walkOf, goes-none, goes-gave-slice, Walks, ends-at, walked, walk-meets}
 use denote.Exit.{yes}
-use Rattle.rules.specs.Memory.{groupAddress}
+use Rattle.rules.specs.Memory.{countOffset, groupAddress}
 use Rattle.memory.specs.declared.group.Group.{Group}
-use Rattle.memory.specs.Writes.{InGroup, Wrote, groupRead, reflagged}
+use Rattle.memory.specs.Writes.{InGroup, Wrote, groupFront, groupRead, reflagged}
 use Rattle.memory.proofs.group.GroupLaws.{flags-held}
 use Rattle.memory.proofs.group.Setting.{Read, Write, walk}
 use Rattle.memory.proofs.group.Group as T
@@ -59,7 +59,7 @@ stayed = (gave-slice (0 ∷ []) tt (plain (λ _. u32)), (stay-none (λ _. u32) y
 abbrev Setter : {M : Type 1} (𝓤 : URA M) (H : Heap 𝓤) (A : Atoms 𝓤) (at-mem : Memory → SProp 𝓤) (run : Routine → Fun 𝓤) → Contract 𝓤
 Setter 𝓤 H A at-mem run = tripleOf 𝓤 H A setter.signature (setter.spec 𝓤 H A at-mem run)
 
-module _ {M : Type 1} (𝓤 : URA M) (H : Heap 𝓤) (A : Atoms 𝓤) (W : Given 𝓤 H A) (at-mem : Memory → SProp 𝓤) (run : Routine → Fun 𝓤) (κ : Lft) (q : Share) (b o : ℕ) (γ : GName) (ys : List ℕ) (g u v : ℕ) (g-fits : g < 2 ^ 32) (u-fits : u < 2 ^ 32) (v-fits : v < 2 ^ 32) (within : InGroup ys g 3) where
+module _ {M : Type 1} (𝓤 : URA M) (H : Heap 𝓤) (A : Atoms 𝓤) (W : Given 𝓤 H A) (at-mem : Memory → SProp 𝓤) (run : Routine → Fun 𝓤) (κ : Lft) (q : Share) (b o : ℕ) (γ : GName) (ys : List ℕ) (g u v : ℕ) (g-fits : g < 2 ^ 32) (u-fits : u < 2 ^ 32) (v-fits : v < 2 ^ 32) (within : InGroup ys g countOffset) where
   -- the record, as it is read and as it is then; and as it lies in the local l under the name δ
   abbrev h : Group
   h = groupRead ys g
@@ -100,7 +100,7 @@ module _ {M : Type 1} (𝓤 : URA M) (H : Heap 𝓤) (A : Atoms 𝓤) (W : Given
   abbrev Post : Val → SProp 𝓤
   Post = walkOf 𝓤 H A f.ended stayed (f.clauses 𝓤 H A at-mem run) .post (((κ, tt), (q, tt), tt, a, vals), tt)
 
-  exits : (zs : List ℕ) → Wrote ys zs (groupAddress g) (h′ .atomic ∷ h′ .pending ∷ h′ .used ∷ h′ .count ∷ []) → length zs ≡ length ys → ent 𝓤 (sep 𝓤 (sep 𝓤 (A .lft κ q) (sem 𝓤 H A ftrue)) (sem 𝓤 H A (finally u32 γ zs))) (Post vunit)
+  exits : (zs : List ℕ) → Wrote ys zs (groupAddress g) (groupFront h′) → length zs ≡ length ys → ent 𝓤 (sep 𝓤 (sep 𝓤 (A .lft κ q) (sem 𝓤 H A ftrue)) (sem 𝓤 H A (finally u32 γ zs))) (Post vunit)
   exits zs e l =
       qed W ((‵ (flft κ q) ⊛ ‵ ftrue) ∷ ‵ (finally u32 γ zs) ∷ []) ∵
       suffices ! _ (ends-at 𝓤 H A f.ended stayed (f.clauses 𝓤 H A at-mem run) W (((κ, tt), (q, tt), tt, a, vals), tt) vunit tt (zs, (tt, (tt, (tt, tt)))) (l, (tt, (tt, (tt, tt))))) $ says ! (λ c p ec ep n r k any. flags-held k g (within .low) (within .high) c p (rw (ec, ep) at e)) $ frame ! $
@@ -119,7 +119,7 @@ module _ {M : Type 1} (𝓤 : URA M) (H : Heap 𝓤) (A : Atoms 𝓤) (W : Given
       → Walks 𝓤 H A f.ended stayed (WpFn 𝓤 H C Λ code.function) (f.clauses 𝓤 H A at-mem run)
   set-flags-walks C Λ fm known-read known-setter known-write = walked 𝓤 H A f.ended stayed (f.clauses 𝓤 H A at-mem run) (WpFn 𝓤 H C Λ code.function)
       (λ κs. (slice-vals, (uint-vals w32, (uint-vals w32, (uint-vals w32, tt))))) (λ κs. (mut-slice-tells (named 0) (κs .0) u32, (uint-tells w32, (uint-tells w32, (uint-tells w32, tt)))))
-      (λ κs qs bounds a _ are. needs 𝓤 (InGroup (a .0 .now) (a .1 .0) 3) _ (λ within.
+      (λ κs qs bounds a _ are. needs 𝓤 (InGroup (a .0 .now) (a .1 .0) countOffset) _ (λ within.
       walked-through 𝓤 H A W at-mem run (κs .0) (qs .0) (a .0 .ptr .0) (a .0 .ptr .1) (a .0 .name) (a .0 .now) (a .1 .0) (a .1 .1 .0) (a .1 .1 .1 .0) (are .1 .0 .1) (are .1 .1 .0 .1) (are .1 .1 .1 .0 .1) within C Λ fm known-read known-setter known-write (are .0 .0 .1)))
 
 set-flags-meets : {M : Type 1} (𝓤 : URA M) (H : Heap 𝓤) (A : Atoms 𝓤) → Given 𝓤 H A → (at-mem : Memory → SProp 𝓤) (run : Routine → Fun 𝓤) (𝓣 : Tables 𝓤 H)

@@ -3,7 +3,7 @@ use Prim.Native.Nat.{ℕ, _+_, _*_, _/_, _≤_, _<_}
 use native.Mathlib.Omega.{arith}
 use mathlib.Core.Path.{_≡_, subst}
 use borrow.Author.Needs.{needs}
-use Rattle.rules.specs.Memory.{groupAddress, groupStride, word}
+use Rattle.rules.specs.Memory.{groupAddress, groupStride, word, usedOffset, countOffset, heldOffset, listOffset}
 use Rattle.rules.specs.Node.{Node}
 use Rattle.memory.specs.Holds.{Holds}
 use Rattle.memory.specs.Writes.{InGroup}
@@ -27,24 +27,24 @@ abbrev field : tie.Start → ℕ → ℕ
 field c k = word (c .args .m .now) (groupAddress (c .args .g) + k)
 
 -- the end of the buffer
-end-read : (c : tie.After-group-word3) → c .before .before .before .before .group-word .result + c .before .before .group-word2 .result ≡ field (start c) 2 + field (start c) 3
+end-read : (c : tie.After-group-word3) → c .before .before .before .before .group-word .result + c .before .before .group-word2 .result ≡ field (start c) usedOffset + field (start c) countOffset
 end-read c = omega (arith, c .before .before .before .before .group-word .ensures, c .before .before .group-word2 .ensures)
 
 -- its places
-held-read : (c : tie.After-group-word3) → c .group-word3 .result ≡ field (start c) 4
+held-read : (c : tie.After-group-word3) → c .group-word3 .result ≡ field (start c) heldOffset
 held-read c = c .group-word3 .ensures
 
 group-word-requires : tie.Need-group-word-requires
-group-word-requires c κs = in-group (c .before .before) 2 (omega arith)
+group-word-requires c κs = in-group (c .before .before) usedOffset (omega arith)
 
 group-word-requires-2 : tie.Need-group-word-requires-2
-group-word-requires-2 c κs = in-group (c .before .before .before .before) 3 (omega arith)
+group-word-requires-2 c κs = in-group (c .before .before .before .before) countOffset (omega arith)
 
 add-end : tie.Need-add-end
 add-end c = omega (arith, c .group-word2 .ensures, c .before .before .group-word .ensures, facts (c .before .before .before .before .before))
 
 group-word-requires-3 : tie.Need-group-word-requires-3
-group-word-requires-3 c κs = in-group (c .before .before .before .before .before .before) 4 (omega arith)
+group-word-requires-3 c κs = in-group (c .before .before .before .before .before .before) heldOffset (omega arith)
 
 mul-if1 : tie.Need-mul-if1
 mul-if1 c = omega (arith, held-read c, facts (start c))
@@ -61,10 +61,10 @@ group-word-requires-4 c κs =
     in-group (start d) _ (omega (arith, c .before .if1 .taken, held-read d, facts (start d)))
 
 -- there is room: the page to write to
-room : (c : tie.Then1) → field (start (c .before)) 2 + field (start (c .before)) 3 < 8 * field (start (c .before)) 4
+room : (c : tie.Then1) → field (start (c .before)) usedOffset + field (start (c .before)) countOffset < 8 * field (start (c .before)) heldOffset
 room c = omega (arith, c .if1 .taken, end-read (c .before), held-read (c .before))
 
-next : (c : tie.After-group-word4) → c .group-word4 .result ≡ field (start (c .before .before .before)) (14 + (field (start (c .before .before .before)) 2 + field (start (c .before .before .before)) 3) / 8)
+next : (c : tie.After-group-word4) → c .group-word4 .result ≡ field (start (c .before .before .before)) (listOffset + (field (start (c .before .before .before)) usedOffset + field (start (c .before .before .before)) countOffset) / 8)
 next c = rw (end-read (c .before .before .before)) at (c .group-word4 .ensures)
 
 resident-requires : tie.Need-resident-requires
@@ -95,7 +95,7 @@ slice-read-if2 : tie.Need-slice-read-if2
 slice-read-if2 c = omega (arith, facts (start (c .before .before)) .long)
 
 -- there is none
-full : (c : tie.Else1) → 8 * field (start (c .before)) 4 ≤ field (start (c .before)) 2 + field (start (c .before)) 3
+full : (c : tie.Else1) → 8 * field (start (c .before)) heldOffset ≤ field (start (c .before)) usedOffset + field (start (c .before)) countOffset
 full c = omega (arith, c .if1 .left, end-read (c .before), held-read (c .before))
 
 send-out-requires : tie.Need-send-out-requires

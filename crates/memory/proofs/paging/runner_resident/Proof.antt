@@ -4,7 +4,7 @@ use native.Mathlib.Omega.{arith}
 use mathlib.Core.Logic.{_≢_}
 use mathlib.Core.Path.{sym, _∙_, subst}
 use borrow.Author.Needs.{needs}
-use Rattle.rules.specs.Memory.{groupAddress, groupStride, heldOffset, runningAt, word}
+use Rattle.rules.specs.Memory.{groupAddress, groupStride, heldOffset, runningAt, word, listOffset}
 use Rattle.rules.specs.Node.{Node}
 use Rattle.memory.specs.Holds.{Holds}
 use Rattle.memory.specs.Writes.{InGroup}
@@ -40,7 +40,7 @@ some c e = c .if2 .left (c .before .group-word .ensures ∙ e)
 
 group-word-requires : tie.Need-group-word-requires
 unfolding word
-group-word-requires c κs = in-group (c .before) 4 (omega arith)
+group-word-requires c κs = in-group (c .before) heldOffset (omega arith)
 
 same-length : tie.Need-same-length
 same-length c = search needs
@@ -53,7 +53,7 @@ returns-2 c n r h sound =
 
 group-word-requires-2 : tie.Need-group-word-requires-2
 unfolding word
-group-word-requires-2 c κs = in-group (c .before .before .before .before) 14 (omega arith)
+group-word-requires-2 c κs = in-group (c .before .before .before .before) listOffset (omega arith)
 
 resident-requires : tie.Need-resident-requires
 unfolding word

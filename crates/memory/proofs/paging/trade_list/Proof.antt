@@ -5,7 +5,7 @@ use mathlib.Core.Path.{_≡_}
 use mathlib.Core.List.{map}
 use borrow.Author.Needs.{needs}
 use lib.ListN.{length}
-use Rattle.rules.specs.Memory.{word, wordsAt, listAt, groupAddress, heldOffset}
+use Rattle.rules.specs.Memory.{word, wordsAt, listAt, groupAddress, heldOffset, listOffset}
 use Rattle.rules.specs.Paging.{traded}
 use Rattle.memory.specs.Writes.{Wrote}
 use Rattle.memory.proofs.WriteLaws.{wrote-none}
@@ -70,7 +70,7 @@ loop-less : tie.Need-loop-less Inv-loop μ-loop
 loop-less c = omega arith
 
 -- the number read is within the memory
-within : (c : tie.After-traded Inv-loop μ-loop) → c .before .before .before .before .group-at .result + 14 + c .before .before .before .loop .i < length (c .before .before .before .before .before .before .before .before .args .m .now)
+within : (c : tie.After-traded Inv-loop μ-loop) → c .before .before .before .before .group-at .result + listOffset + c .before .before .before .loop .i < length (c .before .before .before .before .before .before .before .before .args .m .now)
 unfolding groupAddress
 within c = omega arith
 
@@ -78,7 +78,7 @@ loop-again : tie.Need-loop-again Inv-loop μ-loop
 unfolding word
 loop-again c =
     let s = c .before .before .before .before .before .before .before .before in
-    let a = c .before .before .before .before .group-at .result + 14 in
+    let a = c .before .before .before .before .group-at .result + listOffset in
     let i = c .before .before .before .loop .i in
     let inside : a + i < length (s .args .m .now) = within c in
     (omega arith, list-next (s .args .p) (s .args .q) a i (c .traded .result) inside (c .before .before .before .loop .inv .1) (c .traded .ensures))

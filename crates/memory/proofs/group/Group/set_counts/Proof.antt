@@ -61,13 +61,13 @@ module _ {M : Type 1} (𝓤 : URA M) (H : Heap 𝓤) (A : Atoms 𝓤) (W : Given
   at = (vptr b o ∷ [], (vint w32 u ∷ [], (vint w32 v ∷ [], tt)))
 
   abbrev mach : Group → Val
-  mach y = vstruct (vcons (vint w32 (y .atomic)) (vcons (vint w32 (y .pending)) (vcons (vint w32 (y .used)) (vcons (vint w32 (y .count)) vnil))))
+  mach y = vstruct (vcons (vint w32 (y .atomic)) (vcons (vint w32 (y .pending)) (vcons (vint w32 (y .force)) (vcons (vint w32 (y .revoked)) (vcons (vint w32 (y .used)) (vcons (vint w32 (y .count)) vnil))))))
 
   -- what closing the borrow asks
   made : u < 2 ^ 32 → v < 2 ^ 32 → Is T.the-row h (LL.vals T.the-type T′.the-laws h) → Is T.the-row h′ (mach h′ ∷ [])
   made u-fits v-fits was =
       let old = LL.owed T.the-type T′.the-laws h (LL.vals T.the-type T′.the-laws h) was in
-      LL.owes T.the-type T′.the-laws h′ (old .0, (old .1 .0, ((refl, u-fits), ((refl, v-fits), old .1 .1 .1 .1))))
+      LL.owes T.the-type T′.the-laws h′ (old .0, (old .1 .0, (old .1 .1 .0, (old .1 .1 .1 .0, ((refl, u-fits), ((refl, v-fits), old .1 .1 .1 .1 .1 .1))))))
 
   abbrev Post : Val → SProp 𝓤
   Post = walkOf 𝓤 H A f.ended stayed (f.clauses 𝓤 H A at-mem run) .post (((κ, tt), (q, tt), tt, x, at), tt)
@@ -92,8 +92,8 @@ module _ {M : Type 1} (𝓤 : URA M) (H : Heap 𝓤) (A : Atoms 𝓤) (W : Given
         move ! (8 ∷ 9 ∷ 10 ∷ []) $ opens ! tt T.the-row {h = h} b o (λ vs. spelt ! T.the-row (Is T.the-row) (shows 𝓤 H A T.the-row) (LL.vals T.the-type T′.the-laws) (LL.tells T.the-type T′.the-laws) fullShare h vs b o $
         move ! (1 ∷ []) $ peeks ! T.the-row (Is T.the-row) (shows 𝓤 H A T.the-row) h (LL.vals T.the-type T′.the-laws h) (λ was. move ! (1 ∷ 0 ∷ []) $
         -- [the record's cell; what it owns; the open borrow; obs; auth; _3; …; _2; …; _1; …; room for _0; …]
-        assigns ! (of-opd ! (load ! (from ! (stop !)) (look ! 7 refl))) (from ! (hop ! (look ! 9 refl) (fld ! refl (stop !)))) (store-in ! 0 (sub ! 2 refl (whole !)) (tt, record { fits = gu .1 })) $
-        assigns ! (of-opd ! (load ! (from ! (stop !)) (look ! 5 refl))) (from ! (hop ! (look ! 9 refl) (fld ! refl (stop !)))) (store-in ! 0 (sub ! 3 refl (whole !)) (tt, record { fits = gv .1 })) $
+        assigns ! (of-opd ! (load ! (from ! (stop !)) (look ! 7 refl))) (from ! (hop ! (look ! 9 refl) (fld ! refl (stop !)))) (store-in ! 0 (sub ! 4 refl (whole !)) (tt, record { fits = gu .1 })) $
+        assigns ! (of-opd ! (load ! (from ! (stop !)) (look ! 5 refl))) (from ! (hop ! (look ! 9 refl) (fld ! refl (stop !)))) (store-in ! 0 (sub ! 5 refl (whole !)) (tt, record { fits = gv .1 })) $
         assigns ! (of-opd ! (unit-lit !)) (from ! (stop !)) (init ! 11 refl (tt, tt)) $
         move ! (1 ∷ []) $ drop ! $ owned ! T.the-row (Is T.the-row) ((LL.makes T.the-type T′.the-plain) 𝓤 H A) h′ _ (made (gu .1) (gv .1) was) $ move ! (1 ∷ 0 ∷ []) $ closes ! tt T.the-row h′ (mach h′ ∷ []) b o $
         -- [obs; the borrow; the token; _3; …; _2; …; _1; …; _0; …]

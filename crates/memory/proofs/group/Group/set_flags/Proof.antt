@@ -61,7 +61,7 @@ module _ {M : Type 1} (𝓤 : URA M) (H : Heap 𝓤) (A : Atoms 𝓤) (W : Given
   at = (vptr b o ∷ [], (vint w32 u ∷ [], (vint w32 v ∷ [], tt)))
 
   abbrev mach : Group → Val
-  mach y = vstruct (vcons (vint w32 (y .atomic)) (vcons (vint w32 (y .pending)) (vcons (vint w32 (y .used)) (vcons (vint w32 (y .count)) vnil))))
+  mach y = vstruct (vcons (vint w32 (y .atomic)) (vcons (vint w32 (y .pending)) (vcons (vint w32 (y .force)) (vcons (vint w32 (y .revoked)) (vcons (vint w32 (y .used)) (vcons (vint w32 (y .count)) vnil))))))
 
   -- what closing the borrow asks
   made : u < 2 ^ 32 → v < 2 ^ 32 → Is T.the-row h (LL.vals T.the-type T′.the-laws h) → Is T.the-row h′ (mach h′ ∷ [])

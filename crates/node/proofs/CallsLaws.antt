@@ -42,7 +42,7 @@ call-holds m c m′ p =
             p .left ∙ ap (λ (x : MemoryStep). x .memory) s,
           );
       length-kept = ap length (p .left) ∙ d .length-kept;
-      rest-kept = ap (drop 8088) (p .left) ∙ d .rest-kept;
+      rest-kept = ap (drop 8104) (p .left) ∙ d .rest-kept;
       stays-node = λ t. ap isMemory (p .left) ∙ d .stays-node t;
     }
 

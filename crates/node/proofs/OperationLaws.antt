@@ -39,7 +39,7 @@ not-request (Tick n) k q e = let z : _≡_ {A = ℕ} 0 1 = cc in omega arith
 not-request Poll k q e = miss otherTags 3 tt k
 not-request (Peek i) k q e = miss otherTags 4 tt k
 not-request Dispose k q e = miss otherTags 5 tt k
-not-request BeginAtomic k q e = miss otherTags 6 tt k
+not-request (BeginAtomic f) k q e = miss otherTags 6 tt k
 not-request EndAtomic k q e = miss otherTags 7 tt k
 not-request (Describe w) k q e = miss otherTags 8 tt k
 not-request (Launch n) k q e = miss otherTags 9 tt k
@@ -59,7 +59,7 @@ a-request (Tick n) k ws = absurd (miss requestTags 2 tt k)
 a-request Poll k ws = record { request = poll; alone = refl; beside = refl }
 a-request (Peek i) k ws = record { request = peek i; alone = refl; beside = refl }
 a-request Dispose k ws = record { request = dispose; alone = refl; beside = refl }
-a-request BeginAtomic k ws = record { request = beginAtomic; alone = refl; beside = refl }
+a-request (BeginAtomic f) k ws = record { request = beginAtomic f; alone = refl; beside = refl }
 a-request EndAtomic k ws = record { request = endAtomic; alone = refl; beside = refl }
 a-request (Describe w) k ws = record { request = describe w; alone = refl; beside = refl }
 a-request (Launch n) k ws = record { request = launch n; alone = refl; beside = refl }

@@ -1,28 +1,29 @@
 -- Steps after which nothing settles, no page is brought in and no upcall is due: what they report and leave is what they did. In a node none is due, so this is
 -- so of every step that leaves the queue, the buffers and the running group's section as they were. Assumes nothing.
-use Prim.Native.Nat.{ℕ, _≤_}
+use Prim.Native.Nat.{ℕ, pred, _≤_, _<_}
 use native.Mathlib.Nat.{add-zero}
 use native.Mathlib.Omega.{arith}
-use mathlib.Core.Bool.{Bool, cond, false, true, false≢true, not, _&&_}
+use mathlib.Core.Bool.{Bool, cond, false, true, false≢true, not, _&&_, _||_, or-true}
 use mathlib.Core.List.{List, [], _∷_}
 use mathlib.Core.Path.{_≡_, _∙_, ap, refl, subst, sym}
 use lib.Dec.{eqb}
+use lib.ListN.{length, length-set}
 use borrow.Author.Tests.{eqb-false}
 use Rattle.rules.specs.Build.{Build}
 use Rattle.rules.specs.Lists.{isEmpty}
-use Rattle.rules.specs.Node.{Group, Message, Node, buffered, groupOf, line, withDescriptor, withFlags, withGroup, withQueue, withTimer}
+use Rattle.rules.specs.Node.{Group, Message, Node, bufferHolds, buffered, forced, groupOf, line, timerRuns, withDescriptor, withFlags, withGroup, withQueue, withTimer, withTimerFlags}
 use Rattle.rules.specs.Operation.{accepted}
 use Rattle.rules.specs.Settling.{Moved, calls, mayStay, pass, restTimer, settle, upcall, upcallGroup}
-use Rattle.rules.specs.Step.{Effect, described, finish, flagged}
+use Rattle.rules.specs.Step.{Effect, begun, described, finish, flagged, timerFlagged}
 use Rattle.rules.specs.Valid.{FirstInFrame, Valid}
-use Rattle.rules.proofs.Steps.NodeLaws.{group-same, kept, reflagged-line, within}
+use Rattle.rules.proofs.Steps.LineLaws.{neither, timer-rests}
+use Rattle.rules.proofs.Steps.NodeLaws.{group-same, kept, reflagged-line}
 use Rattle.rules.proofs.Steps.PagingLaws.{runner-quiet}
-use Rattle.rules.proofs.Steps.SoundLaws.{valid-sound}
 
 -- nothing to settle, no page to bring in, and no upcall due
 pub record Quiet (b : Build) (n : Node) : Type 0 where
   pub head : (x : Message) (q : List Message) → n .queue ≡ x ∷ q → mayStay n x ≡ true
-  pub idle : n .queue ≡ [] → n .timer ≡ 0
+  pub idle : timerRuns n ≡ false → n .timer ≡ 0
   pub resident : 1 ≤ n .running → FirstInFrame b (groupOf n (n .running) .buffer .frames)
   pub uncalled : calls n ≡ false
 
@@ -34,20 +35,20 @@ pass-ends b n [] stays = refl
 pass-ends b n (x ∷ q) stays = rw (pass, stays x q refl)
 
 -- a timer at rest is left
-timer-rests : (n : Node) → (n .queue ≡ [] → n .timer ≡ 0) → restTimer n ≡ n
+rest-left : (n : Node) → (timerRuns n ≡ false → n .timer ≡ 0) → restTimer n ≡ n
 unfolding restTimer withTimer
-timer-rests n idle = go (n .queue) refl
+rest-left n idle = go (timerRuns n) refl
   where
-    go : (q : List Message) → n .queue ≡ q → cond (isEmpty q) (withTimer 0 n) n ≡ n
-    go [] e = λ i. record { running = n .running; timer = sym (idle e) i; queue = n .queue; free = n .free; paging = n .paging; groups = n .groups }
-    go (x ∷ q) e = refl
+    go : (t : Bool) → timerRuns n ≡ t → cond t n (withTimer 0 n) ≡ n
+    go true e = refl
+    go false e = λ i. record { running = n .running; timer = sym (idle e) i; queue = n .queue; free = n .free; paging = n .paging; groups = n .groups }
 
 -- settling leaves such a node
 pub quiet-settle : {b : Build} {n : Node} → Quiet b n → settle b n ≡ record { node = n; moved = 0 }
 unfolding settle withQueue
 quiet-settle {b} {n} q =
     ap (λ (s : Moved). record { node = restTimer (s .node); moved = s .moved }) (pass-ends b n (n .queue) (q .head))
-    ∙ ap (λ (k : Node). record { node = k; moved = 0 }) (timer-rests n (q .idle))
+    ∙ ap (λ (k : Node). record { node = k; moved = 0 }) (rest-left n (q .idle))
 
 -- and so does the rest of a step: what is reported and left is the operation's
 pub quiet-finish : {b : Build} (e : Effect) → Quiet b (e .node)
@@ -75,31 +76,71 @@ none-due n h =
 
 -- a valid node is quiet
 pub valid-quiet : {b : Build} {n : Node} → Valid b n → Quiet b n
-valid-quiet {b} {n} v = record { head = v .head-stays; idle = v .timer-idle; resident = v .runner-resident; uncalled = none-due n (v .running-atomic) }
+valid-quiet {b} {n} v = record { head = v .head-stays; idle = timer-rests v; resident = v .runner-resident; uncalled = none-due n (v .running-atomic) }
 
--- it stays so when its running group is exchanged for one with the same buffer, atomic where it was
-exchanged-quiet : {b : Build} {n : Node} → Valid b n → (G : Group) → G .buffer ≡ groupOf n (n .running) .buffer
+-- no upcall becomes due to a group that is atomic where it was
+undue : (nobody atomic atomic′ empty : Bool) → (atomic ≡ true → atomic′ ≡ true) → (not nobody && (not atomic && not empty)) ≡ false
+    → (not nobody && (not atomic′ && not empty)) ≡ false
+undue true a a′ e more none = refl
+undue false a true e more none = refl
+undue false a false true more none = refl
+undue false false false false more none = none
+undue false true false false more none = more refl
+
+-- a timer that a group has forced stays so where force and atomic stay on
+forced-still : (nobody force atomic force′ atomic′ : Bool) → (force ≡ true → force′ ≡ true) → (atomic ≡ true → atomic′ ≡ true)
+    → (not nobody && (force′ && atomic′)) ≡ false → (not nobody && (force && atomic)) ≡ false
+forced-still true f a f′ a′ more mores e = refl
+forced-still false false a f′ a′ more mores e = refl
+forced-still false true false f′ a′ more mores e = refl
+forced-still false true true f′ a′ more mores e = sym (rw (more refl, mores refl)) ∙ e
+
+-- it stays quiet when its running group is exchanged for one with the same buffer, revoked if it was, and atomic and with force on where it was so
+exchanged-quiet : {b : Build} {n : Node} → Quiet b n → pred (n .running) < length (n .groups) → (G : Group) → G .buffer ≡ groupOf n (n .running) .buffer
+    → G .revoked ≡ groupOf n (n .running) .revoked → (groupOf n (n .running) .force ≡ true → G .force ≡ true)
     → (groupOf n (n .running) .atomic ≡ true → G .atomic ≡ true) → Quiet b (withGroup (n .running) G n)
-unfolding mayStay buffered withGroup
-exchanged-quiet {b} {n} v G same atomic =
+unfolding mayStay buffered bufferHolds withGroup timerRuns forced calls
+exchanged-quiet {b} {n} q inside G same marked force atomic =
     let g = n .running in
+    let k = withGroup g G n in
+    let own : groupOf k g ≡ G = group-same n g G inside in
+    let line-kept : line k g ≡ line n g = reflagged-line n g G same g in
     record {
-      head = λ x q e. rw (kept (λ K. K .buffer .count) n g G (ap (λ B. B .count) same) (x .group)) (v .head-stays x q e);
-      idle = v .timer-idle;
+      head = λ x p e.
+          rw (kept (λ K. K .buffer .count) n g G (ap (λ B. B .count) same) (x .group), kept (λ K. K .revoked) n g G marked (x .group)) (q .head x p e);
+      idle = λ rests.
+          let t = neither (not (isEmpty (n .queue))) (forced k) rests in
+          let off : forced n ≡ false =
+          forced-still (eqb g 0) (groupOf n g .force) (groupOf n g .atomic) (G .force) (G .atomic) force atomic
+          (ap (λ (K : Group). not (eqb g 0) && (K .force && K .atomic)) (sym own) ∙ t .1) in
+          q .idle (ap (λ (u : Bool). u || forced n) (t .0) ∙ off);
       resident = λ low.
-          subst (FirstInFrame b) (sym (kept (λ K. K .buffer .frames) n g G (ap (λ B. B .frames) same) g)) (v .runner-resident low);
-      uncalled = none-due (withGroup g G n)
-          (λ low some.
-          ap (λ (K : Group). K .atomic) (group-same n g G (within (valid-sound v) g low (v .running-bound)))
-          ∙ atomic (v .running-atomic low (rw (reflagged-line n g G same g) at some)));
+          subst (FirstInFrame b) (sym (kept (λ K. K .buffer .frames) n g G (ap (λ B. B .frames) same) g)) (q .resident low);
+      uncalled =
+          ap (λ (K : Group). not (eqb g 0) && (not (K .atomic) && not (isEmpty (line k g)))) own
+          ∙ ap (λ (l : List Message). not (eqb g 0) && (not (G .atomic) && not (isEmpty l))) line-kept
+          ∙ undue (eqb g 0) (groupOf n g .atomic) (G .atomic) (isEmpty (line n g)) atomic (q .uncalled);
     }
+
+-- the running group's place among the groups, or the first where nobody runs
+runner-within : {b : Build} {n : Node} → Valid b n → pred (n .running) < length (n .groups)
+runner-within {b} {n} v = omega (arith, v .group-count, v .running-bound)
 
 -- so with another descriptor
 pub described-quiet : {b : Build} {n : Node} → Valid b n → (d : List ℕ) → Quiet b (described d n)
 unfolding described withDescriptor
-described-quiet {b} {n} v d = exchanged-quiet v (withDescriptor d (groupOf n (n .running))) refl (λ e. e)
+described-quiet {b} {n} v d =
+    exchanged-quiet (valid-quiet v) (runner-within v) (withDescriptor d (groupOf n (n .running))) refl refl (λ e. e) (λ e. e)
 
 -- and in an atomic section
-pub begun-quiet : {b : Build} {n : Node} → Valid b n → (p : Bool) → Quiet b (flagged true p n)
-unfolding flagged withFlags
-begun-quiet {b} {n} v p = exchanged-quiet v (withFlags true p (groupOf n (n .running))) refl (λ e. refl)
+pub begun-quiet : {b : Build} {n : Node} → Valid b n → (force : Bool) → Quiet b (begun force n)
+unfolding begun flagged timerFlagged withGroup withFlags withTimerFlags
+begun-quiet {b} {n} v force =
+    let r = n .running in
+    let G = groupOf n r in
+    let k = flagged true (G .pending) n in
+    let own : groupOf k r ≡ withFlags true (G .pending) G = group-same n r (withFlags true (G .pending) G) (runner-within v) in
+    let once = exchanged-quiet (valid-quiet v) (runner-within v) (withFlags true (G .pending) G) refl refl (λ e. e) (λ e. refl) in
+    exchanged-quiet {n = k} once (rw (length-set (n .groups) (pred r) (withFlags true (G .pending) G)) (runner-within v))
+    (withTimerFlags (force || G .force) (G .revoked) (groupOf k r)) refl (sym (ap (λ (K : Group). K .revoked) own))
+    (λ e. ap (λ (t : Bool). force || t) (sym (ap (λ (K : Group). K .force) own) ∙ e) ∙ or-true force) (λ e. e)

@@ -91,6 +91,10 @@ pub record Ticking (n : Node) : Type 0 where
 unfoldable pub rest : ℕ → Node → ℕ
 rest t n = cond (forced n) (t % paper01 .timeout) 0
 
+-- whatever node in the middle of a step m holds, x is what is left over
+abbrev pub LeftOver : List ℕ → ℕ → ℕ → Type 0
+LeftOver m t x = (n : Node) (r : List ℕ) → Holds m n r → Sound paper01 n → x ≡ rest t n
+
 -- an operation that sends nothing
 abbrev pub effect : Node → ℕ → ℕ → ℕ → Effect
 effect n value trap moved = record { node = n; value = value; trap = trap; moved = moved; sent = [] }
@@ -103,6 +107,10 @@ late t n = effect (withTimer (rest t n) (revoke (drain paper01 (n .queue) n))) 0
 pub record Finished (m′ : List ℕ) (e : Effect) (rest : List ℕ) (rep : Report·rt) : Type 0 where
   pub report : rep ≡ reportOf (finish paper01 e .report)
   pub holds : Holds m′ (finish paper01 e .node) rest
+
+-- whatever node with its timer running m held, what comes after is that of t ticks that reach the timeout
+abbrev pub TimesOut : List ℕ → List ℕ → ℕ → Report·rt → Type 0
+TimesOut m m′ t rep = (n : Node) (r : List ℕ) → Holds m n r → Ticking n → Finished m′ (late t n) r rep
 
 -- whatever node in the middle of a step m held, what comes after is that of this effect on it
 abbrev pub Finishes : List ℕ → List ℕ → (Node → Effect) → Report·rt → Type 0

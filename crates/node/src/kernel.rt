@@ -4,16 +4,12 @@ use memory::Node;
 use memory::group;
 use memory::map;
 use rules::Report;
-ghost use mathlib.Core.List.{List};
-ghost use mathlib.Core.Path.{_≡_};
-ghost use Prim.Native.Nat.{ℕ};
 ghost use Rattle.rules.specs.Build.{paper01};
-ghost use Rattle.rules.specs.Node.{Node};
 ghost use Rattle.rules.specs.Operation.{schedule, tick};
 ghost use Rattle.rules.specs.Step.{revoke};
 ghost use Rattle.rules.specs.Sound.{Sound};
-ghost use Rattle.memory.specs.Holds.{Holds, Some, Becomes};
-ghost use Rattle.node.specs.Steps.{IsNode, Steps, Ticking, Finished, rest, late};
+ghost use Rattle.memory.specs.Holds.{Some, Becomes};
+ghost use Rattle.node.specs.Steps.{IsNode, Steps, Ticking, LeftOver, TimesOut};
 
 // S: the processor is given to group g, 0 to nobody.
 pub fn schedule(m: &mut [u32], g: u32) -> Report
@@ -57,7 +53,7 @@ pub fn tick(m: &mut [u32], k: u32) -> Report
 // What is left over of t ticks on the timer once a timeout has come: nothing where it is not forced.
 pub fn left_over(m: &[u32], t: u32) -> u32
     requires { ⌜ Some (now m) (Sound paper01) ⌝ }
-    ensures { λ x. ⌜ ((n : Node) (r : List ℕ) → Holds (now (m .entry)) n r → Sound paper01 n → x ≡ rest t n) ⌝ }
+    ensures { λ x. ⌜ LeftOver (now (m .entry)) t x ⌝ }
 {
     if settling::forced(m) {
         return t % Node::TIMEOUT;
@@ -78,7 +74,7 @@ pub fn revoke(m: &mut [u32])
 // The t ticks on the timer reach the timeout: the whole queue moves to the buffers, and the running group is revoked.
 pub fn timeout(m: &mut [u32], t: u32) -> Report
     requires { ⌜ Some (now m) Ticking ⌝ }
-    ensures { λ rep. ⌜ ((n : Node) (r : List ℕ) → Holds (now (m .entry)) n r → Ticking n → Finished (now (m .exit)) (late t n) r rep) ⌝ }
+    ensures { λ rep. ⌜ TimesOut (now (m .entry)) (now (m .exit)) t rep ⌝ }
 {
     let left = left_over(m, t);
     let moved = settling::drain(m);

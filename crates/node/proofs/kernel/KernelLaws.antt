@@ -1,26 +1,28 @@
 -- S and T: when they are refused, and what they do to a node. Assumes nothing.
-use Rattle.rules.specs.Node.{line, Node, buffered, groupOf, inBuffer, inQueue, withQueue, withRunning, withTimer}
-use Rattle.rules.specs.Step.{act, Effect, scheduled, timedOut, valued}
+use Rattle.rules.specs.Node.{line, Node, bufferHolds, buffered, forced, groupOf, inBuffer, inQueue, timerRuns, withQueue, withRunning, withTimer, withTimerFlags}
+use Rattle.rules.specs.Step.{act, Effect, revoke, scheduled, timedOut, timerFlagged, valued}
 use Rattle.rules.specs.Settling.{drain, calls, mayStay}
-use Prim.Native.Nat.{_+_, _<_, _≤_, ℕ}
+use Prim.Native.Nat.{_+_, _%_, _<_, _≤_, ℕ}
+use native.Mathlib.Nat.{mod-lt, zero-add}
 use native.Mathlib.Omega.{arith}
+use mathlib.Core.Bool.{Bool, cond, false, true, true≢false}
 use mathlib.Core.Logic.{_≢_}
-use mathlib.Core.Path.{_≡_, ap, subst}
+use mathlib.Core.Path.{_∙_, _≡_, ap, refl, subst, sym}
 use lib.ListN.{length}
 use borrow.Author.Tests.{eq-eqb, le-ltb, lt-ltb, ne-eqb}
 use Rattle.rules.specs.Build.{groupCount, paper01, tickLimit}
-use Rattle.rules.specs.Operation.{accepted, badSchedule, badTicks, schedule, tick}
+use Rattle.rules.specs.Operation.{accepted, badSchedule, badTicks, schedule, tick, timeoutTrap}
 use Rattle.rules.specs.Refusal.{refusal, refuseSchedule, refuseTick}
 use Rattle.rules.specs.Valid.{Valid}
-use Rattle.rules.proofs.Steps.ListLaws.{length-some}
-use Rattle.rules.proofs.Steps.NodeLaws.{sound-timer}
-use Rattle.rules.proofs.Steps.SettlingLaws.{drain-sound}
+use Rattle.rules.proofs.Steps.LineLaws.{timer-timed}
+use Rattle.rules.proofs.Steps.NodeLaws.{group-good, reflagged, sound-timer}
+use Rattle.rules.proofs.Steps.SettlingLaws.{drain-flags, drain-running, drain-sound}
 use Rattle.rules.specs.Sound.{Sound}
+use Rattle.rules.proofs.Steps.SoundLaws.{valid-sound}
 use Rattle.rules.proofs.Steps.StepLaws.{act-sound}
-use Rattle.rules.proofs.Steps.TickLaws.{idle, ticks-counted, ticks-idle, ticks-timeout}
+use Rattle.rules.proofs.Steps.TickLaws.{leftOver, ticks-counted, ticks-idle, ticks-timeout, timed}
 use Rattle.node.proofs.QuietLaws.{valid-quiet, Quiet}
-use Rattle.node.specs.Steps.{effect}
-use Rattle.node.proofs.settling.MoveLaws.{none-queued}
+use Rattle.node.specs.Steps.{Ticking, effect, late, rest}
 
 -- S.
 
@@ -62,33 +64,75 @@ unfolding refusal refuseTick
 tick-accepted n k some few = rw (ne-eqb k 0 some, le-ltb tickLimit k few)
 
 module _ {n : Node} (v : Valid paper01 n) (k : ℕ) where
-  -- with an empty queue nothing changes
-  pub tick-idle : length (n .queue) ≡ 0 → act paper01 n (tick k) ≡ valued 0 n
+  -- where the timer does not run nothing changes
+  pub tick-idle : timerRuns n ≡ false → act paper01 n (tick k) ≡ valued 0 n
   unfolding act
-  tick-idle e = ticks-idle paper01 k n (none-queued (n .queue) e)
+  tick-idle rests = ticks-idle paper01 k n rests
 
   -- below the timeout the timer counts on
-  pub tick-counted : 1 ≤ length (n .queue) → n .timer + k < paper01 .timeout → act paper01 n (tick k) ≡ valued 0 (withTimer (n .timer + k) n)
+  pub tick-counted : timerRuns n ≡ true → n .timer + k < paper01 .timeout → act paper01 n (tick k) ≡ valued 0 (withTimer (n .timer + k) n)
   unfolding act
-  tick-counted some below = ticks-counted paper01 k n (length-some (n .queue) some) below
+  tick-counted runs below = ticks-counted paper01 k n runs below
 
   -- else there is a timeout
-  pub tick-timeout : 1 ≤ length (n .queue) → paper01 .timeout ≤ n .timer + k → act paper01 n (tick k) ≡ timedOut paper01 (valued 0 n)
-  unfolding act
-  tick-timeout some reached = ticks-timeout paper01 k n (length-some (n .queue) some) (v .timer-bound) reached
+  pub tick-timeout : timerRuns n ≡ true → paper01 .timeout ≤ n .timer + k → act paper01 n (tick k) ≡ late (n .timer + k) n
+  unfolding act timed leftOver rest timedOut valued withTimer
+  tick-timeout runs reached =
+      ticks-timeout paper01 k n runs (v .timer-bound) reached
+      ∙ ap (effect (withTimer (rest (n .timer + k) n) (revoke (drain paper01 (n .queue) n))) 0 timeoutTrap) (zero-add (length (n .queue)))
 
 -- a timer that goes on makes nothing due
-pub counted-quiet : {n : Node} → Valid paper01 n → 1 ≤ length (n .queue) → (t : ℕ) → Quiet paper01 (withTimer t n)
-unfolding withTimer mayStay buffered groupOf calls line inBuffer inQueue
-counted-quiet {n} v some t =
+pub counted-quiet : {n : Node} → Valid paper01 n → timerRuns n ≡ true → (t : ℕ) → Quiet paper01 (withTimer t n)
+unfolding withTimer mayStay buffered bufferHolds groupOf calls line inBuffer inQueue timerRuns forced
+counted-quiet {n} v runs t =
     record {
       head = v .head-stays;
-      idle = λ e. absurd (let l = ap length e in omega arith);
+      idle = λ rests. absurd (true≢false (sym runs ∙ rests));
       resident = v .runner-resident;
       uncalled = valid-quiet v .uncalled;
     }
 
+-- a node whose timer runs
+pub valid-ticking : {n : Node} → Valid paper01 n → timerRuns n ≡ true → Ticking n
+valid-ticking v runs = let t = timer-timed v runs in record { sound = valid-sound v; some = t .runs; atomic = t .atomic }
+
+module _ {n : Node} (t : Ticking n) where
+  -- a drain leaves it such
+  pub drained-ticking : Ticking (drain paper01 (n .queue) n)
+  unfolding withQueue
+  drained-ticking =
+      let d = drain paper01 (n .queue) n in
+      let same = drain-running paper01 (n .queue) n in
+      record {
+        sound = drain-sound (n .queue) n (t .sound);
+        some = rw same (t .some);
+        atomic = ap (λ (g : ℕ). groupOf d g .atomic) same ∙ drain-flags paper01 (n .queue) n (n .running) .atomic ∙ t .atomic;
+      }
+
+  -- a group that is atomic may be revoked
+  revoke-sound : Sound paper01 (revoke n)
+  unfolding revoke timerFlagged withTimerFlags
+  revoke-sound =
+      let G = group-good (t .sound) (n .running) (t .some) (t .sound .running-bound) in
+      reflagged (t .sound) (n .running) (t .some) (t .sound .running-bound) (withTimerFlags (groupOf n (n .running) .force) true (groupOf n (n .running)))
+      (record {
+        buffer = G .buffer;
+        descriptor = G .descriptor;
+        pending-atomic = G .pending-atomic;
+        force-atomic = G .force-atomic;
+        revoked-atomic = λ e. t .atomic;
+      })
+      refl
+
+-- what is left over is below the timeout
+pub rest-low : (t : ℕ) (n : Node) → rest t n < paper01 .timeout
+unfolding rest
+rest-low t n = go (forced n)
+  where
+    go : (f : Bool) → cond f (t % paper01 .timeout) 0 < paper01 .timeout
+    go true = mod-lt t (omega arith)
+    go false = omega arith
+
 -- a timeout leaves a sound node
-pub timeout-sound : {n : Node} → Sound paper01 n → Sound paper01 (withTimer 0 (drain paper01 (n .queue) n))
-unfolding withQueue
-timeout-sound {n} s = sound-timer (drain-sound (n .queue) n s) 0 (omega arith)
+pub late-sound : {n : Node} → Ticking n → (t : ℕ) → Sound paper01 (late t n .node)
+late-sound {n} k t = sound-timer (revoke-sound (drained-ticking k)) (rest t n) (rest-low t n)

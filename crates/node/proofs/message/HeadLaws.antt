@@ -15,7 +15,7 @@ use Rattle.rules.specs.Build.{paper01, pageCount, wordLimit}
 use Rattle.rules.specs.Lists.{isEmpty}
 use Rattle.rules.specs.Memory.{bufferAt, groupAddress, listOffset, nodeAt, placeAt, usedOffset, word, placeWords, size}
 use Rattle.rules.specs.MemoryTest.{Part, bufferPart, emptyPart, headPart, headWords, isMemory, queuePart, runnerPart}
-use Rattle.rules.specs.Node.{Message, Node, buffered, groupOf, line, placeOf}
+use Rattle.rules.specs.Node.{Message, Node, bufferHolds, groupOf, line, placeOf}
 use Rattle.rules.specs.Step.{firstLength, firstWord}
 use Rattle.rules.specs.Valid.{Valid}
 use Rattle.rules.proofs.Map.MapHead.{first-bounded, good-buffer, place-within, waits-there, firstWords, head-part}
@@ -63,12 +63,12 @@ module _ (m : List ℕ) (n : Node) (low : 1 ≤ n .running) where
   empty-part e = rw (runs, e)
 
   -- its first message is in the buffer
-  frame-part : isEmpty (line n (n .running)) ≡ false → buffered n (n .running) ≡ true → runnerPart m n ≡ bufferPart m (n .running)
+  frame-part : isEmpty (line n (n .running)) ≡ false → bufferHolds n (n .running) ≡ true → runnerPart m n ≡ bufferPart m (n .running)
   unfolding runnerPart
   frame-part e b = rw (runs, e, b)
 
   -- or at the head of the queue
-  queue-part : isEmpty (line n (n .running)) ≡ false → buffered n (n .running) ≡ false → runnerPart m n ≡ queuePart m
+  queue-part : isEmpty (line n (n .running)) ≡ false → bufferHolds n (n .running) ≡ false → runnerPart m n ≡ queuePart m
   unfolding runnerPart
   queue-part e b = rw (runs, e, b)
 
@@ -119,14 +119,14 @@ module _ {m : List ℕ} {n : Node} {r : List ℕ} (h : Holds m n r) (v : Valid p
 
       -- and the part is there
       pub buffered-part : runnerPart m n ≡ bufferPart m (n .running)
-      unfolding buffered
+      unfolding bufferHolds
       buffered-part = frame-part m n low frame-line (lt-ltb 0 (groupOf n (n .running) .buffer .count) some)
 
     -- A direct one.
 
     module _ (none : groupOf n (n .running) .buffer .count ≡ 0) where
-      direct : buffered n (n .running) ≡ false
-      unfolding buffered
+      direct : bufferHolds n (n .running) ≡ false
+      unfolding bufferHolds
       direct = le-ltb 0 (groupOf n (n .running) .buffer .count) (omega arith)
 
       -- with an empty queue it has no message

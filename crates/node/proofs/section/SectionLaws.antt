@@ -1,4 +1,4 @@
--- B, N and D: when they are refused, and what they do to a node; and the running group as it is read from memory. Assumes nothing.
+-- B, N and D: when they are refused, and what they do to a node. Assumes nothing.
 use Prim.Native.Nat.{_≤_, ℕ}
 use native.Mathlib.Omega.{arith}
 use mathlib.Core.Bool.{Bool, false, true, true≢false}
@@ -10,25 +10,24 @@ use borrow.Author.Tests.{ltb-true}
 use Rattle.rules.specs.Build.{paper01}
 use Rattle.rules.specs.Frames.{ceilDiv}
 use Rattle.rules.specs.Lists.{isEmpty}
-use Rattle.rules.specs.Memory.{flagWord, groupAddress, queuedAt, runningAt, size, timerAt, word}
-use Rattle.rules.specs.Node.{line, Message, Node, buffered, groupOf}
+use Rattle.rules.specs.Memory.{queuedAt, runningAt, size, timerAt, word}
+use Rattle.rules.specs.Node.{line, Message, Node, bufferHolds, groupOf}
 use Rattle.rules.specs.Operation.{dispose, endAtomic, accepted, dispose, endAtomic, noMessage, stillPending}
 use Rattle.rules.specs.Refusal.{refuseDispose, refuseEnd, refuseRequest}
 use Rattle.rules.specs.Step.{disposed, flagged, removed}
 use Rattle.rules.specs.Valid.{Valid}
 use Rattle.rules.proofs.Steps.FrameLaws.{held}
 use Rattle.rules.proofs.Steps.LineLaws.{direct-head, removed-running, without-running}
-use Rattle.rules.proofs.Map.MapParts.{GroupStands}
 use Rattle.rules.proofs.Steps.NodeLaws.{group-good}
 use Rattle.rules.proofs.Steps.PagingLaws.{first-entered}
 use Rattle.rules.proofs.Steps.SoundLaws.{line-lengths, valid-sound}
 use Rattle.memory.specs.Holds.{Holds, Queued, Waits, dropping, flagging, removing}
-use Rattle.memory.specs.Writes.{InGroup, groupRead}
-use Rattle.memory.proofs.group.GroupLaws.{group-words}
+use Rattle.memory.specs.Writes.{groupRead}
 use Rattle.memory.proofs.PieceLaws.{holds-pieces}
 use Rattle.memory.proofs.PieceWrites.{timer-held}
 use Rattle.memory.proofs.WriteLaws.{wrote-set}
 use Rattle.node.specs.Steps.{Running, Settles}
+use Rattle.node.proofs.RunnerLaws.{runner-count}
 use Rattle.node.proofs.settling.CallLaws.{line-buffered, line-none, line-queued}
 
 -- a valid node has settled
@@ -36,42 +35,20 @@ pub valid-settles : {n : Node} → Valid paper01 n → Settles n
 valid-settles v = record { sound = valid-sound v; head = v .head-stays }
 
 module _ {m : List ℕ} {n : Node} {r : List ℕ} (h : Holds m n r) (run : Running n) where
-  runner : word m runningAt ≡ n .running
-  runner = holds-pieces h .running
+  count-read : groupRead m (word m runningAt) .count ≡ groupOf n (n .running) .buffer .count
+  count-read = runner-count h (run .some) (run .valid .running-bound)
 
-  -- its record lies within memory of the same length
-  pub runner-in : (m′ : List ℕ) → length m′ ≡ length m → InGroup m′ (word m runningAt) 3
-  runner-in m′ l = record { long = omega (arith, holds-pieces h .long); low = rw runner (run .some); high = rw runner (run .valid .running-bound); inside = omega arith }
-
-  -- its flags and counts are read
-  runner-words : GroupStands m (groupAddress (word m runningAt)) (groupOf n (n .running))
-  runner-words = subst (λ (g : ℕ). GroupStands m (groupAddress (word m runningAt)) (groupOf n g)) runner (group-words (holds-pieces h) (h .mapped) (word m runningAt) (rw runner (run .some)) (rw runner (run .valid .running-bound)))
-
-  pub runner-atomic : groupRead m (word m runningAt) .atomic ≡ flagWord (groupOf n (n .running) .atomic)
-  runner-atomic = runner-words .atomic
-
-  pub runner-pending : groupRead m (word m runningAt) .pending ≡ flagWord (groupOf n (n .running) .pending)
-  runner-pending = runner-words .pending
-
-  pub runner-count : groupRead m (word m runningAt) .count ≡ groupOf n (n .running) .buffer .count
-  runner-count = runner-words .count
-
-  -- its line is empty exactly where it is direct and the queue is empty
+  -- its line is empty exactly where its buffer holds nothing and the queue is empty
   pub runner-none : groupRead m (word m runningAt) .count ≡ 0 → word m queuedAt ≡ 0 → isEmpty (line n (n .running)) ≡ true
-  runner-none none empty = line-none n (n .running) (sym runner-count ∙ none) (sym (holds-pieces h .queued) ∙ empty)
+  runner-none none empty = line-none n (n .running) (sym count-read ∙ none) (sym (holds-pieces h .queued) ∙ empty)
 
   pub runner-buffered : groupRead m (word m runningAt) .count ≢ 0 → isEmpty (line n (n .running)) ≡ false
   runner-buffered some =
-      line-buffered (valid-sound (run .valid)) (n .running) (run .some) (run .valid .running-bound) (let c = runner-count in omega arith)
+      line-buffered (valid-sound (run .valid)) (n .running) (run .some) (run .valid .running-bound) (let c = count-read in omega arith)
 
   pub runner-queued : groupRead m (word m runningAt) .count ≡ 0 → word m queuedAt ≢ 0 → isEmpty (line n (n .running)) ≡ false
   runner-queued none some =
-      line-queued (valid-settles (run .valid)) (sym runner-count ∙ none) (let c = holds-pieces h .queued in omega arith)
-
-  -- its flags set
-  pub runner-flagged : {m′ : List ℕ} (a p : Bool) → Holds m′ (flagging (word m runningAt) a p n) r → Holds m′ (flagged a p n) r
-  unfolding flagging flagged
-  runner-flagged {m′} a p k = subst (λ (g : ℕ). Holds m′ (flagging g a p n) r) runner k
+      line-queued (valid-settles (run .valid)) (sym count-read ∙ none) (let c = holds-pieces h .queued in omega arith)
 
 -- N.
 
@@ -102,18 +79,18 @@ line-present n some = go (line n (n .running)) some
     go (x ∷ ms) e = refl
 
 -- from the buffer
-pub removed-buffered : (n : Node) → buffered n (n .running) ≡ true → removed paper01 n ≡ removing (n .running) n
+pub removed-buffered : (n : Node) → bufferHolds n (n .running) ≡ true → removed paper01 n ≡ removing (n .running) n
 unfolding removed removing
 removed-buffered n e = rw e
 
 -- from the head of the queue
-pub removed-direct : {n : Node} → Valid paper01 n → buffered n (n .running) ≡ false → removed paper01 n ≡ dropping 1 n
+pub removed-direct : {n : Node} → Valid paper01 n → bufferHolds n (n .running) ≡ false → removed paper01 n ≡ dropping 1 n
 unfolding removed dropping
 removed-direct v e = rw (e, without-running v)
 
--- a buffered group has a message to remove, and its first page is in a frame
-pub buffered-waits : {n : Node} → Running n → buffered n (n .running) ≡ true → Waits (n .running) n
-unfolding buffered ceilDiv
+-- a group whose buffer holds a message has one to remove, and its first page is in a frame
+pub buffered-waits : {n : Node} → Running n → bufferHolds n (n .running) ≡ true → Waits (n .running) n
+unfolding bufferHolds ceilDiv
 buffered-waits {n} run e =
     let good = group-good (valid-sound (run .valid)) (n .running) (run .some) (run .valid .running-bound) .buffer in
     let some = ltb-true 0 (groupOf n (n .running) .buffer .count) e in
@@ -126,8 +103,8 @@ buffered-waits {n} run e =
       order = omega (arith, line-lengths (valid-sound (run .valid)));
     }
 
--- and a direct one with a line the queue's head
-pub direct-queued : {n : Node} → Valid paper01 n → buffered n (n .running) ≡ false → isEmpty (line n (n .running)) ≡ false → Queued 1 n
+-- and one whose buffer holds none, with a line, the queue's head
+pub direct-queued : {n : Node} → Valid paper01 n → bufferHolds n (n .running) ≡ false → isEmpty (line n (n .running)) ≡ false → Queued 1 n
 direct-queued v direct some = let t = direct-head v direct some in rw (t .2) (omega arith)
 
 -- pending off, timer 0

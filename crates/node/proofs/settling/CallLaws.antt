@@ -11,7 +11,7 @@ use borrow.Author.Tests.{eq-eqb, ne-eqb}
 use Rattle.rules.specs.Build.{groupCount, paper01}
 use Rattle.rules.specs.Lists.{isEmpty}
 use Rattle.rules.specs.Memory.{atomicOffset, countOffset, flagWord, groupAddress, queuedAt, word}
-use Rattle.rules.specs.Node.{line, Group, Message, Node, buffered, groupOf, inBuffer, inQueue, isOf, messageOf, waiting}
+use Rattle.rules.specs.Node.{line, Group, Message, Node, bufferHolds, groupOf, inBuffer, inQueue, isOf, messageOf, waiting}
 use Rattle.rules.specs.Paging.{runnerResident}
 use Rattle.rules.specs.Settling.{settle, upcall, calls, upcallGroup}
 use Rattle.rules.proofs.Steps.FrameLaws.{fits}
@@ -41,7 +41,7 @@ line-buffered {n} s g low high some =
 
 -- a settled queue that is not empty is the running group's
 pub line-queued : {n : Node} → Settles n → groupOf n (n .running) .buffer .count ≡ 0 → 1 ≤ length (n .queue) → isEmpty (line n (n .running)) ≡ false
-unfolding inQueue buffered
+unfolding inQueue bufferHolds
 line-queued {n} s none some = go (n .queue) refl
   where
     go : (q : List Message) → n .queue ≡ q → isEmpty (line n (n .running)) ≡ false
@@ -52,7 +52,7 @@ line-queued {n} s none some = go (n .queue) refl
 
 -- and a group without either has none
 pub line-none : (n : Node) (g : ℕ) → groupOf n g .buffer .count ≡ 0 → length (n .queue) ≡ 0 → isEmpty (line n g) ≡ true
-unfolding inQueue buffered
+unfolding inQueue bufferHolds
 line-none n g none empty = go (n .queue) refl
   where
     go : (q : List Message) → n .queue ≡ q → isEmpty (line n g) ≡ true

@@ -8,7 +8,7 @@ use lib.ListN.{drop, getD, length, length-drop}
 use Rattle.rules.specs.Build.{Build, paper01}
 use Rattle.rules.specs.Frames.{put, withRoom, withStock}
 use Rattle.rules.specs.Lists.{filter}
-use Rattle.rules.specs.Node.{Message, Node, buffered, groupOf, inQueue, isOf, withEntered, withFree, withGroup, withPaging, withQueue}
+use Rattle.rules.specs.Node.{Message, Node, bufferHolds, buffered, groupOf, inQueue, isOf, withEntered, withFree, withGroup, withPaging, withQueue}
 use Rattle.rules.specs.Paging.{store}
 use Rattle.rules.specs.Settling.{drain, mayStay, oneMore, pass}
 use Rattle.rules.specs.Sound.{Sound}
@@ -32,7 +32,7 @@ unfolding store put withStock withGroup withFree withPaging
 store-kept b m n = prepared-repaged b (m .group) n .queue
 
 pub pass-requeue : (b : Build) (q p : List Message) (n : Node) → pass b q (withQueue p n) ≡ pass b q n
-unfolding pass withQueue mayStay buffered groupOf
+unfolding pass withQueue mayStay buffered bufferHolds groupOf
 pass-requeue b [] p n = refl
 pass-requeue b (m ∷ q) p n =
     go (mayStay n m) refl (ap (pass b q) (store-queue b m p n) ∙ pass-requeue b q p (store b m n))

@@ -116,6 +116,17 @@ timer-timed {b} {n} v ticks = runs-cases (Timed n) n ticks (λ some. queued′ (
         let nonzero : r ≢ 0 = eqb-false r 0 (not-true (eqb r 0) (tests .0)) in
         record { runs = omega arith; atomic = and-eq-true-iff (groupOf n r .force) (groupOf n r .atomic) .0 (tests .1) .1 }
 
+-- where it does not run, it is 0
+pub timer-rests : {b : Build} {n : Node} → Valid b n → timerRuns n ≡ false → n .timer ≡ 0
+unfolding timerRuns
+timer-rests {b} {n} v rests =
+    let t = neither (not (isEmpty (n .queue))) (forced n) rests in
+    v .timer-idle (none (n .queue) (t .0)) (t .1)
+  where
+    none : (q : List Message) → not (isEmpty q) ≡ false → q ≡ []
+    none [] e = refl
+    none (m ∷ q) e = absurd (true≢false e)
+
 -- a disposal takes from the buffer where that holds a message, else from the queue
 pub removed-cases : (P : Node → Type 0) (b : Build) (n : Node)
     → (bufferHolds n (n .running) ≡ true → P (withStock (n .running) (removeFirst b (n .free) (n .paging .entered) (groupOf n (n .running) .buffer)) n))

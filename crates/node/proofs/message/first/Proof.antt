@@ -7,7 +7,7 @@ use mathlib.Core.Path.{_∙_, _≡_, ap, sym}
 use lib.ListN.{getD, length}
 use borrow.Author.Needs.{needs}
 use Rattle.rules.specs.Build.{paper01, pageCount}
-use Rattle.rules.specs.Memory.{countOffset, frameAddress, groupAddress, groupStride, size, word}
+use Rattle.rules.specs.Memory.{countOffset, frameAddress, groupAddress, groupStride, listOffset, size, usedOffset, word}
 use Rattle.rules.specs.MemoryTest.{bufferPart, firstPlace, queuePart}
 use Rattle.rules.specs.Node.{Node, groupOf}
 use Rattle.rules.specs.Valid.{Valid}
@@ -64,13 +64,13 @@ returns : tie.Need-returns
 returns c n r h v = sym (ap partOf (nobody-part _ n (sym (runner h) ∙ c .if1 .taken)))
 
 group-word-requires : tie.Need-group-word-requires
-group-word-requires c κs = in-group c 3 (omega arith)
+group-word-requires c κs = in-group c countOffset (omega arith)
 
 group-word-requires-2 : tie.Need-group-word-requires-2
-group-word-requires-2 c κs = in-group (c .before .before) 14 (omega arith)
+group-word-requires-2 c κs = in-group (c .before .before) listOffset (omega arith)
 
 group-word-requires-3 : tie.Need-group-word-requires-3
-group-word-requires-3 c κs = in-group (c .before .before .before) 2 (omega arith)
+group-word-requires-3 c κs = in-group (c .before .before .before) usedOffset (omega arith)
 
 place-at-requires : tie.Need-place-at-requires
 place-at-requires c κs = first-there c

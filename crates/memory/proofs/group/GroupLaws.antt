@@ -134,7 +134,7 @@ mapped-group {n} v g low high G fs whole free-good few even =
 -- Flags and counts.
 
 -- a flag is on where its word is above 0
-flag-above : (f : Bool) → f ≡ ltb 0 (flagWord f)
+pub flag-above : (f : Bool) → f ≡ ltb 0 (flagWord f)
 unfolding flagWord
 flag-above true = refl
 flag-above false = refl

@@ -1,3 +1,4 @@
+pub mod RunnerLaws
 pub mod QuietLaws
 pub mod StepMap
 pub mod ServedLaws

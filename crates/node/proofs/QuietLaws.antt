@@ -85,7 +85,7 @@ undue true a a′ e more none = refl
 undue false a true e more none = refl
 undue false a false true more none = refl
 undue false false false false more none = none
-undue false true false false more none = more refl
+undue false true false false more none = absurd (false≢true (more refl))
 
 -- a timer that a group has forced stays so where force and atomic stay on
 forced-still : (nobody force atomic force′ atomic′ : Bool) → (force ≡ true → force′ ≡ true) → (atomic ≡ true → atomic′ ≡ true)

@@ -2,5 +2,6 @@
 pub mod MoveLaws
 pub mod PassLaws
 pub mod StayLaws
+pub mod TimerLaws
 pub mod CallLaws
 pub mod FinishLaws

@@ -56,7 +56,7 @@ pub record CallHolds (m : List ℕ) (c : Call) (m′ : List ℕ) : Type 0 where
   pub refused-unchanged : c .report .answer ≢ 0 → (c .report ≡ reportOf (onlyNumber (c .report .answer))) × (m′ ≡ m)
   -- "Memory past the node's size is never touched."
   pub length-kept : length m′ ≡ length m
-  pub rest-kept : drop 8088 m′ ≡ drop 8088 m
+  pub rest-kept : drop 8104 m′ ≡ drop 8104 m
   -- a node stays a node
   pub stays-node : isMemory m ≡ true → isMemory m′ ≡ true
 

@@ -45,26 +45,26 @@ enum-told-2 c = search needs
 dispose-requires : tie.Need-dispose-requires
 dispose-requires c κs = running (c .before .before .before)
 
-enum-told-3 : tie.Need-enum-told-3
-enum-told-3 c = search needs
+enum-known-op-2 : tie.Need-enum-known-op-2
+enum-known-op-2 c = search needs
 
 begin-requires : tie.Need-begin-requires
-begin-requires c κs = running (c .before .before .before)
+begin-requires c κs = running (c .before .before .before .before)
 
-enum-told-4 : tie.Need-enum-told-4
-enum-told-4 c = search needs
+enum-told-3 : tie.Need-enum-told-3
+enum-told-3 c = search needs
 
 end-requires : tie.Need-end-requires
 end-requires c κs = running (c .before .before .before)
 
-enum-known-op-2 : tie.Need-enum-known-op-2
-enum-known-op-2 c = search needs
+enum-known-op-3 : tie.Need-enum-known-op-3
+enum-known-op-3 c = search needs
 
 describe-requires : tie.Need-describe-requires
 describe-requires c κs = running (c .before .before .before .before)
 
-enum-known-op-3 : tie.Need-enum-known-op-3
-enum-known-op-3 c = search needs
+enum-known-op-4 : tie.Need-enum-known-op-4
+enum-known-op-4 c = search needs
 
 launch-requires : tie.Need-launch-requires
 launch-requires c κs = running (c .before .before .before .before)
@@ -98,28 +98,28 @@ same-length-4 c = search needs
 
 returns-5 : tie.Need-returns-5
 unfolding word operationOf
-returns-5 c q e n r h v = stepping-named (sym (ap (λ (o : Operation·rt). operationOf o []) (c .before .before .before .before .enum-told3 .given .1)) ∙ e) (c .before .before .begin .ensures n r h (somebody-runs h (c .before .before .before .before .before .before .if1 .left) v))
+returns-5 c q e n r h v = stepping-named (sym (ap (λ (o : Operation·rt). operationOf o []) (c .before .before .before .before .before .op2 .given .1)) ∙ e) (c .before .before .begin .ensures n r h (somebody-runs h (c .before .before .before .before .before .before .before .if1 .left) v))
 
 same-length-5 : tie.Need-same-length-5
 same-length-5 c = search needs
 
 returns-6 : tie.Need-returns-6
 unfolding word operationOf
-returns-6 c q e n r h v = stepping-named (sym (ap (λ (o : Operation·rt). operationOf o []) (c .before .before .before .before .enum-told4 .given .1)) ∙ e) (c .before .before .end .ensures n r h (somebody-runs h (c .before .before .before .before .before .before .if1 .left) v))
+returns-6 c q e n r h v = stepping-named (sym (ap (λ (o : Operation·rt). operationOf o []) (c .before .before .before .before .enum-told3 .given .1)) ∙ e) (c .before .before .end .ensures n r h (somebody-runs h (c .before .before .before .before .before .before .if1 .left) v))
 
 same-length-6 : tie.Need-same-length-6
 same-length-6 c = search needs
 
 returns-7 : tie.Need-returns-7
 unfolding word operationOf
-returns-7 c q e n r h v = stepping-named (sym (ap (λ (o : Operation·rt). operationOf o []) (c .before .before .before .before .before .op2 .given .1)) ∙ e) (c .before .before .describe .ensures n r h (somebody-runs h (c .before .before .before .before .before .before .before .if1 .left) v))
+returns-7 c q e n r h v = stepping-named (sym (ap (λ (o : Operation·rt). operationOf o []) (c .before .before .before .before .before .op3 .given .1)) ∙ e) (c .before .before .describe .ensures n r h (somebody-runs h (c .before .before .before .before .before .before .before .if1 .left) v))
 
 same-length-7 : tie.Need-same-length-7
 same-length-7 c = search needs
 
 returns-8 : tie.Need-returns-8
 unfolding word operationOf
-returns-8 c q e n r h v = stepping-named (sym (ap (λ (o : Operation·rt). operationOf o []) (c .before .before .before .before .before .op3 .given .1)) ∙ e) (c .before .before .launch .ensures n r h (somebody-runs h (c .before .before .before .before .before .before .before .if1 .left) v))
+returns-8 c q e n r h v = stepping-named (sym (ap (λ (o : Operation·rt). operationOf o []) (c .before .before .before .before .before .op4 .given .1)) ∙ e) (c .before .before .launch .ensures n r h (somebody-runs h (c .before .before .before .before .before .before .before .if1 .left) v))
 
 returns-9 : tie.Need-returns-9
 returns-9 c q e n r h v = absurd (not-request (c .before .before .before .before .before .args .op) (c .before .match .keys8) q e)
@@ -137,13 +137,13 @@ request-spec =
     peek-requires
     enum-told-2
     dispose-requires
-    enum-told-3
-    begin-requires
-    enum-told-4
-    end-requires
     enum-known-op-2
-    describe-requires
+    begin-requires
+    enum-told-3
+    end-requires
     enum-known-op-3
+    describe-requires
+    enum-known-op-4
     launch-requires
     refused-requires-2
     same-length

@@ -12,7 +12,7 @@ use Rattle.rules.specs.Memory.{queuedAt, word, queueAt, wordsAt}
 use Rattle.rules.specs.Node.{Node, Message}
 use Rattle.rules.specs.Settling.{settle, Moved, pass, drain, mayStay, oneMore, restTimer}
 use Rattle.rules.specs.Sound.{Sound}
-use Rattle.memory.specs.Holds.{Holds, Any, Becomes, Kept}
+use Rattle.memory.specs.Holds.{Holds, Becomes, Kept}
 use Rattle.memory.proofs.PieceLaws.{holds-pieces}
 use Rattle.memory.proofs.queue.QueueLaws.{message-read}
 use Rattle.node.specs.Steps.{Headed, Settled, headOf, movingHead}
@@ -45,6 +45,7 @@ passing-start {n = n} h s =
 pub record Passed (m : List ℕ) (n : Node) (r : List ℕ) (i : ℕ) : Type 0 where
   pub node : Node
   pub holds : Holds m node r
+  pub sound : Sound paper01 node
   pub passed : pass paper01 (n .queue) n ≡ record { node = node; moved = i }
 
 module _ {m : List ℕ} {n : Node} {r : List ℕ} {i : ℕ} (p : Passing m n r i) where
@@ -58,6 +59,7 @@ module _ {m : List ℕ} {n : Node} {r : List ℕ} {i : ℕ} (p : Passing m n r i
       record {
         node = p .node;
         holds = p .holds;
+        sound = p .sound;
         passed = p .passed ∙ ap (more i) (pass-ends (p .node) (sym passing-count ∙ none)) ∙ (λ j. record { node = p .node; moved = add-zero i j });
       }
 
@@ -103,16 +105,17 @@ module _ {m : List ℕ} {n : Node} {r : List ℕ} {i : ℕ} (p : Passing m n r i
         record {
           node = k;
           holds = p .holds;
+          sound = p .sound;
           passed = p .passed ∙ ap (more i) (pass-stays passing-headed (stays k r (p .holds) (headOf k) (sym (passing-read .0)))) ∙ (λ j. record { node = k; moved = add-zero i j });
         }
 
 -- the timer put to rest, it is settled
-pub passed-settled : {m m′ : List ℕ} {n : Node} {r : List ℕ} {i : ℕ} → Passed m n r i → Becomes m m′ Any restTimer → Settled m′ n r i
+pub passed-settled : {m m′ : List ℕ} {n : Node} {r : List ℕ} {i : ℕ} → Passed m n r i → Becomes m m′ (Sound paper01) restTimer → Settled m′ n r i
 unfolding settle
 passed-settled {m′ = m′} {r = r} p rest =
     record {
       count = sym (ap (λ (s : Moved). s .moved) (p .passed));
-      holds = subst (λ (k : Node). Holds m′ (restTimer k) r) (sym (ap (λ (s : Moved). s .node) (p .passed))) (rest (p .node) r (p .holds) tt);
+      holds = subst (λ (k : Node). Holds m′ (restTimer k) r) (sym (ap (λ (s : Moved). s .node) (p .passed))) (rest (p .node) r (p .holds) (p .sound));
     }
 
 -- the memory holds the node at which the drain of n goes on

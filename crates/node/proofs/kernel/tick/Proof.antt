@@ -1,23 +1,23 @@
--- `node::kernel::tick` meets its contract: the ticks in closed form: idle, counted, or one timeout. Assumes nothing.
+-- `node::kernel::tick` meets its contract: the ticks in closed form: idle, counted, or a timeout with what is left over. Assumes nothing.
 use Prim.Native.Nat.{_+_, _<_, _≤_, ℕ}
 use native.Mathlib.Omega.{arith}
-use mathlib.Core.List.{List, [], _∷_}
-use mathlib.Core.Logic.{_≢_}
-use mathlib.Core.Path.{_∙_, _≡_, ap, sym}
+use mathlib.Core.List.{[], _∷_}
+use mathlib.Core.Path.{_∙_, _≡_, ap, subst}
 use lib.ListN.{length}
 use borrow.Author.Needs.{needs}
+use borrow.Author.Tests.{not-false, not-true}
 use Rattle.rules.specs.Build.{paper01}
-use Rattle.rules.specs.Memory.{queuedAt, size, timerAt, word}
-use Rattle.rules.specs.Node.{Node, withTimer}
+use Rattle.rules.specs.Memory.{size, timerAt, word}
+use Rattle.rules.specs.Node.{withTimer}
 use Rattle.rules.specs.Operation.{tick}
 use Rattle.rules.specs.Step.{valued}
 use Rattle.rules.proofs.Steps.SoundLaws.{valid-sound}
 use Rattle.node.proofs.QuietLaws.{valid-quiet}
-use Rattle.memory.specs.Holds.{Holds}
 use Rattle.memory.proofs.PieceLaws.{holds-pieces}
 use Rattle.memory.proofs.PieceWrites.{timer-held}
 use Rattle.memory.proofs.WriteLaws.{wrote-as, wrote-set}
-use Rattle.node.proofs.kernel.KernelLaws.{counted-quiet, tick-accepted, tick-counted, tick-idle, tick-many, tick-none, tick-timeout}
+use Rattle.node.specs.Steps.{Finished, late}
+use Rattle.node.proofs.kernel.KernelLaws.{counted-quiet, tick-accepted, tick-counted, tick-idle, tick-many, tick-none, tick-timeout, valid-ticking}
 use Rattle.node.proofs.StepMap.{stepping-finished, stepping-quiet, stepping-refused}
 use Rattle.node.proofs.kernel.tick.Statement.{statement}
 use Rattle.node.proofs.kernel.tick.Tie as tie
@@ -28,10 +28,6 @@ long c = holds-pieces (c .pre .holds) .long
 -- the timer is below the timeout
 timer-low : (c : tie.Start) → word (c .args .m .now) timerAt < paper01 .timeout
 timer-low c = rw (holds-pieces (c .pre .holds) .timer) (c .pre .fact .timer-bound)
-
--- messages are queued where the count says so
-some : {m : List ℕ} {n : Node} {r : List ℕ} → Holds m n r → word m queuedAt ≢ 0 → 1 ≤ length (n .queue)
-some h d = let e = holds-pieces h .queued in omega arith
 
 refused-requires : tie.Need-refused-requires
 refused-requires c κs = search needs
@@ -45,58 +41,70 @@ refused-requires-2 c κs = search needs
 returns-2 : tie.Need-returns-2
 returns-2 c n r h v = let k = c .before .before .before .before .args .k in stepping-refused (tick k) 14 (tick-many n k (c .before .before .if1 .left) (c .before .if2 .taken)) h (c .refused2 .ensures)
 
-slice-read-if3 : tie.Need-slice-read-if3
-slice-read-if3 c = let l = long (c .before .before .before .before) in omega arith
+timer-runs-requires : tie.Need-timer-runs-requires
+timer-runs-requires c κs = let p = c .before .before .before .before .pre in record { node = p .node; rest = p .rest; holds = p .holds; fact = valid-sound (p .fact) }
 
 accepted-requires : tie.Need-accepted-requires
 accepted-requires c κs = search needs
 
+same-length : tie.Need-same-length
+same-length c = search needs
+
 returns-3 : tie.Need-returns-3
-unfolding word valued
-returns-3 c n r h v = let k = c .before .before .before .before .before .before .args .k in stepping-quiet (tick k) (valued 0 n) (tick-accepted n k (c .before .before .before .before .if1 .left) (c .before .before .before .if2 .left)) (tick-idle v k (sym (holds-pieces h .queued) ∙ c .before .if3 .taken)) (valid-quiet v) h (c .accepted .ensures)
+unfolding valued
+returns-3 c n r h v =
+    let k = c .before .before .before .before .before .before .before .args .k in
+    let rests = c .before .before .timer-runs .ensures n r h (valid-sound v) ∙ not-true _ (c .before .if3 .taken) in
+    stepping-quiet (tick k) (valued 0 n) (tick-accepted n k (c .before .before .before .before .before .if1 .left) (c .before .before .before .before .if2 .left)) (tick-idle v k rests) (valid-quiet v) h (c .accepted .ensures)
 
 slice-read-t : tie.Need-slice-read-t
-slice-read-t c = let l = long (c .before .before .before .before .before .before) in omega arith
+slice-read-t c = let l = long (c .before .before .before .before .before .before .before) in omega arith
 
 add-t : tie.Need-add-t
 unfolding word
-add-t c = let l = timer-low (c .before .before .before .before .before .before) in let k = c .before .before .before .if2 .left in omega arith
+add-t c = let l = timer-low (c .before .before .before .before .before .before .before) in let k = c .before .before .before .before .if2 .left in omega arith
 
 slice-write-m : tie.Need-slice-write-m
-slice-write-m c = let l = long (c .before .before .before .before .before .before .before) in omega arith
+slice-write-m c = let l = long (c .before .before .before .before .before .before .before .before) in omega arith
 
 accepted-requires-2 : tie.Need-accepted-requires-2
 accepted-requires-2 c κs = search needs
 
-same-length : tie.Need-same-length
-same-length c = search needs
+same-length-2 : tie.Need-same-length-2
+same-length-2 c = search needs
 
 returns-4 : tie.Need-returns-4
 unfolding word valued
 returns-4 c n r h v =
-    let k = c .before .before .before .before .before .before .before .before .args .k in
-    let m = c .before .before .before .before .before .before .before .before .args .m .now in
+    let k = c .before .before .before .before .before .before .before .before .before .args .k in
+    let m = c .before .before .before .before .before .before .before .before .before .args .m .now in
     let t = holds-pieces h .timer in
     let l = holds-pieces h .long in
-    let q = some h (c .before .before .before .if3 .left) in
+    let runs = c .before .before .before .before .timer-runs .ensures n r h (valid-sound v) ∙ not-false _ (c .before .before .before .if3 .left) in
     let e : word m timerAt + k ≡ n .timer + k = ap (λ (x : ℕ). x + k) t in
-    stepping-quiet (tick k) (valued 0 (withTimer (n .timer + k) n)) (tick-accepted n k (c .before .before .before .before .before .before .if1 .left) (c .before .before .before .before .before .if2 .left))
-    (tick-counted v k q (omega (arith, c .before .if4 .taken))) (counted-quiet v q (n .timer + k))
+    stepping-quiet (tick k) (valued 0 (withTimer (n .timer + k) n)) (tick-accepted n k (c .before .before .before .before .before .before .before .if1 .left) (c .before .before .before .before .before .before .if2 .left))
+    (tick-counted v k runs (omega (arith, c .before .if4 .taken))) (counted-quiet v runs (n .timer + k))
     (timer-held h (n .timer + k) (wrote-as (wrote-set m timerAt (word m timerAt + k) (omega arith)) (ap (λ (x : ℕ). x ∷ []) e))) (c .accepted2 .ensures)
 
 timeout-requires : tie.Need-timeout-requires
-timeout-requires c κs = let p = c .before .before .before .before .before .before .before .before .pre in record { node = p .node; rest = p .rest; holds = p .holds; fact = valid-sound (p .fact) }
+timeout-requires c κs =
+    let p = c .before .before .before .before .before .before .before .before .before .pre in
+    let runs = c .before .before .before .before .timer-runs .ensures (p .node) (p .rest) (p .holds) (valid-sound (p .fact)) ∙ not-false _ (c .before .before .before .if3 .left) in
+    record { node = p .node; rest = p .rest; holds = p .holds; fact = valid-ticking (p .fact) runs }
 
-same-length-2 : tie.Need-same-length-2
-same-length-2 c = search needs
+same-length-3 : tie.Need-same-length-3
+same-length-3 c = search needs
 
 returns-5 : tie.Need-returns-5
 unfolding word
 returns-5 c n r h v =
-    let k = c .before .before .before .before .before .before .before .before .before .before .before .args .k in
+    let k = c .before .before .before .before .before .before .before .before .before .before .before .before .args .k in
+    let m = c .before .before .before .before .before .before .before .before .before .before .before .before .args .m .now in
     let t = holds-pieces h .timer in
-    stepping-finished (tick k) _ (tick-accepted n k (c .before .before .before .before .before .before .before .before .before .if1 .left) (c .before .before .before .before .before .before .before .before .if2 .left))
-    (tick-timeout v k (some h (c .before .before .before .before .before .before .if3 .left)) (omega (arith, c .before .before .before .before .if4 .left))) (c .before .before .timeout .ensures n r h (valid-sound v))
+    let runs = c .before .before .before .before .before .before .before .timer-runs .ensures n r h (valid-sound v) ∙ not-false _ (c .before .before .before .before .before .before .if3 .left) in
+    let e : word m timerAt + k ≡ n .timer + k = ap (λ (x : ℕ). x + k) t in
+    stepping-finished (tick k) _ (tick-accepted n k (c .before .before .before .before .before .before .before .before .before .before .if1 .left) (c .before .before .before .before .before .before .before .before .before .if2 .left)) (tick-timeout v k runs (omega (arith, c .before .before .before .before .if4 .left)))
+    (subst (λ (x : ℕ). Finished (c .before .before .timeout .last .0) (late x n) r (c .before .before .timeout .result)) e (c .before .before .timeout .ensures n r h (valid-ticking v runs)))
 
 pub tick-spec : {M : Type 1} → statement M
 tick-spec =
@@ -106,15 +114,16 @@ tick-spec =
     returns
     refused-requires-2
     returns-2
-    slice-read-if3
+    timer-runs-requires
     accepted-requires
+    same-length
     returns-3
     slice-read-t
     add-t
     slice-write-m
     accepted-requires-2
-    same-length
+    same-length-2
     returns-4
     timeout-requires
-    same-length-2
+    same-length-3
     returns-5)

@@ -7,7 +7,7 @@ use mathlib.Core.Path.{sym, ap, _∙_}
 use borrow.Author.Needs.{needs}
 use Rattle.rules.specs.Build.{paper01}
 use Rattle.rules.specs.Frames.{ceilDiv}
-use Rattle.rules.specs.Memory.{groupStride}
+use Rattle.rules.specs.Memory.{countOffset, groupStride, usedOffset}
 use Rattle.rules.proofs.Steps.FrameLaws.{fits}
 use Rattle.rules.proofs.Steps.NodeLaws.{group-good}
 use Rattle.memory.specs.Writes.{InGroup}
@@ -40,10 +40,10 @@ small c =
     ⊎-elim (λ w. omega arith) (λ w. omega arith) (c .if1 .came)
 
 group-word-requires : tie.Need-group-word-requires
-group-word-requires c κs = in-group (c .before) 2 (omega arith)
+group-word-requires c κs = in-group (c .before) usedOffset (omega arith)
 
 group-word-requires-2 : tie.Need-group-word-requires-2
-group-word-requires-2 c κs = in-group (c .before .before) 3 (omega arith)
+group-word-requires-2 c κs = in-group (c .before .before) countOffset (omega arith)
 
 add-end : tie.Need-add-end
 add-end c = let f = facts (c .before .before .before) in omega (arith, c .group-word2 .ensures, c .before .group-word .ensures)

@@ -17,7 +17,8 @@ use Rattle.memory.specs.Holds.{Holds, flagging}
 use Rattle.memory.specs.declared.group.Group.{Group as Group·rt}
 use Rattle.memory.proofs.PieceLaws.{holds-pieces}
 use Rattle.node.specs.Steps.{Running, WithLine, effect}
-use Rattle.node.proofs.section.SectionLaws.{disposing, runner-atomic, runner-buffered, runner-in, runner-none, runner-queued, line-missing, line-present}
+use Rattle.node.proofs.RunnerLaws.{runner-atomic, runner-in}
+use Rattle.node.proofs.section.SectionLaws.{disposing, runner-buffered, runner-none, runner-queued, line-missing, line-present}
 use Rattle.node.proofs.ServedLaws.{request-finished, request-refused, request-sound}
 use Rattle.node.proofs.section.dispose.Statement.{statement}
 use Rattle.node.proofs.section.dispose.Tie as tie
@@ -39,7 +40,7 @@ unfolding word flagWord
 gone c n r h run =
     let t = c .before .before .before .before .remove .ensures n r h (with-line (c .before .before .before .before .before .before) n r h run) in
     let a = groupOf n (n .running) .atomic in
-    let e = ap (λ (x : Group·rt). x .atomic) (c .before .before .before .before .before .before .before .before .read .ensures) ∙ runner-atomic h run in
+    let e = ap (λ (x : Group·rt). x .atomic) (c .before .before .before .before .before .before .before .before .read .ensures) ∙ runner-atomic h (run .some) (run .valid .running-bound) in
     let k = c .set-flags .ensures a false e refl (removed paper01 n) r (t .holds) tt in
     let k′ = subst (λ (g : ℕ). Holds (c .set-flags .last .0) (flagging g a false (removed paper01 n)) r) (holds-pieces h .running) k in
     disposing n a refl k′ (holds-pieces k′ .long)
@@ -49,7 +50,7 @@ slice-read-g c = let p = c .before .before .pre in let l = holds-pieces (p .hold
 
 read-requires : tie.Need-read-requires
 unfolding word
-read-requires c κs = let p = c .before .before .before .pre in runner-in (p .holds) (p .fact) _ refl
+read-requires c κs = let p = c .before .before .before .pre in runner-in (p .holds) (p .fact .some) (p .fact .valid .running-bound) _ refl
 
 slice-read-if2 : tie.Need-slice-read-if2
 slice-read-if2 c = let p = c .before .before .before .before .before .before .before .pre in let l = holds-pieces (p .holds) .long in omega arith
@@ -70,7 +71,7 @@ remove-requires c κs = let p = c .before .before .before .before .before .befor
 
 set-flags-requires : tie.Need-set-flags-requires
 unfolding word
-set-flags-requires c κs = let p = c .before .before .before .before .before .before .before .before .before .before .before .pre in runner-in (p .holds) (p .fact) _ (c .before .before .before .remove .kept .0)
+set-flags-requires c κs = let p = c .before .before .before .before .before .before .before .before .before .before .before .pre in runner-in (p .holds) (p .fact .some) (p .fact .valid .running-bound) _ (c .before .before .before .remove .kept .0)
 
 slice-write-m : tie.Need-slice-write-m
 slice-write-m c = let p = c .before .before .before .before .before .before .before .before .before .before .before .before .before .before .pre in let l = holds-pieces (p .holds) .long in omega (arith, c .before .before .set-flags .kept .0, c .before .before .before .before .before .before .remove .kept .0)

@@ -4,18 +4,19 @@ use native.Mathlib.Omega.{arith}
 use mathlib.Core.Bool.{cond, false}
 use mathlib.Core.List.{List}
 use mathlib.Core.Logic.{⊎-elim}
-use mathlib.Core.Path.{_∙_, _≡_, ap, refl, sym}
+use mathlib.Core.Path.{_∙_, _≡_, ap, refl, subst, sym}
 use borrow.Author.Needs.{needs}
 use Rattle.rules.specs.Memory.{flagWord, word}
-use Rattle.rules.specs.Node.{Node, buffered, groupOf}
+use Rattle.rules.specs.Node.{Node, buffered, groupOf, withGroup}
 use Rattle.rules.specs.Operation.{atomicityExtend, endAtomic, noTrap}
-use Rattle.rules.specs.Step.{extending, flagged, serve}
-use Rattle.memory.specs.Holds.{Holds}
+use Rattle.rules.specs.Step.{ended, extending, flagged, serve, timerFlagged}
+use Rattle.memory.specs.Holds.{Holds, flagging}
 use Rattle.memory.specs.declared.group.Group.{Group as Group·rt}
 use Rattle.memory.proofs.PieceLaws.{holds-pieces}
 use Rattle.node.specs.Steps.{Running, effect}
 use Rattle.node.proofs.settling.CallLaws.{flag-off, flag-on}
-use Rattle.node.proofs.section.SectionLaws.{runner-flagged, runner-in, runner-pending, section-ends, section-pending}
+use Rattle.node.proofs.RunnerLaws.{runner-flagged, runner-in, runner-pending, runner-timer-flagged}
+use Rattle.node.proofs.section.SectionLaws.{section-ends, section-pending}
 use Rattle.node.proofs.ServedLaws.{request-finished, request-refused, request-sound}
 use Rattle.node.proofs.section.end.Statement.{statement}
 use Rattle.node.proofs.section.end.Tie as tie
@@ -27,21 +28,24 @@ trap-read c n r h run =
     let e = ap (buffered n) (sym (holds-pieces h .running)) ∙ c .before .buffered .ensures n r h in
     ⊎-elim (λ w. w .1 ∙ rw (e, w .0 .taken)) (λ w. w .1 ∙ rw (e, w .0 .left)) (c .if2 .came)
 
--- pending is off, and atomic goes off
-ended : (c : tie.After-set-flags) (n : Node) (r : List ℕ) → Holds (c .before .before .before .before .before .before .before .before .before .before .before .args .m .now) n r → Running n
-    → (groupOf n (n .running) .pending ≡ false) × Holds (c .set-flags .last .0) (flagged false (groupOf n (n .running) .pending) n) r
-unfolding word flagWord
-ended c n r h run =
-    let off : groupOf n (n .running) .pending ≡ false =
-    flag-off _ (sym (runner-pending h run) ∙ sym (ap (λ (x : Group·rt). x .pending) (c .before .before .before .before .before .before .before .read .ensures)) ∙ c .before .before .before .before .before .if1 .left) in
-    (off, rw off (runner-flagged h run false false (c .set-flags .ensures false false refl refl n r h tt)))
+-- pending is off; force and revoked go off, and then atomic
+ended-there : (c : tie.After-set-flags) (n : Node) (r : List ℕ) → Holds (c .before .before .before .before .before .before .before .before .before .before .before .before .before .before .before .args .m .now) n r → Running n
+    → (groupOf n (n .running) .pending ≡ false) × Holds (c .set-flags .last .0) (ended n) r
+unfolding word flagWord ended flagged flagging timerFlagged withGroup groupOf
+ended-there c n r h run =
+    let k = timerFlagged false false n in
+    let read = ap (λ (x : Group·rt). x .pending) (c .before .before .before .before .before .before .before .before .before .before .before .read .ensures) ∙ runner-pending h (run .some) (run .valid .running-bound) in
+    let off : groupOf n (n .running) .pending ≡ false = flag-off _ (sym read ∙ c .before .before .before .before .before .before .before .before .before .if1 .left) in
+    let timer = runner-timer-flagged h false false (c .before .before .before .before .set-timer-flags .ensures false false refl refl n r h tt) in
+    let both = subst (λ (g : ℕ). Holds (c .set-flags .last .0) (flagging g false false k) r) (holds-pieces h .running) (c .set-flags .ensures false false refl refl k r timer tt) in
+    (off, rw off both)
 
 slice-read-g : tie.Need-slice-read-g
 slice-read-g c = let p = c .before .before .pre in let l = holds-pieces (p .holds) .long in omega arith
 
 read-requires : tie.Need-read-requires
 unfolding word
-read-requires c κs = let p = c .before .before .before .pre in runner-in (p .holds) (p .fact) _ refl
+read-requires c κs = let p = c .before .before .before .pre in runner-in (p .holds) (p .fact .some) (p .fact .valid .running-bound) _ refl
 
 refused-requires : tie.Need-refused-requires
 refused-requires c κs = search needs
@@ -51,33 +55,37 @@ same-length c = search needs
 
 returns : tie.Need-returns
 unfolding word
-returns c n r h run = request-refused run endAtomic h 9 (section-pending n (flag-on _ (λ e. c .before .if1 .taken (ap (λ (x : Group·rt). x .pending) (c .before .before .before .read .ensures) ∙ runner-pending h run ∙ e)))) (c .refused .ensures)
+returns c n r h run = request-refused run endAtomic h 9 (section-pending n (flag-on _ (λ e. c .before .if1 .taken (ap (λ (x : Group·rt). x .pending) (c .before .before .before .read .ensures) ∙ runner-pending h (run .some) (run .valid .running-bound) ∙ e)))) (c .refused .ensures)
 
 buffered-requires : tie.Need-buffered-requires
 unfolding word
-buffered-requires c κs = let p = c .before .before .before .before .before .before .before .pre in runner-in (p .holds) (p .fact) _ refl
+buffered-requires c κs = let p = c .before .before .before .before .before .before .before .pre in runner-in (p .holds) (p .fact .some) (p .fact .valid .running-bound) _ refl
+
+set-timer-flags-requires : tie.Need-set-timer-flags-requires
+unfolding word
+set-timer-flags-requires c κs = let p = c .before .before .before .before .before .before .before .before .before .before .pre in runner-in (p .holds) (p .fact .some) (p .fact .valid .running-bound) _ refl
 
 set-flags-requires : tie.Need-set-flags-requires
 unfolding word
-set-flags-requires c κs = let p = c .before .before .before .before .before .before .before .before .before .before .pre in runner-in (p .holds) (p .fact) _ refl
+set-flags-requires c κs = let p = c .before .before .before .before .before .before .before .before .before .before .before .before .before .before .pre in runner-in (p .holds) (p .fact .some) (p .fact .valid .running-bound) _ (c .before .before .before .set-timer-flags .kept .0)
 
 finish-requires : tie.Need-finish-requires
 unfolding serve extending
 finish-requires c κs =
-    let p = c .before .before .before .before .before .before .before .before .before .before .before .before .before .before .pre in
-    let t = ended (c .before .before .before) (p .node) (p .rest) (p .holds) (p .fact) in
+    let p = c .before .before .before .before .before .before .before .before .before .before .before .before .before .before .before .before .before .before .pre in
+    let t = ended-there (c .before .before .before) (p .node) (p .rest) (p .holds) (p .fact) in
     (record { node = _; rest = p .rest; holds = t .1; fact = request-sound (p .fact) endAtomic (section-ends _ (t .0)) }, omega arith)
 
 same-length-2 : tie.Need-same-length-2
-same-length-2 c = search needs
+same-length-2 c = c .before .before .finish .kept .0 ∙ c .before .before .before .before .before .before .set-flags .kept .0 ∙ c .before .before .before .before .before .before .before .before .before .before .set-timer-flags .kept .0
 
 returns-2 : tie.Need-returns-2
 unfolding serve extending
 returns-2 c n r h run =
-    let t = ended (c .before .before .before .before .before .before) n r h run in
-    let q = c .before .before .before .before .before .before .before .before .if2 .trap in
-    request-finished run endAtomic (effect (flagged false (groupOf n (n .running) .pending) n) 0 q 0) (section-ends _ (t .0))
-    (λ i. effect (flagged false (groupOf n (n .running) .pending) n) 0 (sym (trap-read (c .before .before .before .before .before .before .before .before) n r h run) i) 0)
+    let t = ended-there (c .before .before .before .before .before .before) n r h run in
+    let q = c .before .before .before .before .before .before .before .before .before .before .before .before .if2 .trap in
+    request-finished run endAtomic (effect (ended n) 0 q 0) (section-ends _ (t .0))
+    (λ i. effect (ended n) 0 (sym (trap-read (c .before .before .before .before .before .before .before .before .before .before .before .before) n r h run) i) 0)
     (c .before .before .finish .ensures _ r (t .1) (request-sound run endAtomic (section-ends _ (t .0))))
 
 pub end-spec : {M : Type 1} → statement M
@@ -90,6 +98,7 @@ end-spec =
     same-length
     returns
     buffered-requires
+    set-timer-flags-requires
     set-flags-requires
     finish-requires
     same-length-2

@@ -1,30 +1,35 @@
--- `node::settling::rest_timer` meets its contract: the count of the queue says whether it is empty. Assumes nothing.
+-- `node::settling::rest_timer` meets its contract. Assumes nothing.
 use native.Mathlib.Omega.{arith}
-use mathlib.Core.Path.{_∙_, sym}
+use mathlib.Core.Path.{_∙_}
 use borrow.Author.Needs.{needs}
-use Rattle.rules.specs.Memory.{word}
+use borrow.Author.Tests.{not-false, not-true}
+use Rattle.rules.specs.Memory.{timerAt}
+use Rattle.memory.proofs.PieceLaws.{holds-pieces}
 use Rattle.memory.proofs.PieceWrites.{timer-held}
-use Rattle.memory.proofs.queue.QueueLaws.{queue-count, rest-empty, rest-some}
 use Rattle.memory.proofs.WriteLaws.{wrote-set}
+use Rattle.node.proofs.settling.TimerLaws.{rest-running, rest-stopped}
 use Rattle.node.proofs.settling.rest_timer.Statement.{statement}
 use Rattle.node.proofs.settling.rest_timer.Tie as tie
 
-slice-read-if1 : tie.Need-slice-read-if1
-slice-read-if1 c = search needs
+timer-runs-requires : tie.Need-timer-runs-requires
+timer-runs-requires c κs = search needs
 
 slice-write-m : tie.Need-slice-write-m
-slice-write-m c = search needs
+slice-write-m c = omega (arith, holds-pieces (c .before .before .before .before .pre .holds) .long)
 
 same-length : tie.Need-same-length
 same-length c = search needs
 
 returns : tie.Need-returns
-unfolding word
-returns c n r h any = rw (rest-empty n (sym (queue-count h .0) ∙ c .if1 .taken)) (timer-held h 0 (wrote-set (c .before .before .args .m .now) 1 0 (omega (arith, c .before .before .pre))))
+returns c n r h s =
+    rw (rest-stopped n (c .before .timer-runs .ensures n r h s ∙ not-true _ (c .if1 .taken)))
+    (timer-held h 0 (wrote-set (c .before .before .before .before .args .m .now) timerAt 0 (omega (arith, holds-pieces h .long))))
+
+same-length-2 : tie.Need-same-length-2
+same-length-2 c = search needs
 
 returns-2 : tie.Need-returns-2
-unfolding word
-returns-2 c n r h any = rw (rest-some n (let q = queue-count h .0 in let l = c .if1 .left in omega arith)) h
+returns-2 c n r h s = rw (rest-running n (c .before .timer-runs .ensures n r h s ∙ not-false _ (c .if1 .left))) h
 
 pub rest-timer-spec : {M : Type 1} → statement M
-rest-timer-spec = tie.close (tie.spec slice-read-if1 slice-write-m same-length returns returns-2)
+rest-timer-spec = tie.close (tie.spec timer-runs-requires slice-write-m same-length returns same-length-2 returns-2)

@@ -64,7 +64,7 @@ loop-again c = (
 )
 
 rest-timer-requires : tie.Need-rest-timer-requires Inv-loop μ-loop
-rest-timer-requires c κs = long (c .before .before .before)
+rest-timer-requires c κs = let p = passing (c .before .before .before) in record { node = p .node; rest = c .before .before .before .before .before .pre .rest; holds = p .holds; fact = p .sound }
 
 same-length : tie.Need-same-length Inv-loop μ-loop
 same-length c = c .before .before .rest-timer .kept .0 ∙ c .before .before .before .before .before .before .loop .inv .0

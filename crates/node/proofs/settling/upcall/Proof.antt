@@ -7,7 +7,7 @@ use mathlib.Core.Logic.{⊎-elim}
 use mathlib.Core.Path.{_∙_, _≡_, ap, refl, sym}
 use lib.ListN.{length}
 use borrow.Author.Needs.{needs}
-use Rattle.rules.specs.Memory.{runningAt, word, flagWord}
+use Rattle.rules.specs.Memory.{countOffset, flagWord, runningAt, word}
 use Rattle.memory.specs.Writes.{InGroup}
 use Rattle.memory.specs.declared.group.Group.{Group as Group·rt}
 use Rattle.memory.proofs.PieceLaws.{holds-pieces}
@@ -15,7 +15,7 @@ use Rattle.node.proofs.settling.CallLaws.{called-atomic, called-buffere
 use Rattle.node.proofs.settling.upcall.Statement.{statement}
 use Rattle.node.proofs.settling.upcall.Tie as tie
 
-facts : (c : tie.Else1) (m : List ℕ) → length m ≡ length (c .before .before .before .args .m .now) → InGroup m (word (c .before .before .before .args .m .now) runningAt) 3
+facts : (c : tie.Else1) (m : List ℕ) → length m ≡ length (c .before .before .before .args .m .now) → InGroup m (word (c .before .before .before .args .m .now) runningAt) countOffset
 unfolding word
 facts c m l =
     let p = c .before .before .before .pre in

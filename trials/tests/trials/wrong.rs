@@ -145,7 +145,7 @@ fn a_frame_cleared_when_it_is_freed() {
     let wrong = memory(|_, before, after| {
         if Proved.test(before) == 1 && after[3] > before[3] {
             let frame = after[164 + before[3] as usize] as usize;
-            after[1076 + 72 * frame..][..72].fill(0);
+            after[1092 + 72 * frame..][..72].fill(0);
         }
     });
     found(wrong, "the memory after it differs\n  word ");
@@ -261,20 +261,20 @@ fn each_count_of_pages() {
 fn sent_out(asked: &Asked, before: &[u32], after: &[u32]) -> bool {
     *asked != Asked::PowerOn
         && before.len() >= SIZE
-        && before[7989] == after[7989]
-        && before[8056..SIZE] != after[8056..SIZE]
+        && before[8005] == after[8005]
+        && before[8072..SIZE] != after[8072..SIZE]
 }
 
 #[test]
 fn a_count_that_begins_anew_behind_its_largest_number() {
     let wrong = memory(|asked, before, after| {
-        if sent_out(asked, before, after) && before[7990] == u32::MAX {
-            after[7990] = 0;
+        if sent_out(asked, before, after) && before[8006] == u32::MAX {
+            after[8006] = 0;
         }
     });
     found(
         wrong,
-        "the memory after it differs\n  word 7990, pages sent out: judge 4294967295, library 0",
+        "the memory after it differs\n  word 8006, pages sent out: judge 4294967295, library 0",
     );
 }
 
@@ -282,12 +282,12 @@ fn a_count_that_begins_anew_behind_its_largest_number() {
 fn a_frame_that_does_not_enter_last() {
     let wrong = memory(|asked, before, after| {
         if sent_out(asked, before, after) {
-            after[8056..SIZE].copy_from_slice(&before[8056..SIZE]);
+            after[8072..SIZE].copy_from_slice(&before[8072..SIZE]);
         }
     });
     found(
         wrong,
-        "the memory after it differs\n  word 8056, place 0 of",
+        "the memory after it differs\n  word 8072, place 0 of",
     );
 }
 
@@ -309,18 +309,96 @@ fn a_test_that_refuses_a_node() {
     found(wrong, "fugu_test differs\n  verdict: judge 1, library 0");
 }
 
-/// One clause left out, and no other: that an empty queue's timer is 0.
-#[test]
-fn a_test_that_forgets_a_clause() {
+/// One clause left out, and no other: this memory passes where the one after the change does.
+fn a_test_without(mend: impl Fn(&mut [u32]) + 'static) {
     let wrong = Wrong {
-        verdict: Box::new(|memory, verdict| {
-            let mut memory = memory.to_vec();
-            if let [_, timer, 0, ..] = &mut memory[..] {
-                *timer = 0;
+        verdict: Box::new(move |memory, verdict| {
+            let mut mended = memory.to_vec();
+            if mended.len() >= SIZE {
+                mend(&mut mended);
             }
-            verdict | Proved.test(&memory)
+            verdict | Proved.test(&mended)
         }),
         ..right()
     };
     found(wrong, "fugu_test differs\n  verdict: judge 0, library 1");
+}
+
+/// Where the groups' records stand.
+fn records() -> impl Iterator<Item = usize> {
+    (0..8).map(|group| 196 + 112 * group)
+}
+
+#[test]
+fn a_test_that_forgets_the_idle_timer() {
+    a_test_without(|memory| {
+        if memory[2] == 0 {
+            memory[1] = 0;
+        }
+    });
+}
+
+#[test]
+fn a_test_that_forgets_where_force_and_revoked_stand() {
+    for flag in [2, 3] {
+        a_test_without(move |memory| {
+            for record in records() {
+                if memory[record] == 0 && memory[record + flag] == 1 {
+                    memory[record + flag] = 0;
+                }
+            }
+        });
+    }
+}
+
+#[test]
+fn a_test_that_takes_a_revoked_group_for_direct() {
+    a_test_without(|memory| {
+        if memory[2] > 0 && (1..=8).contains(&memory[0]) {
+            memory[196 + 112 * (memory[0] as usize - 1) + 3] = 0;
+        }
+    });
+}
+
+/// A library of the rules before the forced timer, in one point each.
+#[test]
+fn force_and_revoked_that_a_step_gets_wrong() {
+    let flag = |group: u32, flag: usize| 196 + 112 * (group as usize - 1) + flag;
+    let runs = |memory: &[u32]| memory.len() >= SIZE && (1..=8).contains(&memory[0]);
+    // A timeout is told by its trap, which the memory does not keep: it revokes.
+    found(
+        memory(move |asked, before, after| {
+            let ticks = matches!(asked, Asked::Step(b'T', _));
+            if ticks && runs(before) && before != after {
+                after[flag(after[0], 3)] = before[flag(before[0], 3)];
+            }
+        }),
+        "the memory after it differs\n  word ",
+    );
+    found(
+        memory(move |asked, before, after| {
+            if matches!(asked, Asked::Step(b'N', _)) && runs(before) {
+                after[flag(after[0], 2)] = before[flag(before[0], 2)];
+            }
+        }),
+        "the memory after it differs\n  word ",
+    );
+    found(
+        memory(move |asked, before, after| {
+            let switched = matches!(asked, Asked::Step(b'S', _)) && before != after;
+            if switched && runs(before) && before[flag(before[0], 2)] == 1 {
+                after[flag(before[0], 2)] = 0;
+            }
+        }),
+        "the memory after it differs\n  word ",
+    );
+    // An empty queue whose timer is set back though it is forced.
+    found(
+        memory(|asked, before, after| {
+            if matches!(asked, Asked::Step(b'M', _)) && before.len() >= SIZE && after[2] == 0 {
+                after[1] = 0;
+            }
+        }),
+        "the memory after it differs\n  word 1, the timer: judge ",
+    );
 }

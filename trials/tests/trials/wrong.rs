@@ -309,7 +309,7 @@ fn a_test_that_refuses_a_node() {
     found(wrong, "fugu_test differs\n  verdict: judge 1, library 0");
 }
 
-/// One clause left out, and no other: this memory passes where the one after the change does.
+/// A test that forgets what is mended before it, and asks all else.
 fn a_test_without(mend: impl Fn(&mut [u32]) + 'static) {
     let wrong = Wrong {
         verdict: Box::new(move |memory, verdict| {
@@ -324,10 +324,14 @@ fn a_test_without(mend: impl Fn(&mut [u32]) + 'static) {
     found(wrong, "fugu_test differs\n  verdict: judge 0, library 1");
 }
 
-/// Where the groups' records stand.
-fn records() -> impl Iterator<Item = usize> {
-    (0..8).map(|group| 196 + 112 * group)
+/// A flag of a group's record: its address.
+fn flag_at(group: usize, flag: usize) -> usize {
+    196 + 112 * (group - 1) + flag
 }
+
+const ATOMIC: usize = 0;
+const FORCE: usize = 2;
+const REVOKED: usize = 3;
 
 #[test]
 fn a_test_that_forgets_the_idle_timer() {
@@ -339,12 +343,13 @@ fn a_test_that_forgets_the_idle_timer() {
 }
 
 #[test]
-fn a_test_that_forgets_where_force_and_revoked_stand() {
-    for flag in [2, 3] {
+fn a_test_that_forgets_that_force_or_revoked_asks_for_atomic() {
+    for flag in [FORCE, REVOKED] {
         a_test_without(move |memory| {
-            for record in records() {
-                if memory[record] == 0 && memory[record + flag] == 1 {
-                    memory[record + flag] = 0;
+            for group in 1..=8 {
+                let stands = memory[flag_at(group, flag)] == 1;
+                if stands && memory[flag_at(group, ATOMIC)] == 0 {
+                    memory[flag_at(group, flag)] = 0;
                 }
             }
         });
@@ -355,50 +360,57 @@ fn a_test_that_forgets_where_force_and_revoked_stand() {
 fn a_test_that_takes_a_revoked_group_for_direct() {
     a_test_without(|memory| {
         if memory[2] > 0 && (1..=8).contains(&memory[0]) {
-            memory[196 + 112 * (memory[0] as usize - 1) + 3] = 0;
+            memory[flag_at(memory[0] as usize, REVOKED)] = 0;
         }
     });
 }
 
-/// A library of the rules before the forced timer, in one point each.
+/// A step of this letter that is wrong in a word is found, and told by what stands there.
+fn a_step_with(letter: u8, told: &str, change: impl Fn(usize, &[u32], &mut [u32]) + 'static) {
+    let wrong = memory(move |asked, before, after| {
+        let is_one = matches!(asked, Asked::Step(other, _) if *other == letter);
+        if is_one && Proved.test(before) == 1 && before[0] > 0 {
+            change(before[0] as usize, before, after);
+        }
+    });
+    let difference = first_difference(&wrong, 10_000).expect("a difference");
+    assert!(difference.starts_with("the memory after it differs\n  word "));
+    assert!(difference.contains(told), "{difference}, not {told}");
+}
+
 #[test]
-fn force_and_revoked_that_a_step_gets_wrong() {
-    let flag = |group: u32, flag: usize| 196 + 112 * (group as usize - 1) + flag;
-    let runs = |memory: &[u32]| memory.len() >= SIZE && (1..=8).contains(&memory[0]);
-    // A timeout is told by its trap, which the memory does not keep: it revokes.
-    found(
-        memory(move |asked, before, after| {
-            let ticks = matches!(asked, Asked::Step(b'T', _));
-            if ticks && runs(before) && before != after {
-                after[flag(after[0], 3)] = before[flag(before[0], 3)];
-            }
-        }),
-        "the memory after it differs\n  word ",
-    );
-    found(
-        memory(move |asked, before, after| {
-            if matches!(asked, Asked::Step(b'N', _)) && runs(before) {
-                after[flag(after[0], 2)] = before[flag(before[0], 2)];
-            }
-        }),
-        "the memory after it differs\n  word ",
-    );
-    found(
-        memory(move |asked, before, after| {
-            let switched = matches!(asked, Asked::Step(b'S', _)) && before != after;
-            if switched && runs(before) && before[flag(before[0], 2)] == 1 {
-                after[flag(before[0], 2)] = 0;
-            }
-        }),
-        "the memory after it differs\n  word ",
-    );
-    // An empty queue whose timer is set back though it is forced.
-    found(
-        memory(|asked, before, after| {
-            if matches!(asked, Asked::Step(b'M', _)) && before.len() >= SIZE && after[2] == 0 {
-                after[1] = 0;
-            }
-        }),
-        "the memory after it differs\n  word 1, the timer: judge ",
-    );
+fn a_timeout_that_does_not_revoke() {
+    a_step_with(b'T', ", revoked of group ", |runner, before, after| {
+        after[flag_at(runner, REVOKED)] = before[flag_at(runner, REVOKED)];
+    });
+}
+
+#[test]
+fn an_end_that_leaves_force_or_revoked() {
+    for (flag, told) in [
+        (FORCE, ", force of group "),
+        (REVOKED, ", revoked of group "),
+    ] {
+        a_step_with(b'N', told, move |runner, before, after| {
+            after[flag_at(runner, flag)] = before[flag_at(runner, flag)];
+        });
+    }
+}
+
+#[test]
+fn force_lost_with_the_processor() {
+    a_step_with(b'S', ", force of group ", |runner, before, after| {
+        if after[0] != before[0] {
+            after[flag_at(runner, FORCE)] = 0;
+        }
+    });
+}
+
+#[test]
+fn a_forced_timer_that_settling_sets_back() {
+    a_step_with(b'M', ", the timer: judge ", |_, _, after| {
+        if after[2] == 0 {
+            after[1] = 0;
+        }
+    });
 }

@@ -217,7 +217,7 @@ const IDLE_TIMER: &str =
     "an empty queue has a timer above 0 only where the running group has force on";
 
 /// Nothing in the hardware queue, and the timer as it was.
-fn empty_queue(m: &mut Vec<u32>) {
+fn empty_queue(m: &mut [u32]) {
     m[QUEUE_COUNT] = 0;
     m[queue(0)..queue(3)].fill(0);
     m[record(1) + PENDING] = 0;
@@ -391,7 +391,7 @@ const BREAKS: &[Break] = &[
     ("the group of the queue's head is direct", |m| {
         m[record(1) + REVOKED] = 1
     }),
-    (IDLE_TIMER, empty_queue),
+    (IDLE_TIMER, |m| empty_queue(m)),
     (IDLE_TIMER, |m| {
         empty_queue(m);
         m[record(1) + REVOKED] = 1;
@@ -613,7 +613,7 @@ fn a_broken_clause_is_told_with_addresses_and_values() {
             "an empty queue has a timer above 0 only where the running group has force on\n  word 1, \
              the timer: 5\n  word 2, messages in the hardware queue: 0\n  word 0, the running \
              group: 1\n  word 198, force of group 1: 0",
-            empty_queue,
+            |m| empty_queue(m),
         ),
         (
             "the queue's head is the running group's\n  word 0, the running group: 4\n  word 4, \

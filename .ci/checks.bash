@@ -68,7 +68,7 @@ vectors() {
 # listings PROGRAM: the scripts of vectors/ by a program.
 listings() {
     local script
-    vectors base order1
+    vectors base order1 order2
     printf '%s: %s scripts in vectors/\n' "$1" "${#scripts[@]}"
     for script in "${scripts[@]}"; do
         check "${script#"$root"/vectors/}" listing_agrees "$1" "$script"
@@ -87,14 +87,14 @@ put() {
 
 # The memory that the whole case leaves, written by docs/MEMORY.md.
 whole_case() {
-    head -c 32352 /dev/zero >"$scratch/memory"
+    head -c 32416 /dev/zero >"$scratch/memory"
     put "$scratch/memory" 0 2 0 0 32
     put "$scratch/memory" 164 {2..31} 0 1
-    put "$scratch/memory" 306 1
-    put "$scratch/memory" 1076 1 7
-    put "$scratch/memory" 1148 2 5 6
-    put "$scratch/memory" 7988 64
-    put "$scratch/memory" 7992 {32..95}
+    put "$scratch/memory" 308 1
+    put "$scratch/memory" 1092 1 7
+    put "$scratch/memory" 1164 2 5 6
+    put "$scratch/memory" 8004 64
+    put "$scratch/memory" 8008 {32..95}
 }
 
 # holds FILE STATE: the judge tells this state of it, and no more.

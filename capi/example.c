@@ -1,4 +1,5 @@
-/* A node from C: power-on, steps by letter and by line, the head message, pages sent out and brought in, and what is refused.
+/* A node from C: power-on, steps by letter and by line, the head message, a timer that is forced, pages sent out and brought in, and what is
+ * refused.
  *
  *     rt staticlib capi
  *     cc -std=c11 -Icapi capi/example.c target/staticlib/libcapi.a -o example && ./example
@@ -73,6 +74,7 @@ int main(void) {
     const uint32_t group[] = {1};
     const uint32_t message[] = {1, 7, 8, 9};
     const uint32_t ticks[] = {256};
+    const uint32_t force[] = {1};
 
     printf("a node has %u words\n", fugu_size());
     printf("before power-on: test %u\n", fugu_test(memory, FUGU_SIZE));
@@ -89,6 +91,10 @@ int main(void) {
     print_head();
     line("E,2");
     line("D");
+    line("N");
+    step("B,1", 'B', force, 1);
+    step("T,256", 'T', ticks, 1);
+    line("N");
     line("P,5");
     line("L,63");
     print_paging();

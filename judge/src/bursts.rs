@@ -2,7 +2,7 @@
 
 use std::collections::VecDeque;
 
-use crate::node::{Node, FRAMES};
+use crate::node::{Node, FRAMES, TIMEOUT};
 use crate::random::Random;
 use crate::script::{self, LONGEST_LINE};
 
@@ -182,8 +182,18 @@ impl Lines {
         self.line('D', &[]);
     }
 
+    /// Most often plain, else with its field.
     fn begin_atomic(&mut self) {
-        self.line('B', &[]);
+        if self.random.one_in(4) {
+            let force = self.random.between(0, 1);
+            self.line('B', &[force]);
+        } else {
+            self.line('B', &[]);
+        }
+    }
+
+    fn begin_forced(&mut self) {
+        self.line('B', &[1]);
     }
 
     fn end_atomic(&mut self) {
@@ -401,6 +411,43 @@ impl Lines {
         }
     }
 
+    /// A section with its timer forced, and what must leave the timer, set it back or end it all.
+    pub fn force(&mut self) {
+        self.take_over();
+        self.begin_forced();
+        for _ in 0..self.random.between(4, 16) {
+            self.burst(&[
+                (6, Lines::ticks_to_timeouts),
+                (2, Lines::tick),
+                (3, Lines::arrival),
+                (2, Lines::dispose),
+                (2, Lines::end_atomic),
+                (2, Lines::begin_forced),
+                (1, Lines::begin_atomic),
+                (1, Lines::message_length),
+                (2, Lines::lend_processor),
+            ]);
+        }
+    }
+
+    /// So many ticks that a timer that runs comes to about a timeout, the next or one behind it.
+    fn ticks_to_timeouts(&mut self) {
+        let timeouts = self.random.between(1, 4);
+        let left = timeouts * u64::from(TIMEOUT) - u64::from(self.node.timer);
+        let count = self.random.between(left.saturating_sub(2).max(1), left + 2);
+        self.ticks(count);
+    }
+
+    /// The processor goes elsewhere and comes back; at times a message has come meanwhile.
+    fn lend_processor(&mut self) {
+        let group = self.running();
+        self.switch();
+        if self.random.one_in(3) {
+            self.arrival();
+        }
+        self.switch_to(group);
+    }
+
     /// Every word of a group's first messages, and one past them.
     pub fn read_out(&mut self) {
         let group = self.group();
@@ -503,16 +550,17 @@ impl Lines {
     }
 
     fn miscounted(&mut self) -> Vec<u8> {
-        let lines = "A S T E P L S,1,2 T,1,1 E,0,0 P,1,2 L,1,2 M,0 D,1 B, N, M, A, A,1, A,1,,2 S, \
-                     , ,1 S,1,";
+        let lines =
+            "A S T E P L S,1,2 T,1,1 E,0,0 P,1,2 L,1,2 M,0 D,1 B, B,1,1 B,0, N,1 N, M, A, A,1, \
+                     A,1,,2 S, , ,1 S,1,";
         self.one_of(lines)
     }
 
     fn misnumbered(&mut self) -> Vec<u8> {
-        let mut line = self.one_of("A,1, A, S, T, E, P, L,");
+        let mut line = self.one_of("A,1, A, S, T, E, B, P, L,");
         line.extend(self.one_of(
-            "4294967295 4294967296 9999999999 0000000001 00000000001 42949672950 -1 +1 0x1 1.0 1e1 \
-             one \u{663}",
+            "2 4294967295 4294967296 9999999999 0000000001 00000000001 42949672950 -1 +1 0x1 1.0 \
+             1e1 one \u{663}",
         ));
         line
     }

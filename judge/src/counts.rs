@@ -1,9 +1,10 @@
-//! Which answers and traps scripts have met, operation by operation, and what they did with pages.
+//! Which answers and traps scripts have met, operation by operation, and which events that no listing
+//! tells.
 
 use std::fmt::{self, Display, Formatter};
 use std::io::{self, BufRead};
 
-use crate::node::{Cause, Paging, Refusal, Report};
+use crate::node::{Cause, Event, Refusal, Report};
 use crate::script;
 
 /// The rows of the table: the operations' letters, then lines that ask for none.
@@ -26,42 +27,49 @@ const TRAPS: usize = 4;
 /// Answer 1 is the memory keeper's: no script can meet it.
 const NOT_A_NODE: usize = Refusal::NotANode as usize;
 
-/// All that a step can do with a page, in words.
-pub const PAGING: [(Paging, &str); 5] = [
-    (Paging::SentOut, "pages sent out"),
+/// All events of steps, in words.
+pub const EVENTS: [(Event, &str); 12] = [
+    (Event::SentOut, "pages sent out"),
     (
-        Paging::BroughtIn(Cause::Write),
+        Event::BroughtIn(Cause::Write),
         "pages brought in to be written",
     ),
     (
-        Paging::Exchanged(Cause::Write),
+        Event::Exchanged(Cause::Write),
         "pages exchanged to be written",
     ),
-    (Paging::BroughtIn(Cause::First), "first pages brought in"),
-    (Paging::Exchanged(Cause::First), "first pages exchanged"),
+    (Event::BroughtIn(Cause::First), "first pages brought in"),
+    (Event::Exchanged(Cause::First), "first pages exchanged"),
+    (Event::IdleTimeout, "timeouts with an empty queue"),
+    (Event::FurtherTimeout, "timeouts behind one of the same T"),
+    (Event::TimerLeft, "forced timers that settling left"),
+    (Event::TimerEnded, "forced timers that N took back"),
+    (Event::ForceKept, "processors given to a group with force"),
+    (Event::RevokedMoved, "messages moved for revoked alone"),
+    (Event::RevokedEnded, "ends of an empty group revoked"),
 ];
 
-/// How often steps did each.
+/// How often steps had each.
 #[derive(Clone, Default)]
-pub struct PagingCounts([u64; PAGING.len()]);
+pub struct EventCounts([u64; EVENTS.len()]);
 
-impl PagingCounts {
+impl EventCounts {
     pub fn add(&mut self, report: &Report) {
-        for done in &report.paging {
-            let at = PAGING.iter().position(|(paging, _)| paging == done);
-            self.0[at.expect("all that a step can do")] += 1;
+        for met in &report.events {
+            let at = EVENTS.iter().position(|(event, _)| event == met);
+            self.0[at.expect("all events of a step")] += 1;
         }
     }
 
-    /// What no step did.
+    /// What no step had.
     pub fn missing(&self) -> impl Iterator<Item = &'static str> + '_ {
-        let counts = PAGING.iter().zip(self.0);
+        let counts = EVENTS.iter().zip(self.0);
         counts.filter_map(|((_, name), count)| (count == 0).then_some(*name))
     }
 
     /// A line for each, the counts as wide as asked for.
     pub fn lines(&self, width: usize) -> impl Iterator<Item = String> + '_ {
-        let counts = PAGING.iter().zip(self.0);
+        let counts = EVENTS.iter().zip(self.0);
         counts.map(move |((_, name), count)| format!("{count:>width$} {name}"))
     }
 }
@@ -101,7 +109,7 @@ impl Row {
 #[derive(Clone, Default)]
 pub struct Counts {
     rows: [Row; ROWS.len()],
-    paging: PagingCounts,
+    events: EventCounts,
 }
 
 impl Counts {
@@ -120,7 +128,7 @@ impl Counts {
         if report.accepted() {
             row.traps[report.trap as usize] += 1;
         }
-        self.paging.add(report);
+        self.events.add(report);
     }
 
     fn sum(&self) -> Row {
@@ -135,7 +143,7 @@ impl Counts {
         self.sum().answers.iter().sum()
     }
 
-    /// The answers 2 to 15, the traps 0 to 3 and what is done with pages that were not met.
+    /// The answers 2 to 15, the traps 0 to 3 and the events that were not met.
     pub fn missing(&self) -> Vec<String> {
         let sum = self.sum();
         let answers = (2..ANSWERS).filter(|&answer| sum.answers[answer] == 0);
@@ -143,7 +151,7 @@ impl Counts {
         answers
             .map(|answer| format!("answer {answer}"))
             .chain(traps.map(|trap| format!("trap {trap}")))
-            .chain(self.paging.missing().map(str::to_string))
+            .chain(self.events.missing().map(str::to_string))
             .collect()
     }
 }
@@ -174,7 +182,7 @@ impl Display for Counts {
                 write!(f, "{count:>width$}")?;
             }
         }
-        let mut paging = self.paging.lines(10 + width);
-        paging.try_for_each(|line| write!(f, "\n{line}"))
+        let mut events = self.events.lines(10 + width);
+        events.try_for_each(|line| write!(f, "\n{line}"))
     }
 }

@@ -14,7 +14,7 @@ pub struct Flavour {
     last_newline: bool,
 }
 
-pub static FLAVOURS: [Flavour; 12] = [
+pub static FLAVOURS: [Flavour; 13] = [
     Flavour {
         name: "uniform",
         about: "every operation equally often",
@@ -36,7 +36,7 @@ pub static FLAVOURS: [Flavour; 12] = [
             (5, Lines::crowd),
             (2, Lines::drain),
             (1, Lines::clear),
-            (1, Lines::odd_arrival),
+            (3, Lines::odd_arrival),
             (1, Lines::any),
         ],
         last_newline: true,
@@ -97,6 +97,18 @@ pub static FLAVOURS: [Flavour; 12] = [
         last_newline: true,
     },
     Flavour {
+        name: "force",
+        about: "sections with the timer forced, timeouts with nothing waiting, revoked groups",
+        bursts: &[
+            (8, Lines::force),
+            (1, Lines::brink),
+            (1, Lines::switch),
+            (1, Lines::clear),
+            (1, Lines::any),
+        ],
+        last_newline: true,
+    },
+    Flavour {
         name: "bad",
         about: "bad, over-long and odd-byte lines, no last newline",
         bursts: &[(6, Lines::bad), (3, Lines::any), (1, Lines::exchange)],
@@ -139,6 +151,7 @@ pub static FLAVOURS: [Flavour; 12] = [
             (2, Lines::exchange),
             (2, Lines::brink),
             (2, Lines::hog),
+            (2, Lines::force),
             (2, Lines::read_out),
             (2, Lines::send),
             (2, Lines::clear),

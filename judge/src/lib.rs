@@ -6,7 +6,7 @@
 //! - [`state`]: what a node holds, as text, and a node read from the bytes of its memory.
 //! - [`script`]: a script's lines read to operations, reports written as a listing.
 //! - [`generator`]: random scripts in flavours, made of bursts and fixed by a seed.
-//! - [`counts`]: which answers and traps scripts have met, and what they did with pages.
+//! - [`counts`]: which answers and traps scripts have met, and which events that no listing tells.
 //! - [`feed`]: a script on its way to the judge and to a program at once.
 //! - [`comparison`]: a program's listing held against the judge's.
 //! - [`program`]: what the programs share.

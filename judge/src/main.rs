@@ -23,7 +23,7 @@ Reads a script from standard input and writes its listing to standard output; wi
 node holds after the last line, one fact a line.
 
 With --state it reads a node's memory from FILE, 32-bit words with the lowest byte first as
-docs/MEMORY.md has them, and tells the same of it. Words past the node's 8088 are not looked at; a
+docs/MEMORY.md has them, and tells the same of it. Words past the node's 8104 are not looked at; a
 file whose last word is cut short is no node. If the memory is no node, it tells the first clause of
 \"Memory is a node when\" that fails and the words that break it, each with its address and value,
 and the exit status is 1. It is 2 if the call is wrong or FILE can't be read.";

@@ -15,8 +15,9 @@ use std::ops::Range;
 use crate::node::{Group, Message, Node, Operation, Page, Place, Refusal, Report};
 use map::{
     group_at, message, place_at, queued_at, Record, Words, ATOMIC, BROUGHT_IN, DESCRIPTOR_AT,
-    DESCRIPTOR_COUNT, ENTRY_AT, ENTRY_COUNT, FREE_AT, FREE_COUNT, LIST_AT, LIST_COUNT, MESSAGES,
-    PENDING, PLACE_WORDS, QUEUE_COUNT, RUNNING, SENT_OUT, SWAP_AT, SWAP_COUNT, TIMER, USED_UP,
+    DESCRIPTOR_COUNT, ENTRY_AT, ENTRY_COUNT, FORCE, FREE_AT, FREE_COUNT, LIST_AT, LIST_COUNT,
+    MESSAGES, PENDING, PLACE_WORDS, QUEUE_COUNT, REVOKED, RUNNING, SENT_OUT, SWAP_AT, SWAP_COUNT,
+    TIMER, USED_UP,
 };
 
 /// Makes the memory a node at power-on. "Power-on tests only the size."
@@ -73,7 +74,7 @@ pub fn read(memory: &[u32]) -> Result<Node, Fault> {
         brought_in: words.brought_in(),
         groups: std::array::from_fn(|at| read_group(&words.group(at + 1))),
         pages: std::array::from_fn(|page| read_page(&words, page)),
-        paging: Vec::new(),
+        events: Vec::new(),
     })
 }
 
@@ -88,6 +89,8 @@ fn read_group(record: &Record) -> Group {
     let mut group = Group {
         atomic: record.atomic() == 1,
         pending: record.pending() == 1,
+        force: record.force() == 1,
+        revoked: record.revoked() == 1,
         descriptor: record.descriptor().to_vec(),
         ..Group::default()
     };
@@ -153,6 +156,8 @@ fn write_queued(message: &Message, words: &mut [u32]) {
 fn write_group(group: &Group, words: &mut [u32]) {
     words[ATOMIC] = group.atomic.into();
     words[PENDING] = group.pending.into();
+    words[FORCE] = group.force.into();
+    words[REVOKED] = group.revoked.into();
     words[USED_UP] = group.buffer.used_up as u32;
     words[MESSAGES] = group.buffer.messages as u32;
     words[LIST_COUNT] = group.buffer.pages.len() as u32;

@@ -1,5 +1,5 @@
 //! The paper's "The node" as ordinary records, and its "Each step", with the orders that have changed
-//! them: order 1, swap space.
+//! them: order 1, swap space, and order 2, the forced timer.
 
 use std::collections::VecDeque;
 
@@ -45,7 +45,10 @@ pub enum Operation {
         index: u32,
     },
     Dispose,
-    BeginAtomic,
+    /// "`B,1` turns force on, `B,0` and plain `B` leave it"
+    BeginAtomic {
+        force: bool,
+    },
     EndAtomic,
     Describe {
         word: u32,
@@ -95,14 +98,28 @@ pub struct Launched {
     pub words: Vec<u32>,
 }
 
-/// What a step does with one page. No listing tells it; it is counted, so that scripts are seen to
-/// meet each.
+/// What happens in a step with a page, or by force or a revoked group. No listing tells it; it is
+/// counted, so that scripts are seen to meet each.
 #[derive(Clone, Copy, Debug, PartialEq, Eq)]
-pub enum Paging {
+pub enum Event {
     SentOut,
     /// Into a free frame.
     BroughtIn(Cause),
     Exchanged(Cause),
+    /// A timeout that finds nothing to move.
+    IdleTimeout,
+    /// A timeout of a T that had one already.
+    FurtherTimeout,
+    /// Settling leaves a timer above 0 with an empty queue.
+    TimerLeft,
+    /// N takes such a timer back to 0.
+    TimerEnded,
+    /// The processor comes to a group that has force on.
+    ForceKept,
+    /// A message leaves the queue since its group is revoked: it has none in its buffer, and runs.
+    RevokedMoved,
+    /// N of a revoked group with no message in its buffer.
+    RevokedEnded,
 }
 
 /// Why a page is brought in: "before it is written", or as "a running group's first page".
@@ -121,8 +138,8 @@ pub struct Report {
     pub upcall: u32,
     pub moved: u32,
     pub launched: Option<Launched>,
-    /// In the order in which it happened; no part of the listing.
-    pub paging: Vec<Paging>,
+    /// In the order in which they happened; no part of the listing.
+    pub events: Vec<Event>,
 }
 
 impl Report {
@@ -226,6 +243,10 @@ impl Buffer {
 pub struct Group {
     pub atomic: bool,
     pub pending: bool,
+    /// "FUGU's timer-force flag, which times a section with no message waiting"
+    pub force: bool,
+    /// A timeout came while it ran; "it counts as buffered, empty or not, until its next accepted N".
+    pub revoked: bool,
     pub buffer: Buffer,
     pub descriptor: Vec<u32>,
 }
@@ -252,8 +273,8 @@ pub struct Node {
     /// Group g stands at g - 1.
     pub groups: [Group; GROUPS],
     pub pages: [Page; PAGES],
-    /// What the step under way has done with pages so far: nothing between steps.
-    pub(crate) paging: Vec<Paging>,
+    /// What has happened in the step under way so far: nothing between steps.
+    pub(crate) events: Vec<Event>,
 }
 
 impl Node {
@@ -271,7 +292,7 @@ impl Node {
             brought_in: 0,
             groups: Default::default(),
             pages: [Page::default(); PAGES],
-            paging: Vec::new(),
+            events: Vec::new(),
         }
     }
 
@@ -285,7 +306,7 @@ impl Node {
         report.moved += self.settle();
         self.bring_in_first();
         report.upcall = self.upcall();
-        report.paging = std::mem::take(&mut self.paging);
+        report.events = std::mem::take(&mut self.events);
         report
     }
 
@@ -311,9 +332,27 @@ impl Node {
         pages_for((buffer.used_up + buffer.messages + queued + more) as u64)
     }
 
-    /// "A group is buffered while n is above 0, else direct."
+    /// "A group is buffered while n is above 0, else direct", and a revoked one "counts as buffered,
+    /// empty or not".
     fn is_buffered(&self, group: usize) -> bool {
-        self.groups[group - 1].buffer.messages > 0
+        let group = &self.groups[group - 1];
+        group.buffer.messages > 0 || group.revoked
+    }
+
+    /// The trap of an operation that the running group begins while buffered.
+    fn trap_if_buffered(&self, trap: Trap) -> Trap {
+        if self.is_buffered(self.running) {
+            trap
+        } else {
+            Trap::None
+        }
+    }
+
+    /// Whether a tick counts: with a message in the queue, or "with force on and the group running and
+    /// atomic".
+    fn timer_runs(&self) -> bool {
+        let runner = self.running.checked_sub(1).map(|at| &self.groups[at]);
+        !self.queue.is_empty() || runner.is_some_and(|group| group.force && group.atomic)
     }
 
     /// The refusals in the paper's order; 1 is the keeper's and was tested before.
@@ -397,7 +436,7 @@ impl Node {
                 Report::of_value(message[*index as usize])
             }
             Operation::Dispose => self.dispose(),
-            Operation::BeginAtomic => self.begin_atomic(),
+            Operation::BeginAtomic { force } => self.begin_atomic(*force),
             Operation::EndAtomic => self.end_atomic(),
             Operation::Describe { word } => self.describe(*word),
             Operation::Launch { node } => self.launch(*node),
@@ -416,67 +455,88 @@ impl Node {
         if group != self.running {
             self.running = group;
             self.timer = 0;
+            if group > 0 && self.running_group().force {
+                self.events.push(Event::ForceKept);
+            }
         }
         Report::default()
     }
 
-    /// "A tick adds 1 to the timer if the hardware queue isn't empty": on an empty queue all
-    /// further ticks change nothing, so one step has at most one timeout.
+    /// "n single ticks", all of them: with force on, several timeouts may come in one step.
     fn ticks(&mut self, count: u32) -> Report {
+        let mut report = Report::default();
         for _ in 0..count {
-            if self.queue.is_empty() {
+            // Nothing in a T makes a timer run that does not.
+            if !self.timer_runs() {
                 break;
             }
             self.timer += 1;
             if self.timer == TIMEOUT {
-                return self.timeout();
+                if report.trap == Trap::Timeout {
+                    self.events.push(Event::FurtherTimeout);
+                }
+                report.trap = Trap::Timeout;
+                report.moved += self.timeout();
             }
         }
-        Report::default()
+        report
     }
 
-    /// "the whole hardware queue moves to the buffers, timer 0"
-    fn timeout(&mut self) -> Report {
+    /// "the whole hardware queue moves to the buffers, timer 0", and "At any timeout the running group
+    /// is marked revoked". Returns how many messages moved.
+    fn timeout(&mut self) -> u32 {
         let moved = self.queue.len() as u32;
+        if moved == 0 {
+            self.events.push(Event::IdleTimeout);
+        }
         while !self.queue.is_empty() {
             self.buffer_head();
         }
         self.timer = 0;
-        Report {
-            moved,
-            ..Report::of_trap(Trap::Timeout)
-        }
+        // Somebody runs: settled, a queue that isn't empty has a head of the running group's.
+        self.running_group().revoked = true;
+        moved
     }
 
     /// "removes that message; pending off; timer 0"
     fn dispose(&mut self) -> Report {
+        let trap = self.trap_if_buffered(Trap::DisposeExtend);
         self.timer = 0;
-        self.running_group().pending = false;
-        if self.is_buffered(self.running) {
-            if let Some(frame) = self.running_group().buffer.use_up_first() {
-                self.entry.retain(|&entered| entered != frame);
-                self.free.push_back(frame);
-            }
-            Report::of_trap(Trap::DisposeExtend)
-        } else {
+        let group = self.running_group();
+        group.pending = false;
+        if group.buffer.messages == 0 {
             // Settled: the head of the queue is the running group's.
             self.queue.pop_front();
-            Report::default()
+        } else if let Some(frame) = group.buffer.use_up_first() {
+            self.entry.retain(|&entered| entered != frame);
+            self.free.push_back(frame);
         }
+        Report::of_trap(trap)
     }
 
-    fn begin_atomic(&mut self) -> Report {
-        self.running_group().atomic = true;
+    fn begin_atomic(&mut self, force: bool) -> Report {
+        let group = self.running_group();
+        group.atomic = true;
+        group.force |= force;
         Report::default()
     }
 
+    /// "an accepted N turns it off", force, and a revoked group is so "until its next accepted N, which
+    /// reports trap 2".
     fn end_atomic(&mut self) -> Report {
-        self.running_group().atomic = false;
-        if self.is_buffered(self.running) {
-            Report::of_trap(Trap::AtomicityExtend)
-        } else {
-            Report::default()
+        let trap = self.trap_if_buffered(Trap::AtomicityExtend);
+        if self.queue.is_empty() && self.timer > 0 {
+            self.events.push(Event::TimerEnded);
         }
+        let group = self.running_group();
+        let revoked_alone = group.revoked && group.buffer.messages == 0;
+        group.atomic = false;
+        group.force = false;
+        group.revoked = false;
+        if revoked_alone {
+            self.events.push(Event::RevokedEnded);
+        }
+        Report::of_trap(trap)
     }
 
     fn describe(&mut self, word: u32) -> Report {
@@ -499,14 +559,25 @@ impl Node {
     /// buffered, that head moves"; returns how many did.
     fn settle(&mut self) -> u32 {
         let mut moved = 0;
-        while self.queue.front().is_some_and(|head| !self.may_stay(head)) {
+        while let Some(head) = self.queue.front().filter(|head| !self.may_stay(head)) {
+            let group = head.group;
+            if group == self.running && self.groups[group - 1].buffer.messages == 0 {
+                self.events.push(Event::RevokedMoved);
+            }
             self.buffer_head();
             moved += 1;
         }
-        if self.queue.is_empty() {
-            self.timer = 0;
-        }
+        self.settle_timer();
         moved
+    }
+
+    /// "If the queue is then empty, the timer is 0", but with force on "settling leaves the timer".
+    fn settle_timer(&mut self) {
+        if !self.timer_runs() {
+            self.timer = 0;
+        } else if self.queue.is_empty() && self.timer > 0 {
+            self.events.push(Event::TimerLeft);
+        }
     }
 
     fn may_stay(&self, head: &Message) -> bool {
@@ -554,7 +625,7 @@ impl Node {
         self.pages[swap] = self.pages[frame];
         self.trade(frame, swap);
         self.free.push_back(frame);
-        self.paging.push(Paging::SentOut);
+        self.events.push(Event::SentOut);
     }
 
     /// "once settling is done, a running group's first page"
@@ -575,22 +646,22 @@ impl Node {
         if page < FRAMES {
             return page;
         }
-        let (frame, paging) = match self.free.pop_front() {
+        let (frame, event) = match self.free.pop_front() {
             Some(frame) => {
                 self.pages[frame] = self.pages[page];
                 self.swap_free.push_back(page);
-                (frame, Paging::BroughtIn(cause))
+                (frame, Event::BroughtIn(cause))
             }
             None => {
                 let frame = self.left_by_victim();
                 self.pages.swap(frame, page);
-                (frame, Paging::Exchanged(cause))
+                (frame, Event::Exchanged(cause))
             }
         };
         self.trade(frame, page);
         self.entry.push_back(frame);
         count(&mut self.brought_in);
-        self.paging.push(paging);
+        self.events.push(event);
         frame
     }
 

@@ -38,7 +38,7 @@ fn number(field: &[u8]) -> Option<u32> {
 }
 
 /// The letters of the paper's table, each with its count of fields; "for A, any count of words is
-/// read".
+/// read". B has none or one, and of that order 2 says "any other field on B is 2".
 pub fn operation(letter: &[u8], numbers: &[u32]) -> Option<Operation> {
     Some(match (letter, numbers) {
         (b"A", &[group, ref words @ ..]) => Operation::Arrival {
@@ -50,7 +50,8 @@ pub fn operation(letter: &[u8], numbers: &[u32]) -> Option<Operation> {
         (b"M", []) => Operation::MessageLength,
         (b"E", &[index]) => Operation::MessageWord { index },
         (b"D", []) => Operation::Dispose,
-        (b"B", []) => Operation::BeginAtomic,
+        (b"B", [] | [0]) => Operation::BeginAtomic { force: false },
+        (b"B", [1]) => Operation::BeginAtomic { force: true },
         (b"N", []) => Operation::EndAtomic,
         (b"P", &[word]) => Operation::Describe { word },
         (b"L", &[node]) => Operation::Launch { node },

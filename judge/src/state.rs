@@ -85,11 +85,20 @@ fn padded(message: &Message) -> [u32; MESSAGE_WORDS] {
 }
 
 fn facts(group: &Group) -> String {
-    let [atomic, pending] = [group.atomic, group.pending].map(u32::from);
+    let flags = [
+        ("atomic", group.atomic),
+        ("pending", group.pending),
+        ("force", group.force),
+        ("revoked", group.revoked),
+    ];
+    let flags = flags.map(|(name, flag)| format!(" {name} {}", u32::from(flag)));
     let (h, n) = (group.buffer.used_up, group.buffer.messages);
     let pages = joined(group.buffer.pages.iter().map(|&page| page_name(page)));
     let descriptor = joined(&group.descriptor);
-    format!(" atomic {atomic} pending {pending} h {h} n {n} pages{pages} descriptor{descriptor}")
+    format!(
+        "{} h {h} n {n} pages{pages} descriptor{descriptor}",
+        flags.concat()
+    )
 }
 
 /// The letter of where a page is, and its number there.

@@ -93,7 +93,8 @@ pub fn taken_apart(operation: &Operation) -> (u8, Vec<u32>) {
         Operation::MessageLength => (b'M', vec![]),
         Operation::MessageWord { index } => (b'E', vec![index]),
         Operation::Dispose => (b'D', vec![]),
-        Operation::BeginAtomic => (b'B', vec![]),
+        Operation::BeginAtomic { force: false } => (b'B', vec![]),
+        Operation::BeginAtomic { force: true } => (b'B', vec![1]),
         Operation::EndAtomic => (b'N', vec![]),
         Operation::Describe { word } => (b'P', vec![word]),
         Operation::Launch { node } => (b'L', vec![node]),
@@ -123,6 +124,11 @@ fn fitting_numbers(random: &mut Random, letter: u8) -> Vec<u32> {
         b'T' => vec![within_or_any(random, 300)],
         b'L' => vec![within_or_any(random, 64)],
         b'P' => vec![any_number(random)],
+        b'B' => match random.between(1, 4) {
+            1 => vec![],
+            2 => vec![any_number(random)],
+            _ => vec![random.between(0, 1) as u32],
+        },
         _ => vec![],
     }
 }

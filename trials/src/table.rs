@@ -1,9 +1,9 @@
 //! What the memories have met: clauses of the memory test, places of the head message, counts of
-//! pages, answers and traps by operation, and what steps did with pages.
+//! pages, answers and traps by operation, and what else happened in steps.
 
 use std::fmt::{self, Display, Formatter};
 
-use judge::counts::PagingCounts;
+use judge::counts::EventCounts;
 use judge::memory::{clauses, PAGES_AT, SIZE};
 use judge::node::Operation;
 
@@ -63,7 +63,7 @@ pub struct Table {
     heads: [u64; HEADS.len()],
     counted: [u64; COUNTED.len()],
     rows: [Row; ROWS],
-    paging: PagingCounts,
+    events: EventCounts,
 }
 
 /// What so many memories of a seed meet, or the first difference. `each` is handed the number of every
@@ -114,7 +114,7 @@ impl Table {
                 if report.accepted() {
                     row.traps[report.trap as usize] += 1;
                 }
-                self.paging.add(report);
+                self.events.add(report);
             }
         }
     }
@@ -156,7 +156,7 @@ impl Table {
             .chain(rows.map(row_name))
             .chain(answers.map(|answer| format!("answer {answer}")))
             .chain(traps.map(|trap| format!("trap {trap}")))
-            .chain(self.paging.missing().map(str::to_string))
+            .chain(self.events.missing().map(str::to_string))
             .collect()
     }
 }
@@ -234,7 +234,7 @@ impl Display for Table {
             writeln!(f, "  {count:>wide$} {counted}")?;
         }
         writeln!(f, "in steps:")?;
-        for line in self.paging.lines(2 + wide) {
+        for line in self.events.lines(2 + wide) {
             writeln!(f, "{line}")?;
         }
         let sum = self.sum();

@@ -71,7 +71,8 @@ pub fn test(memory: &[u32]) -> u32 {
     unsafe { raw::fugu_test(memory.as_ptr(), memory.len()) }
 }
 
-/// One step: the operation by its letter and its numbers, for `A` the group and the words.
+/// One step: the operation by its letter and its numbers, for `A` the group and the words, for `B`
+/// none or one, 1 where it turns force on and 0 where it leaves it.
 pub fn step(memory: &mut [u32], letter: u8, arguments: &[u32], report: &mut [u32]) -> u32 {
     unsafe {
         raw::fugu_step(

@@ -29,7 +29,7 @@ pub use node::{Node, Paging};
 pub use report::{Report, Sent};
 
 /// The words of a node.
-pub const SIZE: usize = 8088;
+pub const SIZE: usize = 8104;
 
 /// The words of a report.
 pub const REPORT: usize = 16;

@@ -46,7 +46,8 @@ impl<M: AsRef<[u32]> + AsMut<[u32]>> Node<M> {
         calls::test(self.memory()) != 0
     }
 
-    /// One step: the operation by its letter and its numbers, for `A` the group and the words.
+    /// One step: the operation by its letter and its numbers, for `A` the group and the words, for
+    /// `B` none or one, 1 where it turns force on and 0 where it leaves it.
     pub fn step(&mut self, letter: u8, arguments: &[u32]) -> Report {
         reported(|report| calls::step(self.memory.as_mut(), letter, arguments, report))
     }

@@ -4,8 +4,9 @@ use std::fmt::{self, Display, Formatter};
 use std::ops::RangeInclusive;
 
 use super::map::{
-    group_at, what_stands_at, Words, ATOMIC, DESCRIPTOR_COUNT, ENTRY_COUNT, FREE_COUNT, LIST_AT,
-    LIST_COUNT, MESSAGES, PENDING, QUEUE_COUNT, RUNNING, SIZE, SWAP_COUNT, TIMER, USED_UP,
+    group_at, what_stands_at, Words, ATOMIC, DESCRIPTOR_COUNT, ENTRY_COUNT, FORCE, FREE_COUNT,
+    LIST_AT, LIST_COUNT, MESSAGES, PENDING, QUEUE_COUNT, REVOKED, RUNNING, SIZE, SWAP_COUNT, TIMER,
+    USED_UP,
 };
 use crate::node::{
     pages_for, DESCRIPTOR_WORDS, FRAMES, GROUPS, MESSAGE_WORDS, PAGES, PAGE_PLACES, QUEUE_PLACES,
@@ -16,10 +17,10 @@ use crate::node::{
 /// none if it holds.
 type Clause = (&'static str, fn(&Words) -> Vec<usize>);
 
-/// "Memory is a node when": the sentence clause by clause, in its order, and order 1's clauses each
+/// "Memory is a node when": the sentence clause by clause, in its order, and the orders' clauses each
 /// behind the one that it is like, the first page's last. Lengths come before the clauses that see to
 /// it that all waiting messages are found; a message that is not found breaks one of these.
-const CLAUSES: [Clause; 26] = [
+const CLAUSES: [Clause; 28] = [
     ("running is 0 to 8", running_in_bounds),
     ("counts are within the bounds", counts_in_bounds),
     ("groups are within the bounds", groups_in_bounds),
@@ -53,13 +54,18 @@ const CLAUSES: [Clause; 26] = [
         "pending only with atomic and a line not empty",
         pending_has_cause,
     ),
+    ("force stands only with atomic", force_in_section),
+    ("revoked stands only with atomic", revoked_in_section),
     (
         "a running group with a line not empty is atomic",
         runner_atomic,
     ),
     ("the queue's head is the running group's", head_is_runners),
     ("the group of the queue's head is direct", head_is_direct),
-    ("if the queue is empty the timer is 0", idle_timer_zero),
+    (
+        "an empty queue has a timer above 0 only where the running group has force on",
+        idle_timer_forced,
+    ),
     (
         "a running group's first page is in a frame",
         first_page_in_frame,
@@ -233,7 +239,7 @@ fn lists_rounded_up(words: &Words) -> Vec<usize> {
 }
 
 fn flags_are_bits(words: &Words) -> Vec<usize> {
-    let flags = records().flat_map(|at| [at + ATOMIC, at + PENDING]);
+    let flags = records().flat_map(|at| [ATOMIC, PENDING, FORCE, REVOKED].map(|flag| at + flag));
     outside(words, 0..=1, flags)
 }
 
@@ -292,6 +298,22 @@ fn pending_has_cause(words: &Words) -> Vec<usize> {
     })
 }
 
+fn force_in_section(words: &Words) -> Vec<usize> {
+    first_group(|group| {
+        let record = words.group(group);
+        let broken = record.force() == 1 && record.atomic() == 0;
+        broken.then_some([ATOMIC, FORCE])
+    })
+}
+
+fn revoked_in_section(words: &Words) -> Vec<usize> {
+    first_group(|group| {
+        let record = words.group(group);
+        let broken = record.revoked() == 1 && record.atomic() == 0;
+        broken.then_some([ATOMIC, REVOKED])
+    })
+}
+
 fn runner_atomic(words: &Words) -> Vec<usize> {
     let running = words.running();
     if running == 0 || words.line_is_empty(running) || words.group(running).atomic() == 1 {
@@ -307,22 +329,27 @@ fn head_is_runners(words: &Words) -> Vec<usize> {
     }
 }
 
+/// Direct is a group with no message in its buffer that is not revoked.
 fn head_is_direct(words: &Words) -> Vec<usize> {
     let Some(head) = words.queued().next() else {
         return Vec::new();
     };
-    let messages = group_at(words.0[head] as usize) + MESSAGES;
-    if words.0[messages] == 0 {
-        return Vec::new();
-    }
-    vec![head, messages]
+    let record = group_at(words.0[head] as usize);
+    let causes = [MESSAGES, REVOKED].map(|cause| record + cause);
+    let broken = causes.into_iter().find(|&cause| words.0[cause] > 0);
+    broken.map_or(Vec::new(), |cause| vec![head, cause])
 }
 
-fn idle_timer_zero(words: &Words) -> Vec<usize> {
-    if words.queue_count() > 0 || words.timer() == 0 {
+fn idle_timer_forced(words: &Words) -> Vec<usize> {
+    let running = words.running();
+    let force = (running > 0).then(|| group_at(running) + FORCE);
+    if words.queue_count() > 0 || words.timer() == 0 || force.is_some_and(|at| words.0[at] == 1) {
         return Vec::new();
     }
-    vec![TIMER, QUEUE_COUNT]
+    [TIMER, QUEUE_COUNT, RUNNING]
+        .into_iter()
+        .chain(force)
+        .collect()
 }
 
 fn first_page_in_frame(words: &Words) -> Vec<usize> {

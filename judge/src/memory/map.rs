@@ -32,11 +32,13 @@ pub const QUEUED_WORDS: usize = 1 + PLACE_WORDS;
 
 pub const ATOMIC: usize = 0;
 pub const PENDING: usize = 1;
-pub const USED_UP: usize = 2;
-pub const MESSAGES: usize = 3;
-pub const LIST_COUNT: usize = 4;
-pub const DESCRIPTOR_COUNT: usize = 5;
-pub const DESCRIPTOR_AT: usize = 6;
+pub const FORCE: usize = 2;
+pub const REVOKED: usize = 3;
+pub const USED_UP: usize = 4;
+pub const MESSAGES: usize = 5;
+pub const LIST_COUNT: usize = 6;
+pub const DESCRIPTOR_COUNT: usize = 7;
+pub const DESCRIPTOR_AT: usize = 8;
 pub const LIST_AT: usize = DESCRIPTOR_AT + DESCRIPTOR_WORDS;
 pub const GROUP_WORDS: usize = LIST_AT + PAGES;
 
@@ -116,6 +118,8 @@ fn record_word(word: usize) -> String {
     match word {
         ATOMIC => "atomic".to_string(),
         PENDING => "pending".to_string(),
+        FORCE => "force".to_string(),
+        REVOKED => "revoked".to_string(),
         USED_UP => "h".to_string(),
         MESSAGES => "n".to_string(),
         LIST_COUNT => "pages in the list".to_string(),
@@ -302,6 +306,14 @@ impl<'a> Record<'a> {
 
     pub fn pending(&self) -> u32 {
         self.0[PENDING]
+    }
+
+    pub fn force(&self) -> u32 {
+        self.0[FORCE]
+    }
+
+    pub fn revoked(&self) -> u32 {
+        self.0[REVOKED]
     }
 
     pub fn used_up(&self) -> u64 {

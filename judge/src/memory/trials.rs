@@ -4,8 +4,9 @@
 
 use super::map::{
     group_at, place_at, queued_at, Words, ATOMIC, BROUGHT_IN, DESCRIPTOR_COUNT, ENTRY_AT,
-    ENTRY_COUNT, FREE_AT, FREE_COUNT, LIST_AT, LIST_COUNT, MESSAGES, PAGES_AT, PENDING,
-    PLACE_WORDS, QUEUE_COUNT, RUNNING, SENT_OUT, SIZE, SWAP_AT, SWAP_COUNT, TIMER, USED_UP,
+    ENTRY_COUNT, FORCE, FREE_AT, FREE_COUNT, LIST_AT, LIST_COUNT, MESSAGES, PAGES_AT, PENDING,
+    PLACE_WORDS, QUEUE_COUNT, REVOKED, RUNNING, SENT_OUT, SIZE, SWAP_AT, SWAP_COUNT, TIMER,
+    USED_UP,
 };
 use super::words_of;
 use crate::generator::{Flavour, FLAVOURS};
@@ -110,7 +111,7 @@ pub struct Change {
     make: fn(&mut [u32], &mut Random),
 }
 
-pub static CHANGES: [Change; 23] = [
+pub static CHANGES: [Change; 25] = [
     Change {
         name: "the running group",
         make: |memory, random| change(memory, random, RUNNING, GROUPS),
@@ -138,6 +139,14 @@ pub static CHANGES: [Change; 23] = [
     Change {
         name: "flags",
         make: change_flag,
+    },
+    Change {
+        name: "the flags of a section",
+        make: change_section,
+    },
+    Change {
+        name: "a forced timer",
+        make: force_timer,
     },
     Change {
         name: "groups",
@@ -275,12 +284,28 @@ fn use_up_all(memory: &mut [u32], random: &mut Random) {
 }
 
 fn change_flag(memory: &mut [u32], random: &mut Random) {
-    let at = any_record(random) + random.pick(&[ATOMIC, PENDING]);
+    let at = any_record(random) + random.pick(&[ATOMIC, PENDING, FORCE, REVOKED]);
     if random.one_in(4) {
         change(memory, random, at, 1);
     } else {
         memory[at] ^= 1;
     }
+}
+
+/// Often the runner's; more often in a section than not.
+fn change_section(memory: &mut [u32], random: &mut Random) {
+    let record = group_at(runner_or_any(memory, random));
+    memory[record + ATOMIC] = (!random.one_in(4)).into();
+    memory[record + FORCE] = random.between(0, 1) as u32;
+    memory[record + REVOKED] = random.between(0, 1) as u32;
+}
+
+/// Of the runner or of a group that does not run, whose force leaves an idle timer at 0.
+fn force_timer(memory: &mut [u32], random: &mut Random) {
+    let record = group_at(runner_or_any(memory, random));
+    memory[record + ATOMIC] = 1;
+    memory[record + FORCE] = 1;
+    memory[TIMER] = below(random, TIMEOUT as usize) as u32;
 }
 
 fn change_group(memory: &mut [u32], random: &mut Random) {

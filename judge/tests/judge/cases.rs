@@ -1,4 +1,5 @@
-//! The cases of paper 01: the whole case, K1 to K8, and the edges after them.
+//! The cases of paper 01: the whole case, K1 to K8, and the edges after them, as the orders of paper 02
+//! have changed them.
 
 use crate::support::{listing, Case, ACCEPTED};
 
@@ -14,7 +15,7 @@ line,answer,value,trap,upcall,moved
 5,0,7,0,0,0
 6,0,0,3,0,2
 7,0,0,1,0,0
-8,0,0,0,0,0
+8,0,0,2,0,0
 9,0,0,0,2,0
 10,0,2,0,0,0
 11,0,0,1,0,0

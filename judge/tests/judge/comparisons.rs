@@ -177,8 +177,8 @@ fn compare_tells_what_was_met() {
     assert!(output.status.success(), "{}", text(&output.stderr));
     let told = text(&output.stdout);
     assert!(told.starts_with("answer"));
-    assert!(told.ends_with("\n48000 lines compared\n"));
-    assert_eq!(told.lines().count(), 1 + 11 + 1 + 5 + 1);
+    assert!(told.ends_with("\n52000 lines compared\n"));
+    assert_eq!(told.lines().count(), 1 + 11 + 1 + 5 + 7 + 1);
     assert!(text(&output.stderr).contains("mixed: 4000 of 4000 lines"));
 }
 

@@ -66,7 +66,7 @@ fn all_flavours_together_meet_everything() {
     assert_eq!(counts(&FLAVOURS).missing(), Vec::<String>::new());
 }
 
-/// Each flavour is there for some answers, traps and moves of pages; it meets them alone.
+/// Each flavour is there for some answers, traps and events; it meets them alone.
 #[test]
 fn each_flavour_meets_what_it_is_for() {
     let purposes = [
@@ -84,13 +84,20 @@ fn each_flavour_meets_what_it_is_for() {
         ),
         ("switches", "answer 14"),
         ("ticks", "answer 15, trap 3"),
+        (
+            "force",
+            "trap 1, trap 2, trap 3, timeouts with an empty queue, timeouts behind one of the same \
+             T, forced timers that settling left, forced timers that N took back, processors given \
+             to a group with force, messages moved for revoked alone, ends of an empty group revoked",
+        ),
         ("bad", "answer 2"),
         ("hogs", "answer 10, trap 3"),
         ("disposals", "answer 8, answer 9, trap 1, trap 2"),
         ("launches", "answer 11, answer 12, answer 13"),
         (
             "mixed",
-            "answer 2, answer 5, trap 1, trap 2, trap 3, pages sent out, first pages brought in",
+            "answer 2, answer 5, trap 1, trap 2, trap 3, pages sent out, first pages brought in, \
+             timeouts with an empty queue, messages moved for revoked alone",
         ),
     ];
     assert_eq!(purposes.len(), FLAVOURS.len());
@@ -105,10 +112,11 @@ fn each_flavour_meets_what_it_is_for() {
 #[test]
 fn nothing_met_is_all_missing() {
     let missing = Counts::default().missing();
-    assert_eq!(missing.len(), 14 + 4 + 5);
+    assert_eq!(missing.len(), 14 + 4 + 5 + 7);
     assert_eq!(missing[0], "answer 2");
     assert_eq!(missing[17], "trap 3");
     assert_eq!(missing[18], "pages sent out");
+    assert_eq!(missing[23], "timeouts with an empty queue");
 }
 
 #[test]

@@ -3,6 +3,7 @@
 
 mod cases;
 mod comparisons;
+mod forced;
 mod generator;
 mod memory;
 mod private_line;

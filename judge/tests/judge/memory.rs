@@ -2,7 +2,7 @@
 //! alone. The numbers of the map stand here a second time, as docs/MEMORY.md has them.
 
 use judge::memory::{self, broken_clause, clauses, head, head_part, paging, power_on, step};
-use judge::node::{Node, Operation, Refusal, Report};
+use judge::node::{Node, Operation, Refusal, Report, Trap};
 use judge::script;
 
 use crate::support;
@@ -13,32 +13,34 @@ const TIMER: usize = 1;
 const QUEUE_COUNT: usize = 2;
 const FREE_COUNT: usize = 3;
 const FREE: usize = 164;
-const SWAP_COUNT: usize = 7988;
-const ENTRY_COUNT: usize = 7989;
-const SENT_OUT: usize = 7990;
-const BROUGHT_IN: usize = 7991;
-const SWAP: usize = 7992;
-const ENTRY: usize = 8056;
+const SWAP_COUNT: usize = 8004;
+const ENTRY_COUNT: usize = 8005;
+const SENT_OUT: usize = 8006;
+const BROUGHT_IN: usize = 8007;
+const SWAP: usize = 8008;
+const ENTRY: usize = 8072;
 
 const ATOMIC: usize = 0;
 const PENDING: usize = 1;
-const USED_UP: usize = 2;
-const MESSAGES: usize = 3;
-const LIST_COUNT: usize = 4;
-const DESCRIPTOR_COUNT: usize = 5;
-const DESCRIPTOR: usize = 6;
-const LIST: usize = 14;
+const FORCE: usize = 2;
+const REVOKED: usize = 3;
+const USED_UP: usize = 4;
+const MESSAGES: usize = 5;
+const LIST_COUNT: usize = 6;
+const DESCRIPTOR_COUNT: usize = 7;
+const DESCRIPTOR: usize = 8;
+const LIST: usize = 16;
 
 fn queue(place: usize) -> usize {
     4 + 10 * place
 }
 
 fn record(group: usize) -> usize {
-    196 + 110 * (group - 1)
+    196 + 112 * (group - 1)
 }
 
 fn page(page: usize, place: usize) -> usize {
-    1076 + 72 * page + 9 * place
+    1092 + 72 * page + 9 * place
 }
 
 /// Running group 1 is direct with two messages in the queue and one of group 2 between them, the
@@ -95,9 +97,9 @@ fn take_last_swap(memory: &mut [u32], group: usize) -> usize {
 
 #[test]
 fn power_on_is_0_but_for_the_free_line_and_the_swap_line() {
-    let mut memory = vec![0xdead_beef; 8088];
+    let mut memory = vec![0xdead_beef; 8104];
     assert_eq!(power_on(&mut memory), 0);
-    let mut expected = vec![0; 8088];
+    let mut expected = vec![0; 8104];
     expected[FREE_COUNT] = 32;
     for place in 0..32 {
         expected[FREE + place] = place as u32;
@@ -113,15 +115,15 @@ fn power_on_is_0_but_for_the_free_line_and_the_swap_line() {
 
 #[test]
 fn each_number_stands_where_the_map_says() {
-    let mut expected = vec![0; 8088];
+    let mut expected = vec![0; 8104];
     let mut put = |at: usize, words: &[u32]| expected[at..at + words.len()].copy_from_slice(words);
     put(0, &[1, 5, 3, 30]);
     put(queue(0), &[1, 1, 7]);
     put(queue(1), &[2, 2, 5, 6]);
     put(queue(2), &[1, 3, 4, 4, 4]);
     put(FREE, &(2..32).collect::<Vec<u32>>());
-    put(record(1), &[1, 1, 0, 0, 0, 2, 9, 8]);
-    put(record(3), &[1, 0, 2, 8, 2, 0]);
+    put(record(1), &[1, 1, 0, 0, 0, 0, 0, 2, 9, 8]);
+    put(record(3), &[1, 0, 0, 0, 2, 8, 2, 0]);
     put(record(3) + LIST, &[0, 1]);
     put(page(0, 0), &[2, 10, 11]);
     put(page(0, 1), &[2, 20, 21]);
@@ -133,6 +135,16 @@ fn each_number_stands_where_the_map_says() {
     put(SWAP, &(32..96).collect::<Vec<u32>>());
     put(ENTRY, &[0, 1]);
     assert_eq!(busy(), expected);
+}
+
+#[test]
+fn the_flags_stand_where_the_map_says() {
+    let memory = memory_after("S,8 B,1 T,511 S,7 A,7,1 T,256");
+    assert_eq!(memory[record(8)..][..6], [1, 0, 1, 1, 0, 0]);
+    assert_eq!(memory[record(7)..][..6], [1, 1, 0, 1, 0, 1]);
+    assert_eq!(memory[TIMER], 0);
+    let memory = memory_after("S,8 B,1 T,511");
+    assert_eq!(memory[TIMER], 255);
 }
 
 #[test]
@@ -164,7 +176,7 @@ fn pages_in_swap_stand_where_the_map_says() {
 fn freed_words_and_kept_lengths_stay() {
     let memory = memory_after("A,1,7,8,9 S,1 D");
     assert_eq!(memory[page(0, 0)..][..9], [3, 7, 8, 9, 0, 0, 0, 0, 0]);
-    assert_eq!(memory[record(1)..][..6], [1, 0, 0, 0, 0, 0]);
+    assert_eq!(memory[record(1)..][..8], [1, 0, 0, 0, 0, 0, 0, 0]);
 }
 
 #[test]
@@ -195,10 +207,20 @@ fn a_frame_is_taken_from_the_front_and_freed_to_the_end() {
 fn a_used_up_frame_is_freed_while_messages_remain() {
     let script = format!("{}S,1 {}", "A,1,7 ".repeat(9), "D ".repeat(8));
     let memory = memory_after(&script);
-    assert_eq!(memory[record(1)..][..5], [1, 0, 0, 1, 1]);
+    assert_eq!(memory[record(1)..][..7], [1, 0, 0, 0, 0, 1, 1]);
     assert_eq!(memory[record(1) + LIST..][..2], [1, 0]);
     assert_eq!(memory[FREE + 30], 0);
     assert_eq!(memory[FREE_COUNT], 31);
+}
+
+const IDLE_TIMER: &str =
+    "an empty queue has a timer above 0 only where the running group has force on";
+
+/// Nothing in the hardware queue, and the timer as it was.
+fn empty_queue(m: &mut [u32]) {
+    m[QUEUE_COUNT] = 0;
+    m[queue(0)..queue(3)].fill(0);
+    m[record(1) + PENDING] = 0;
 }
 
 /// A change to the words of the busy and used node that breaks a clause.
@@ -288,6 +310,8 @@ const BREAKS: &[Break] = &[
     }),
     ("flags are 0 or 1", |m| m[record(1) + ATOMIC] = 2),
     ("flags are 0 or 1", |m| m[record(8) + PENDING] = 2),
+    ("flags are 0 or 1", |m| m[record(1) + FORCE] = 2),
+    ("flags are 0 or 1", |m| m[record(3) + REVOKED] = 2),
     ("unused places of the queue are 0", |m| m[queue(3)] = 1),
     ("unused places of the queue are 0", |m| m[queue(3) + 1] = 1),
     ("unused places of the queue are 0", |m| m[queue(15) + 9] = 1),
@@ -338,6 +362,18 @@ const BREAKS: &[Break] = &[
     ("pending only with atomic and a line not empty", |m| {
         m[record(1) + ATOMIC] = 0
     }),
+    ("force stands only with atomic", |m| {
+        m[record(5) + FORCE] = 1
+    }),
+    ("force stands only with atomic", |m| {
+        m[record(1)..][..3].copy_from_slice(&[0, 0, 1])
+    }),
+    ("revoked stands only with atomic", |m| {
+        m[record(5) + REVOKED] = 1
+    }),
+    ("revoked stands only with atomic", |m| {
+        m[record(3)..][..4].copy_from_slice(&[0, 0, 0, 1])
+    }),
     ("a running group with a line not empty is atomic", |m| {
         m[record(1)..][..2].copy_from_slice(&[0, 0])
     }),
@@ -352,10 +388,24 @@ const BREAKS: &[Break] = &[
         m[record(1) + MESSAGES] = 1;
         m[page(taken, 0)] = 1;
     }),
-    ("if the queue is empty the timer is 0", |m| {
-        m[QUEUE_COUNT] = 0;
-        m[queue(0)..queue(3)].fill(0);
-        m[record(1) + PENDING] = 0;
+    ("the group of the queue's head is direct", |m| {
+        m[record(1) + REVOKED] = 1
+    }),
+    (IDLE_TIMER, |m| empty_queue(m)),
+    (IDLE_TIMER, |m| {
+        empty_queue(m);
+        m[record(1) + REVOKED] = 1;
+        m[record(3) + FORCE] = 1;
+    }),
+    (IDLE_TIMER, |m| {
+        empty_queue(m);
+        m[record(1) + FORCE] = 1;
+        m[RUNNING] = 0;
+    }),
+    (IDLE_TIMER, |m| {
+        empty_queue(m);
+        m[record(1) + FORCE] = 1;
+        m[RUNNING] = 3;
     }),
 ];
 
@@ -368,8 +418,8 @@ fn each_clause_broken_is_answered_1_and_memory_untouched() {
     }
 }
 
-/// The paper's sentence, with its "within the bounds above" and its "0" said of each part, and order
-/// 1's clauses behind those that they are like.
+/// The paper's sentence, with its "within the bounds above" and its "0" said of each part, and the
+/// orders' clauses behind those that they are like.
 const SENTENCE: &str = "running is 0 to 8; counts are within the bounds; groups are within the \
     bounds; waiting messages' lengths are within the bounds; h is within the bounds; timer is \
     within the bounds; each frame stands once; each swap page stands once; the order of entry \
@@ -377,10 +427,11 @@ const SENTENCE: &str = "running is 0 to 8; counts are within the bounds; groups 
     places of the queue are 0; unused places of the free line are 0; unused places of the swap \
     line are 0; unused places of the order of entry are 0; unused places of the lists are 0; \
     unused descriptor words are 0; a waiting message's words past its length are 0; pledges sum \
-    to at most 96; h is 0 where n is 0; pending only with atomic and a line not empty; a running \
-    group with a line not empty is atomic; the queue's head is the running group's; the group of \
-    the queue's head is direct; if the queue is empty the timer is 0; a running group's first \
-    page is in a frame";
+    to at most 96; h is 0 where n is 0; pending only with atomic and a line not empty; force \
+    stands only with atomic; revoked stands only with atomic; a running group with a line not \
+    empty is atomic; the queue's head is the running group's; the group of the queue's head is \
+    direct; an empty queue has a timer above 0 only where the running group has force on; a \
+    running group's first page is in a frame";
 
 #[test]
 fn clauses_stand_in_the_papers_order() {
@@ -390,7 +441,7 @@ fn clauses_stand_in_the_papers_order() {
 /// Changes from the paper's last clause to its first, each told although all before it stand.
 #[test]
 fn of_broken_clauses_the_papers_first_is_told() {
-    let later_and_later: [Break; 21] = [
+    let later_and_later: [Break; 23] = [
         ("the group of the queue's head is direct", |m| {
             take_last_free(m, 1);
             m[record(1) + MESSAGES] = 1;
@@ -400,6 +451,12 @@ fn of_broken_clauses_the_papers_first_is_told() {
         }),
         ("a running group with a line not empty is atomic", |m| {
             m[record(3) + ATOMIC] = 0
+        }),
+        ("revoked stands only with atomic", |m| {
+            m[record(5) + REVOKED] = 1
+        }),
+        ("force stands only with atomic", |m| {
+            m[record(6) + FORCE] = 1
         }),
         ("pending only with atomic and a line not empty", |m| {
             m[record(3) + PENDING] = 1
@@ -462,12 +519,12 @@ fn a_broken_clause_is_told_with_addresses_and_values() {
         change(&mut memory);
         memory::read(&memory).expect_err("no node").to_string()
     };
-    let cases: [Break; 17] = [
+    let cases: [Break; 20] = [
         ("running is 0 to 8\n  word 0, the running group: 9", |m| {
             m[RUNNING] = 9
         }),
         (
-            "counts are within the bounds\n  word 971, words in the descriptor of group 8: 9",
+            "counts are within the bounds\n  word 987, words in the descriptor of group 8: 9",
             |m| m[record(8) + DESCRIPTOR_COUNT] = 9,
         ),
         (
@@ -475,12 +532,12 @@ fn a_broken_clause_is_told_with_addresses_and_values() {
             |m| m[queue(2)] = 9,
         ),
         (
-            "waiting messages' lengths are within the bounds\n  word 1157, length at place 1 of \
+            "waiting messages' lengths are within the bounds\n  word 1173, length at place 1 of \
              frame 1: 9",
             |m| m[page(1, 1)] = 9,
         ),
         (
-            "each frame stands once\n  word 430, place 0 of the list of group 3: 1\n  word 431, \
+            "each frame stands once\n  word 436, place 0 of the list of group 3: 1\n  word 437, \
              place 1 of the list of group 3: 1",
             |m| m[record(3) + LIST] = 1,
         ),
@@ -489,20 +546,20 @@ fn a_broken_clause_is_told_with_addresses_and_values() {
             |m| m[FREE] = 32,
         ),
         (
-            "each frame stands once\n  word 3, frames in the free line: 29\n  word 200, pages in \
-             the list of group 1: 0\n  word 310, pages in the list of group 2: 0\n  word 420, \
-             pages in the list of group 3: 2\n  word 530, pages in the list of group 4: 0\n  \
-             word 640, pages in the list of group 5: 0\n  word 750, pages in the list of group \
-             6: 0\n  word 860, pages in the list of group 7: 0\n  word 970, pages in the list \
+            "each frame stands once\n  word 3, frames in the free line: 29\n  word 202, pages in \
+             the list of group 1: 0\n  word 314, pages in the list of group 2: 0\n  word 426, \
+             pages in the list of group 3: 2\n  word 538, pages in the list of group 4: 0\n  \
+             word 650, pages in the list of group 5: 0\n  word 762, pages in the list of group \
+             6: 0\n  word 874, pages in the list of group 7: 0\n  word 986, pages in the list \
              of group 8: 0",
             |m| m[FREE_COUNT] = 29,
         ),
         (
-            "each swap page stands once\n  word 7992, place 0 of the swap line: 31",
+            "each swap page stands once\n  word 8008, place 0 of the swap line: 31",
             |m| m[SWAP] = 31,
         ),
         (
-            "each swap page stands once\n  word 7996, place 4 of the swap line: 36\n  word 432, \
+            "each swap page stands once\n  word 8012, place 4 of the swap line: 36\n  word 438, \
              place 2 of the list of group 3: 36",
             |m| {
                 take_last_swap(m, 3);
@@ -510,17 +567,17 @@ fn a_broken_clause_is_told_with_addresses_and_values() {
             },
         ),
         (
-            "the order of entry holds each frame in use once\n  word 8057, place 1 of the order \
+            "the order of entry holds each frame in use once\n  word 8073, place 1 of the order \
              of entry: 2",
             |m| m[ENTRY + 1] = 2,
         ),
         (
-            "the order of entry holds each frame in use once\n  word 7989, frames in the order of \
+            "the order of entry holds each frame in use once\n  word 8005, frames in the order of \
              entry: 1",
             |m| m[ENTRY_COUNT] = 1,
         ),
         (
-            "waiting messages' lengths are within the bounds\n  word 7916, length at place 0 of \
+            "waiting messages' lengths are within the bounds\n  word 7932, length at place 0 of \
              swap page 63: 9",
             |m| {
                 take_last_swap(m, 3);
@@ -529,18 +586,34 @@ fn a_broken_clause_is_told_with_addresses_and_values() {
             },
         ),
         (
-            "each list has its rounded-up length\n  word 418, h of group 3: 2\n  word 419, n of \
-             group 3: 15\n  word 420, pages in the list of group 3: 2",
+            "each list has its rounded-up length\n  word 424, h of group 3: 2\n  word 425, n of \
+             group 3: 15\n  word 426, pages in the list of group 3: 2",
             |m| m[record(3) + MESSAGES] = 15,
         ),
         (
-            "unused descriptor words are 0\n  word 204, descriptor word 2 of group 1: 1",
+            "unused descriptor words are 0\n  word 206, descriptor word 2 of group 1: 1",
             |m| m[record(1) + DESCRIPTOR + 2] = 1,
         ),
         (
-            "pending only with atomic and a line not empty\n  word 416, atomic of group 3: 0\n  \
-             word 417, pending of group 3: 1\n  word 419, n of group 3: 8",
+            "pending only with atomic and a line not empty\n  word 420, atomic of group 3: 0\n  \
+             word 421, pending of group 3: 1\n  word 425, n of group 3: 8",
             |m| m[record(3)..][..2].copy_from_slice(&[0, 1]),
+        ),
+        (
+            "force stands only with atomic\n  word 644, atomic of group 5: 0\n  word 646, force of \
+             group 5: 1",
+            |m| m[record(5) + FORCE] = 1,
+        ),
+        (
+            "the group of the queue's head is direct\n  word 4, group at place 0 of the hardware \
+             queue: 1\n  word 199, revoked of group 1: 1",
+            |m| m[record(1) + REVOKED] = 1,
+        ),
+        (
+            "an empty queue has a timer above 0 only where the running group has force on\n  word 1, \
+             the timer: 5\n  word 2, messages in the hardware queue: 0\n  word 0, the running \
+             group: 1\n  word 198, force of group 1: 0",
+            |m| empty_queue(m),
         ),
         (
             "the queue's head is the running group's\n  word 0, the running group: 4\n  word 4, \
@@ -582,7 +655,7 @@ fn a_running_group_whose_first_page_is_out_is_answered_1() {
     let told = memory::read(&memory).expect_err("no node").to_string();
     assert!(
         told.ends_with(
-            "word 0, the running group: 2\n  word 320, place 0 of the list of group 2: 32"
+            "word 0, the running group: 2\n  word 324, place 0 of the list of group 2: 32"
         ),
         "{told}"
     );
@@ -610,7 +683,7 @@ fn expect_no_node(memory: &[u32], clause: &str) {
     assert!(head(memory).is_empty(), "{clause}");
     assert_eq!(paging(memory), [0, 0], "{clause}");
     for line in [
-        "A,1,7", "S,2", "T,1", "M", "E,0", "D", "B", "N", "P,1", "L,0", "?", "S,9",
+        "A,1,7", "S,2", "T,1", "M", "E,0", "D", "B", "B,1", "N", "P,1", "L,0", "?", "S,9",
     ] {
         let mut after = memory.to_vec();
         let report = step(&mut after, &script::read(line.as_bytes()));
@@ -644,7 +717,7 @@ fn power_on_makes_a_node_of_what_is_none() {
 
 #[test]
 fn memory_too_short_is_answered_1_and_untouched() {
-    for size in [0, 1, 2868, 8087] {
+    for size in [0, 1, 2868, 8088, 8103] {
         let mut memory = busy()[..size].to_vec();
         assert_eq!(power_on(&mut memory), 1);
         expect_no_node(&memory, "memory too short");
@@ -655,12 +728,12 @@ fn memory_too_short_is_answered_1_and_untouched() {
 #[test]
 fn memory_past_the_nodes_size_is_neither_looked_at_nor_touched() {
     let rest = [0xdead_beef, 1, 2, 3];
-    let mut memory = [vec![7; 8088], rest.to_vec()].concat();
+    let mut memory = [vec![7; 8104], rest.to_vec()].concat();
     assert_eq!(power_on(&mut memory), 0);
     let mut node = Node::power_on();
     for operation in random_runs(1, 60).flatten() {
         assert_eq!(step(&mut memory, &operation), node.step(&operation));
-        assert_eq!(memory[8088..], rest);
+        assert_eq!(memory[8104..], rest);
     }
 }
 
@@ -687,6 +760,30 @@ fn flags_of_groups_that_do_not_run_are_free_where_the_rules_leave_them() {
     memory[record(5) + ATOMIC] = 1;
     // Group 2 has a message in the queue only: that is a line not empty.
     memory[record(2)..][..2].copy_from_slice(&[1, 1]);
+    assert_eq!(broken_clause(&memory), None);
+    // Force and revoked ask for atomic and nothing else.
+    for group in [2, 3, 5] {
+        memory[record(group) + FORCE..][..2].copy_from_slice(&[1, 1]);
+    }
+    assert_eq!(broken_clause(&memory), None);
+    memory[record(1) + FORCE] = 1;
+    assert_eq!(broken_clause(&memory), None);
+}
+
+#[test]
+fn a_timer_with_an_empty_queue_is_the_forced_runners() {
+    let mut memory = busy();
+    empty_queue(&mut memory);
+    assert_eq!(broken_clause(&memory), Some(IDLE_TIMER));
+    memory[record(1) + FORCE] = 1;
+    assert_eq!(broken_clause(&memory), None);
+    memory[record(1) + REVOKED] = 1;
+    assert_eq!(broken_clause(&memory), None);
+    memory[TIMER] = 255;
+    assert_eq!(broken_clause(&memory), None);
+    let report = step(&mut memory, &script::read(b"T,1"));
+    assert_eq!((report.trap, report.moved), (Trap::Timeout, 0));
+    memory[record(1) + FORCE] = 0;
     assert_eq!(broken_clause(&memory), None);
 }
 

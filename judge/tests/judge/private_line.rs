@@ -119,7 +119,8 @@ impl PrivateLine {
                     Answer::default()
                 }
             },
-            Operation::BeginAtomic => {
+            // "B: atomic on", whatever its field.
+            Operation::BeginAtomic { .. } => {
                 self.atomic = true;
                 Answer::default()
             }

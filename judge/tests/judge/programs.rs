@@ -171,13 +171,13 @@ fn judge_tells_why_a_file_holds_no_node() {
     memory[1] = 256;
     let ragged = [whole.as_slice(), &[0]].concat();
     let cases: [(&str, &[u8], &str); 4] = [
-        ("empty", &[], "memory too short: 0 words, a node has 8088"),
+        ("empty", &[], "memory too short: 0 words, a node has 8104"),
         (
             "short",
-            &whole[..32_351],
-            "memory too short: 8087 words, a node has 8088",
+            &whole[..32_415],
+            "memory too short: 8103 words, a node has 8104",
         ),
-        ("ragged", &ragged, "the last word is cut short: 32353 bytes"),
+        ("ragged", &ragged, "the last word is cut short: 32417 bytes"),
         (
             "damaged",
             &bytes(&memory),
@@ -222,7 +222,8 @@ fn scripts_lists_its_flavours() {
         .lines()
         .filter_map(|line| line.split(' ').next())
         .collect();
-    let names = "uniform arrivals swap swaptime switches ticks bad hogs disposals launches mixed";
+    let names =
+        "uniform arrivals swap swaptime switches ticks force bad hogs disposals launches mixed";
     for name in names.split(' ') {
         assert!(named.contains(&name), "{name}");
     }
@@ -233,7 +234,7 @@ fn scripts_counts_and_names_what_is_missing() {
     let enough = scripts("--counts 1 2000");
     assert!(enough.status.success(), "{}", text(&enough.stderr));
     assert!(text(&enough.stdout).starts_with("answer"));
-    assert_eq!(text(&enough.stdout).lines().count(), 1 + 11 + 1 + 5);
+    assert_eq!(text(&enough.stdout).lines().count(), 1 + 11 + 1 + 5 + 7);
 
     let few = scripts("--counts 1 1");
     assert_eq!(few.status.code(), Some(1));

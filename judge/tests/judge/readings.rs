@@ -29,7 +29,7 @@ fn a_bad_number_in_an_arrival_comes_before_its_refusals() {
 #[test]
 fn a_wrong_count_of_fields_is_unreadable() {
     let mut case = Case::new().quiet("S,1");
-    for line in "S S,1,2 T T,1,2 M,1 E E,0,0 D,1 B,1 N,1 P P,1,2 L L,1,2".split(' ') {
+    for line in "S S,1,2 T T,1,2 M,1 E E,0,0 D,1 B,1,1 N,1 P P,1,2 L L,1,2".split(' ') {
         case = case.line(line, UNREADABLE);
     }
     case.check();
@@ -166,14 +166,15 @@ fn the_last_buffered_dispose_has_its_trap() {
 }
 
 #[test]
-fn one_step_of_ticks_has_at_most_one_timeout() {
+fn one_step_of_ticks_has_at_most_one_timeout_without_force() {
     Case::new()
         .quiet("S,1 B A,1,7 A,1,8")
         .line("T,65535", "0,0,3,0,2")
         .line("T,65535", ACCEPTED)
         .line("D", "0,0,1,0,0")
         .line("D", "0,0,1,0,0")
-        .quiet("A,1,9 T,255")
+        .line("N", "0,0,2,0,0")
+        .quiet("B A,1,9 T,255")
         .line("T,1", "0,0,3,0,1")
         .check();
 }

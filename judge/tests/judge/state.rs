@@ -22,7 +22,8 @@ fn state_of(memory: &[u32]) -> String {
 
 /// The groups from one to another as they are at power-on.
 fn idle(first: usize, last: usize) -> String {
-    let group = |g| format!("group {g} atomic 0 pending 0 h 0 n 0 pages descriptor\n");
+    let flags = "atomic 0 pending 0 force 0 revoked 0";
+    let group = |g| format!("group {g} {flags} h 0 n 0 pages descriptor\n");
     (first..=last).map(group).collect()
 }
 
@@ -49,8 +50,8 @@ fn the_whole_case() {
 #[test]
 fn every_fact_has_its_place() {
     let memory = memory_after(
-        "A,3,10,11 A,3,20 A,4,4294967295 A,3,3 A,3,4 A,3,5 A,3,6 A,3,7 A,3,8 A,3,9 S,3 D D S,1 P,9 \
-         P,8 A,1,7 A,2,5,6 A,1,4,4,4 T,5",
+        "A,3,10,11 A,3,20 A,4,4294967295 A,3,3 A,3,4 A,3,5 A,3,6 A,3,7 A,3,8 A,3,9 S,3 D D S,5 B,1 \
+         S,6 B A,6,1 T,256 D S,1 P,9 P,8 A,1,7 A,2,5,6 A,1,4,4,4 T,5",
     );
     let expected = format!(
         "\
@@ -63,9 +64,11 @@ free{}
 entry 0 1 2
 swap-free{}
 out 0 in 0
-group 1 atomic 1 pending 1 h 0 n 0 pages descriptor 9 8
-{}group 3 atomic 1 pending 0 h 2 n 7 pages f0 f2 descriptor
-group 4 atomic 0 pending 0 h 0 n 1 pages f1 descriptor
+group 1 atomic 1 pending 1 force 0 revoked 0 h 0 n 0 pages descriptor 9 8
+{}group 3 atomic 1 pending 0 force 0 revoked 0 h 2 n 7 pages f0 f2 descriptor
+group 4 atomic 0 pending 0 force 0 revoked 0 h 0 n 1 pages f1 descriptor
+group 5 atomic 1 pending 0 force 1 revoked 0 h 0 n 0 pages descriptor
+group 6 atomic 1 pending 0 force 0 revoked 1 h 0 n 0 pages descriptor
 {}f0 place 0 length 2 words 10 11 0 0 0 0 0 0
 f0 place 1 length 1 words 20 0 0 0 0 0 0 0
 f0 place 2 length 1 words 3 0 0 0 0 0 0 0
@@ -76,11 +79,12 @@ f0 place 6 length 1 words 7 0 0 0 0 0 0 0
 f0 place 7 length 1 words 8 0 0 0 0 0 0 0
 f1 place 0 length 1 words 4294967295 0 0 0 0 0 0 0
 f2 place 0 length 1 words 9 0 0 0 0 0 0 0
+f3 place 0 length 1 words 1 0 0 0 0 0 0 0
 ",
-        numbers(3, 31),
+        numbers(4, 31) + " 3",
         numbers(0, 63),
         idle(2, 2),
-        idle(5, 8)
+        idle(7, 8)
     );
     assert_eq!(state_of(&memory), expected);
 }
@@ -101,7 +105,8 @@ fn a_page_is_told_by_where_it_is() {
     assert_eq!(lines[3], format!("entry{} 0", numbers(1, 31)));
     assert_eq!(lines[4], format!("swap-free{}", numbers(1, 63)));
     assert_eq!(lines[5], "out 1 in 0");
-    assert!(lines[13].starts_with("group 8 atomic 0 pending 0 h 0 n 257 pages s0 f1 f2 "));
+    assert!(lines[13]
+        .starts_with("group 8 atomic 0 pending 0 force 0 revoked 0 h 0 n 257 pages s0 f1 "));
     assert!(lines[13].ends_with(" f30 f31 f0 descriptor"));
     assert_eq!(
         *lines.last().expect("a line"),
@@ -113,9 +118,9 @@ fn a_page_is_told_by_where_it_is() {
 #[test]
 fn a_place_is_told_for_any_of_its_words() {
     let mut memory = power_on();
-    memory[1076 + 72 * 5 + 9 * 3 + 8] = 1;
-    memory[1076 + 72 * 31 + 9 * 7] = 77;
-    memory[1076 + 72 * 95 + 9 * 7 + 1] = 5;
+    memory[1092 + 72 * 5 + 9 * 3 + 8] = 1;
+    memory[1092 + 72 * 31 + 9 * 7] = 77;
+    memory[1092 + 72 * 95 + 9 * 7 + 1] = 5;
     let expected = "f5 place 3 length 0 words 0 0 0 0 0 0 0 1\n\
                     f31 place 7 length 77 words 0 0 0 0 0 0 0 0\n\
                     s63 place 7 length 0 words 5 0 0 0 0 0 0 0\n";
@@ -134,7 +139,7 @@ fn memory_of(script: &[u8]) -> Vec<u32> {
 /// The scripts of vectors/.
 fn vectors() -> Vec<PathBuf> {
     let vectors = Path::new(env!("CARGO_MANIFEST_DIR")).join("../vectors");
-    let folders = ["base", "order1"].map(|name| vectors.join(name));
+    let folders = ["base", "order1", "order2"].map(|name| vectors.join(name));
     let entries = folders.map(|folder| fs::read_dir(folder).expect("a folder"));
     let paths = entries.into_iter().flatten();
     let paths = paths.map(|entry| entry.expect("an entry").path());
@@ -158,7 +163,7 @@ fn memories_after_every_script_read_back_to_the_same_state() {
             states += 1;
         }
     }
-    assert!(states >= 27, "{states}");
+    assert!(states >= 54, "{states}");
 }
 
 #[test]
@@ -182,10 +187,10 @@ fn a_file_shorter_than_a_node_is_told_by_its_words() {
         (1, 0),
         (3, 0),
         (4, 1),
-        (32_348, 8087),
-        (32_351, 8087),
+        (32_412, 8103),
+        (32_415, 8103),
     ] {
-        let told = format!("memory too short: {words} words, a node has 8088");
+        let told = format!("memory too short: {words} words, a node has 8104");
         assert_eq!(read(&whole[..length]), Err(told));
     }
 }
@@ -194,7 +199,7 @@ fn a_file_shorter_than_a_node_is_told_by_its_words() {
 fn a_longer_file_is_a_node_by_its_first_words() {
     let memory = memory_after("A,1,7 S,1");
     let node = read(&bytes(&memory)).expect("a node");
-    for past in [1, 2, 8088, 100_000] {
+    for past in [1, 2, 8104, 100_000] {
         let longer = [memory.clone(), vec![u32::MAX; past]].concat();
         assert_eq!(read(&bytes(&longer)).as_ref(), Ok(&node));
     }
@@ -203,7 +208,7 @@ fn a_longer_file_is_a_node_by_its_first_words() {
 #[test]
 fn a_file_with_a_ragged_end_is_no_node() {
     let memory = [power_on(), vec![7; 3]].concat();
-    for length in [32_353, 32_355, 32_357, 32_363] {
+    for length in [32_417, 32_419, 32_421, 32_427] {
         let told = format!("the last word is cut short: {length} bytes");
         assert_eq!(read(&bytes(&memory)[..length]), Err(told));
     }

@@ -7,7 +7,7 @@ use judge::memory::{self, broken_clause, clauses, head, step};
 use judge::node::{Node, Operation, Refusal, Report};
 use judge::random::Random;
 
-const SIZE: usize = 8088;
+const SIZE: usize = 8104;
 
 #[test]
 fn a_seed_fixes_memories_and_operations() {
@@ -42,7 +42,7 @@ type Kind = (&'static str, fn(&Node) -> bool);
 /// Nodes, and among them those that are hard to reach.
 #[test]
 fn reachable_memories_are_nodes_of_every_kind() {
-    let kinds: [Kind; 10] = [
+    let kinds: [Kind; 14] = [
         ("power-on", |node| *node == Node::power_on()),
         ("no frame free", |node| node.free.is_empty()),
         ("no page free", |node| {
@@ -65,6 +65,21 @@ fn reachable_memories_are_nodes_of_every_kind() {
         }),
         ("a full queue", |node| node.queue.len() == 16),
         ("a timer that counts", |node| node.timer > 0),
+        ("a timer that counts with an empty queue", |node| {
+            node.timer > 0 && node.queue.is_empty()
+        }),
+        ("force while another runs", |node| {
+            let mut groups = node.groups.iter().zip(1..);
+            groups.any(|(group, number)| group.force && number != node.running)
+        }),
+        ("a revoked runner with nothing in its buffer", |node| {
+            let runner = node.running.checked_sub(1).map(|at| &node.groups[at]);
+            runner.is_some_and(|group| group.revoked && group.buffer.messages == 0)
+        }),
+        ("a queued message behind a revoked group's", |node| {
+            let mut queued = node.queue.iter();
+            queued.any(|message| node.groups[message.group - 1].revoked)
+        }),
         ("used-up places", |node| {
             node.groups.iter().any(|group| group.buffer.used_up > 0)
         }),
@@ -72,7 +87,7 @@ fn reachable_memories_are_nodes_of_every_kind() {
             node.groups.iter().any(|group| group.descriptor.len() == 8)
         }),
     ];
-    let mut met = [0; 10];
+    let mut met = [0; 14];
     let mut random = Random::new(1);
     for _ in 0..1000 {
         let node = memory::read(&reachable(&mut random)).expect("a node");
@@ -126,7 +141,7 @@ fn made_by(change: &Change, nodes: &[Vec<u32>]) -> BTreeMap<&'static str, usize>
 }
 
 /// What each change makes of nodes, beside other things.
-const PURPOSES: [(&str, &str); 23] = [
+const PURPOSES: [(&str, &str); 25] = [
     (
         "the running group",
         "a node; running is 0 to 8; the queue's head is the running group's; a running group's \
@@ -134,7 +149,8 @@ const PURPOSES: [(&str, &str); 23] = [
     ),
     (
         "the timer",
-        "a node; timer is within the bounds; if the queue is empty the timer is 0",
+        "a node; timer is within the bounds; an empty queue has a timer above 0 only where the \
+         running group has force on",
     ),
     (
         "counts",
@@ -152,8 +168,19 @@ const PURPOSES: [(&str, &str); 23] = [
     ("used-up places and no message", "h is 0 where n is 0"),
     (
         "flags",
-        "a node; flags are 0 or 1; pending only with atomic and a line not empty; a running group \
-         with a line not empty is atomic",
+        "a node; flags are 0 or 1; pending only with atomic and a line not empty; force stands only \
+         with atomic; revoked stands only with atomic; a running group with a line not empty is \
+         atomic",
+    ),
+    (
+        "the flags of a section",
+        "a node; force stands only with atomic; revoked stands only with atomic; the group of the \
+         queue's head is direct; an empty queue has a timer above 0 only where the running group \
+         has force on",
+    ),
+    (
+        "a forced timer",
+        "a node; an empty queue has a timer above 0 only where the running group has force on",
     ),
     (
         "groups",

@@ -24,6 +24,7 @@ fn a_seed_fixes_the_memories() {
 #[test]
 fn each_edge_is_asked_for() {
     let mut met = HashSet::new();
+    let mut forced = HashSet::new();
     let mut words = BTreeSet::new();
     for trial in Memories::new(1).take(20_000) {
         let by_line = matches!(trial.asked, Asked::Line(_));
@@ -31,6 +32,9 @@ fn each_edge_is_asked_for() {
             continue;
         };
         let (letter, numbers) = taken_apart(&operation);
+        if let Operation::BeginAtomic { force } = operation {
+            forced.insert((by_line, force));
+        }
         if letter == b'A' {
             words.insert((by_line, numbers.len() - 1));
         }
@@ -45,6 +49,7 @@ fn each_edge_is_asked_for() {
             }
         }
         assert!((0..=9).all(|count| words.contains(&(by_line, count))));
+        assert!([false, true].map(|force| forced.contains(&(by_line, force))) == [true, true]);
     }
 }
 
@@ -52,9 +57,13 @@ fn each_edge_is_asked_for() {
 fn letters_and_counts_of_no_operation_are_asked_for() {
     let mut letters = HashSet::new();
     let mut counts = HashSet::new();
+    let mut fields = HashSet::new();
     for trial in Memories::new(1).take(20_000) {
         let unknown = trial.asked.operation() == Some(Operation::Unknown);
         if let Asked::Step(letter, numbers) = trial.asked {
+            if let (true, b'B', &[field]) = (unknown, letter, &numbers[..]) {
+                fields.insert(field);
+            }
             if unknown && b"ASTMEDBNPL".contains(&letter) {
                 counts.insert((letter, numbers.len()));
             } else if unknown {
@@ -67,6 +76,10 @@ fn letters_and_counts_of_no_operation_are_asked_for() {
         assert!(counts.contains(&(letter, 2)), "{letter}");
     }
     assert!(counts.contains(&(b'A', 0)));
+    // B takes one number, but 0 and 1 alone.
+    assert!(EDGES[2..].iter().all(|field| fields.contains(field)));
+    assert!((2..=9).all(|field| fields.contains(&field)));
+    assert!(!fields.contains(&0) && !fields.contains(&1));
 }
 
 #[test]
@@ -93,7 +106,7 @@ fn an_operation_is_asked_for_by_its_letter() {
 #[test]
 fn a_table_knows_what_it_has_not_met() {
     let mut table = Table::default();
-    let all = 27 + 3 + 3 + 23 + 16 + 4 + 5;
+    let all = 29 + 3 + 3 + 23 + 16 + 4 + 5 + 7;
     assert_eq!(table.not_met().len(), all);
     let trial = Trial {
         memory: vec![],

@@ -145,7 +145,7 @@ fn a_frame_cleared_when_it_is_freed() {
     let wrong = memory(|_, before, after| {
         if Proved.test(before) == 1 && after[3] > before[3] {
             let frame = after[164 + before[3] as usize] as usize;
-            after[1076 + 72 * frame..][..72].fill(0);
+            after[1092 + 72 * frame..][..72].fill(0);
         }
     });
     found(wrong, "the memory after it differs\n  word ");
@@ -261,20 +261,20 @@ fn each_count_of_pages() {
 fn sent_out(asked: &Asked, before: &[u32], after: &[u32]) -> bool {
     *asked != Asked::PowerOn
         && before.len() >= SIZE
-        && before[7989] == after[7989]
-        && before[8056..SIZE] != after[8056..SIZE]
+        && before[8005] == after[8005]
+        && before[8072..SIZE] != after[8072..SIZE]
 }
 
 #[test]
 fn a_count_that_begins_anew_behind_its_largest_number() {
     let wrong = memory(|asked, before, after| {
-        if sent_out(asked, before, after) && before[7990] == u32::MAX {
-            after[7990] = 0;
+        if sent_out(asked, before, after) && before[8006] == u32::MAX {
+            after[8006] = 0;
         }
     });
     found(
         wrong,
-        "the memory after it differs\n  word 7990, pages sent out: judge 4294967295, library 0",
+        "the memory after it differs\n  word 8006, pages sent out: judge 4294967295, library 0",
     );
 }
 
@@ -282,12 +282,12 @@ fn a_count_that_begins_anew_behind_its_largest_number() {
 fn a_frame_that_does_not_enter_last() {
     let wrong = memory(|asked, before, after| {
         if sent_out(asked, before, after) {
-            after[8056..SIZE].copy_from_slice(&before[8056..SIZE]);
+            after[8072..SIZE].copy_from_slice(&before[8072..SIZE]);
         }
     });
     found(
         wrong,
-        "the memory after it differs\n  word 8056, place 0 of",
+        "the memory after it differs\n  word 8072, place 0 of",
     );
 }
 
@@ -309,18 +309,108 @@ fn a_test_that_refuses_a_node() {
     found(wrong, "fugu_test differs\n  verdict: judge 1, library 0");
 }
 
-/// One clause left out, and no other: that an empty queue's timer is 0.
-#[test]
-fn a_test_that_forgets_a_clause() {
+/// A test that forgets what is mended before it, and asks all else.
+fn a_test_without(mend: impl Fn(&mut [u32]) + 'static) {
     let wrong = Wrong {
-        verdict: Box::new(|memory, verdict| {
-            let mut memory = memory.to_vec();
-            if let [_, timer, 0, ..] = &mut memory[..] {
-                *timer = 0;
+        verdict: Box::new(move |memory, verdict| {
+            let mut mended = memory.to_vec();
+            if mended.len() >= SIZE {
+                mend(&mut mended);
             }
-            verdict | Proved.test(&memory)
+            verdict | Proved.test(&mended)
         }),
         ..right()
     };
     found(wrong, "fugu_test differs\n  verdict: judge 0, library 1");
+}
+
+/// A flag of a group's record: its address.
+fn flag_at(group: usize, flag: usize) -> usize {
+    196 + 112 * (group - 1) + flag
+}
+
+const ATOMIC: usize = 0;
+const FORCE: usize = 2;
+const REVOKED: usize = 3;
+
+#[test]
+fn a_test_that_forgets_the_idle_timer() {
+    a_test_without(|memory| {
+        if memory[2] == 0 {
+            memory[1] = 0;
+        }
+    });
+}
+
+#[test]
+fn a_test_that_forgets_that_force_or_revoked_asks_for_atomic() {
+    for flag in [FORCE, REVOKED] {
+        a_test_without(move |memory| {
+            for group in 1..=8 {
+                let stands = memory[flag_at(group, flag)] == 1;
+                if stands && memory[flag_at(group, ATOMIC)] == 0 {
+                    memory[flag_at(group, flag)] = 0;
+                }
+            }
+        });
+    }
+}
+
+#[test]
+fn a_test_that_takes_a_revoked_group_for_direct() {
+    a_test_without(|memory| {
+        if memory[2] > 0 && (1..=8).contains(&memory[0]) {
+            memory[flag_at(memory[0] as usize, REVOKED)] = 0;
+        }
+    });
+}
+
+/// A step of this letter that is wrong in a word is found, and told by what stands there.
+fn a_step_with(letter: u8, told: &str, change: impl Fn(usize, &[u32], &mut [u32]) + 'static) {
+    let wrong = memory(move |asked, before, after| {
+        let is_one = matches!(asked, Asked::Step(other, _) if *other == letter);
+        if is_one && Proved.test(before) == 1 && before[0] > 0 {
+            change(before[0] as usize, before, after);
+        }
+    });
+    let difference = first_difference(&wrong, 10_000).expect("a difference");
+    assert!(difference.starts_with("the memory after it differs\n  word "));
+    assert!(difference.contains(told), "{difference}, not {told}");
+}
+
+#[test]
+fn a_timeout_that_does_not_revoke() {
+    a_step_with(b'T', ", revoked of group ", |runner, before, after| {
+        after[flag_at(runner, REVOKED)] = before[flag_at(runner, REVOKED)];
+    });
+}
+
+#[test]
+fn an_end_that_leaves_force_or_revoked() {
+    for (flag, told) in [
+        (FORCE, ", force of group "),
+        (REVOKED, ", revoked of group "),
+    ] {
+        a_step_with(b'N', told, move |runner, before, after| {
+            after[flag_at(runner, flag)] = before[flag_at(runner, flag)];
+        });
+    }
+}
+
+#[test]
+fn force_lost_with_the_processor() {
+    a_step_with(b'S', ", force of group ", |runner, before, after| {
+        if after[0] != before[0] {
+            after[flag_at(runner, FORCE)] = 0;
+        }
+    });
+}
+
+#[test]
+fn a_forced_timer_that_settling_sets_back() {
+    a_step_with(b'M', ", the timer: judge ", |_, _, after| {
+        if after[2] == 0 {
+            after[1] = 0;
+        }
+    });
 }

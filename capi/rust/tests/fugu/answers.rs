@@ -37,6 +37,7 @@ fn no_node() {
 fn unreadable() {
     refused(started(), "Q,1", answer::UNREADABLE);
     refused(started(), "M,1", answer::UNREADABLE);
+    refused(started(), "B,2", answer::UNREADABLE);
 }
 
 #[test]
@@ -71,7 +72,7 @@ fn no_frames() {
 
 #[test]
 fn nobody_runs() {
-    for line in ["M", "E,0", "D", "B", "N", "P,1", "L,1"] {
+    for line in ["M", "E,0", "D", "B", "B,1", "N", "P,1", "L,1"] {
         refused(started(), line, answer::NOBODY_RUNS);
     }
 }

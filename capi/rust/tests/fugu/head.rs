@@ -29,14 +29,14 @@ fn at_the_head_of_the_queue() {
 #[test]
 fn in_a_frame() {
     let node = after(&["S,1", "A,1,7,8,9", "T,256"]);
-    assert_eq!(node.head_part(), 1077..1080);
+    assert_eq!(node.head_part(), 1093..1096);
     assert_eq!(node.head(), [7, 8, 9]);
 }
 
 #[test]
 fn behind_used_up_places() {
     let mut node = after(&["S,1", "A,1,5", "A,1,6,7", "A,1,8", "T,256", "D"]);
-    assert_eq!(node.head_part(), 1086..1088);
+    assert_eq!(node.head_part(), 1102..1104);
     assert_eq!(node.head(), [6, 7]);
     node.line(b"D");
     assert_eq!(node.head(), [8]);

@@ -1,16 +1,17 @@
 //! Letters and counts of numbers: which are an operation, and that a line and a step by its letter
 //! are the same.
 
-use fugu::answer::UNREADABLE;
+use fugu::answer::{ACCEPTED, UNREADABLE};
 
-use crate::support::{only, started, taken_apart};
+use crate::support::{after, only, started, taken_apart};
 
 /// Whether a letter takes this count of numbers.
 fn taken(letter: u8, count: usize) -> bool {
     match letter {
         b'A' => count >= 1,
         b'S' | b'T' | b'E' | b'P' | b'L' => count == 1,
-        b'M' | b'D' | b'B' | b'N' => count == 0,
+        b'B' => count <= 1,
+        b'M' | b'D' | b'N' => count == 0,
         _ => false,
     }
 }
@@ -35,9 +36,24 @@ fn every_letter_with_every_count() {
     }
 }
 
+/// The one number of B says whether force goes on: 0 or 1.
+#[test]
+fn only_0_and_1_are_numbers_of_begin() {
+    for number in [0, 1, 2, 3, 255, 256, 65_537, u32::MAX] {
+        let mut node = after(&["S,1"]);
+        let report = node.step(b'B', &[number]);
+        if number <= 1 {
+            assert_eq!(report, only(ACCEPTED), "{number}");
+        } else {
+            assert_eq!(report, only(UNREADABLE), "{number}");
+            assert_eq!(node, after(&["S,1"]), "{number}");
+        }
+    }
+}
+
 #[test]
 fn unreadable_lines() {
-    let lines: [&[u8]; 12] = [
+    let lines: [&[u8]; 15] = [
         b"",
         b"m",
         b"Q,1",
@@ -46,6 +62,9 @@ fn unreadable_lines() {
         b"A",
         b"S",
         b"M,0",
+        b"B,2",
+        b"B,1,1",
+        b"B,",
         b"A,1,",
         b"T,-1",
         b"S,00000000001",
@@ -66,7 +85,7 @@ fn a_line_and_its_letter_are_the_same_step() {
     let script = "\
         S,1\nA,1,7\nA,2,5,6\nN\nE,0\nE,1\nT,256\nD\nN\n\
         S,2\nM\nD\nP,9\nP,4294967295\nL,64\nL,3\nA,1\nA,9,1\n\
-        A,1,1,2,3,4,5,6,7,8,9\nB\nS,9\nT,0\nD";
+        A,1,1,2,3,4,5,6,7,8,9\nB\nB,0\nB,1\nT,300\nT,212\nA,2,7\nS,9\nT,0\nD\nN";
     let (mut by_line, mut by_letter) = (started(), started());
     for line in script.lines() {
         let (letter, numbers) = taken_apart(line.as_bytes()).expect("the line is readable");

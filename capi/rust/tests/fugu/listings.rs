@@ -79,4 +79,5 @@ fn examples() {
 fn vectors() {
     play("vectors/base");
     play("vectors/order1");
+    play("vectors/order2");
 }

@@ -17,9 +17,9 @@ fn power_on_writes_every_word_of_a_node() {
     for frame in 0..32 {
         words[164 + frame as usize] = frame;
     }
-    words[7988] = 64;
+    words[8004] = 64;
     for page in 32..96 {
-        words[7960 + page as usize] = page;
+        words[7976 + page as usize] = page;
     }
     assert_eq!(node.memory(), words);
     assert!(node.test());
@@ -60,27 +60,62 @@ fn memory_behind_a_node_is_never_touched() {
 #[test]
 fn damaged_memory_is_refused_and_left() {
     // A timer with an empty queue, a ninth group, 33 free frames, a frame that stands twice; 65 free
-    // swap pages, one that stands twice, a frame in the swap line, one that entered and is not in use.
+    // swap pages, one that stands twice, a frame in the swap line, one that entered and is not in use;
+    // force and revoked without atomic.
     for (at, word) in [
         (1, 1),
         (0, 9),
         (3, 33),
         (164, 1),
-        (7988, 65),
-        (7992, 33),
-        (7992, 0),
-        (7989, 1),
+        (8004, 65),
+        (8008, 33),
+        (8008, 0),
+        (8005, 1),
+        (FORCE, 1),
+        (REVOKED, 1),
     ] {
-        let mut memory = started().into_memory();
-        memory[at] = word;
-        let before = memory.clone();
-        let mut node = Node::over(memory);
-        assert!(!node.test(), "word {at}");
-        assert_eq!(node.step(b'S', &[1]), only(answer::NOT_NODE), "word {at}");
-        assert_eq!(node.line(b"M"), only(answer::NOT_NODE), "word {at}");
-        assert_eq!(node.head_part(), 0..0, "word {at}");
-        assert_eq!(node.into_memory(), before, "word {at}");
+        damaged(started(), at, word);
     }
+    // In a section with a message at the head of the queue: flags of 2, and a head of a revoked group.
+    let direct = ["S,1", "B", "A,1,7", "T,9"];
+    for (at, word) in [(FORCE, 2), (REVOKED, 2), (REVOKED, 1)] {
+        damaged(after(&direct), at, word);
+    }
+    // Timers with an empty queue that are not the running group's.
+    damaged(after(&["S,1", "B"]), 1, 9);
+    damaged(after(&["S,1", "B,1", "S,2", "B"]), 1, 9);
+    damaged(after(&["S,1", "B,1", "S,0"]), 1, 9);
+}
+
+/// Where force and revoked of group 1 stand.
+const FORCE: usize = 198;
+const REVOKED: usize = 199;
+
+/// A node is none with another word at an address.
+fn damaged(node: Node<Vec<u32>>, at: usize, word: u32) {
+    let mut memory = node.into_memory();
+    assert_ne!(memory[at], word, "word {at}");
+    memory[at] = word;
+    let before = memory.clone();
+    let mut node = Node::over(memory);
+    assert!(!node.test(), "word {at}");
+    assert_eq!(node.step(b'S', &[1]), only(answer::NOT_NODE), "word {at}");
+    assert_eq!(node.line(b"M"), only(answer::NOT_NODE), "word {at}");
+    assert_eq!(node.head_part(), 0..0, "word {at}");
+    assert_eq!(node.into_memory(), before, "word {at}");
+}
+
+#[test]
+fn flags_and_a_forced_timer_that_a_node_may_have() {
+    let mut memory = after(&["S,1", "B"]).into_memory();
+    for (at, word) in [(REVOKED, 1), (FORCE, 1), (1, 255)] {
+        memory[at] = word;
+        assert!(Node::over(&mut memory[..]).test(), "word {at}");
+    }
+    let mut node = Node::over(memory);
+    assert_eq!(node.line(b"T,1").to_string(), "0,0,3,0,0");
+    assert_eq!(node.line(b"N").to_string(), "0,0,2,0,0");
+    assert_eq!(node, after(&["S,1"]));
 }
 
 #[test]

@@ -8,7 +8,8 @@ use mathlib.Core.Option.{Option, none, some}
 use lib.Dec.{eqb, leb, ltb}
 use lib.ListN.{length, take, drop, getD}
 use Rattle.rules.specs.Text.{split, isDigit}
-use Rattle.rules.specs.Script.{newline, lineLimit, largest, number, numbers, readLine}
+use Rattle.rules.specs.Operation.{user, beginAtomic}
+use Rattle.rules.specs.Script.{newline, lineLimit, largest, number, numbers, yesOrNo, readLine}
 use Rattle.rules.specs.Script as script
 use Rattle.rules.specs.Types.{operationOf}
 use Rattle.rules.specs.declared.Operation.{Operation as Operation·rt}
@@ -75,6 +76,10 @@ pub record FieldsRead (s : List ℕ) (at : ℕ) (fields : List ℕ) (f : Fields�
   pub counted : f .count ≤ fieldLimit
   pub inside : f .next ≤ length s
   pub same-line : lineEnd s (f .next) ≡ lineEnd s at
+
+-- B by its number
+unfoldable pub BeginRead : ℕ → Operation·rt → Type 0
+BeginRead force op = operationOf op [] ≡ yesOrNo (λ f. user (beginAtomic f)) force
 
 -- the operation of a letter and numbers, of which only the count and the first are at hand; the words of an arrival are those behind the first
 unfoldable pub Lettered : ℕ → ℕ → ℕ → Operation·rt → Type 0

@@ -5,7 +5,7 @@ ghost use mathlib.Core.Path.{_≡_};
 ghost use Prim.Native.Nat.{_≤_, _<_};
 ghost use lib.ListN.{length};
 ghost use Rattle.rules.specs.Text.{isDigit};
-ghost use Rattle.script.specs.Read.{fieldLimit, lineEnd, noNumber, fieldsEnded, unreadableLine, Judged, NumberRead, FieldsRead, Lettered, LineRead, TextRead};
+ghost use Rattle.script.specs.Read.{fieldLimit, lineEnd, noNumber, fieldsEnded, unreadableLine, Judged, NumberRead, FieldsRead, BeginRead, Lettered, LineRead, TextRead};
 
 // A line has room for no more numbers: each takes a comma and a digit.
 pub const FIELDS: usize = 64;
@@ -166,6 +166,17 @@ pub fn end_of_line(s: &[u8], from: usize) -> usize
     i
 }
 
+// B by its number, which tells whether it turns force on.
+fn begin(force: u32) -> Operation
+    ensures { λ op. ⌜ BeginRead force op ⌝ }
+{
+    match force {
+        0 => Operation::BeginAtomic(false),
+        1 => Operation::BeginAtomic(true),
+        _ => Operation::Unknown,
+    }
+}
+
 // The operation of a letter and its numbers, by their count and the first.
 pub fn operation(letter: u8, count: usize, first: u32) -> Operation
     ensures { λ op. ⌜ Lettered letter count first op ⌝ }
@@ -174,7 +185,7 @@ pub fn operation(letter: u8, count: usize, first: u32) -> Operation
         return match letter {
             b'M' => Operation::Poll,
             b'D' => Operation::Dispose,
-            b'B' => Operation::BeginAtomic,
+            b'B' => Operation::BeginAtomic(false),
             b'N' => Operation::EndAtomic,
             _ => Operation::Unknown,
         };
@@ -189,6 +200,7 @@ pub fn operation(letter: u8, count: usize, first: u32) -> Operation
         b'S' => Operation::Schedule(first),
         b'T' => Operation::Tick(first),
         b'E' => Operation::Peek(first),
+        b'B' => begin(first),
         b'P' => Operation::Describe(first),
         b'L' => Operation::Launch(first),
         _ => Operation::Unknown,

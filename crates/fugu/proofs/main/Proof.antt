@@ -9,7 +9,7 @@ use Rattle.fugu.proofs.main.Statement.{statement}
 use Rattle.fugu.proofs.main.Tie as tie
 
 abbrev Inv-loop : tie.InvT-loop
-Inv-loop memory₀ input₀ out₀ header run₀ turns₀ memory input out run turns = (length memory ≡ 8088) × ((length input ≡ 65536) × (length out ≡ 65536))
+Inv-loop memory₀ input₀ out₀ header run₀ turns₀ memory input out run turns = (length memory ≡ 8104) × ((length input ≡ 65536) × (length out ≡ 65536))
 
 abbrev μ-loop : tie.MeasureT-loop
 μ-loop memory₀ input₀ out₀ header run₀ turns₀ memory input out run turns = turns

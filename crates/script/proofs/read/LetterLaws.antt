@@ -1,19 +1,20 @@
 -- The operation of a letter and its numbers, by their count and the first of them. Assumes nothing.
-use Prim.Native.Nat.{ℕ, _<_}
+use Prim.Native.Nat.{ℕ, zero, suc, _<_}
 use native.Mathlib.Omega.{arith}
 use borrow.Author.Tests.{eqb-true}
 use mathlib.Core.Path.{_≡_, refl, sym}
+use mathlib.Core.Logic.{_≢_}
 use mathlib.Core.List.{List, [], _∷_}
 use mathlib.Core.Option.{some}
 use lib.Dec.{eqb}
 use Rattle.rules.specs.Lists.{Every}
 use Rattle.rules.specs.Operation.{unknown}
-use Rattle.rules.specs.Script.{Letter, letters, lettered, groupAndWords, oneField, noField}
+use Rattle.rules.specs.Script.{Letter, letters, lettered, groupAndWords, oneField, noField, yesOrNo, forceField}
 use Rattle.rules.specs.Script as script
 use Rattle.rules.specs.Types.{operationOf}
 use Rattle.rules.specs.declared.Operation.{Operation as Operation·rt}
 use Rattle.rules.specs.declared.Operation.the-variants.{Arrive, Unknown}
-use Rattle.script.specs.Read.{Lettered}
+use Rattle.script.specs.Read.{BeginRead, Lettered}
 use Rattle.script.proofs.read.LineEndLaws.{by-test}
 
 -- no operation where each letter of the table is another or has another count of fields
@@ -26,7 +27,7 @@ passed c ns (l ∷ ls) each =
     (λ e. rw (lettered, e) (each .0 (eqb-true c (l .letter) e)))
     (λ e. rw (lettered, e) (passed c ns ls (each .1)))
 
--- the letters that take no field, and those that take one
+-- the letters that may stand without a field, and those that may stand with one
 pub record NotAlone (c : ℕ) : Type 0 where
   pub no-poll : c ≡ 77 → ⊥
   pub no-dispose : c ≡ 68 → ⊥
@@ -38,24 +39,32 @@ pub record NotOne (c : ℕ) : Type 0 where
   pub no-schedule : c ≡ 83 → ⊥
   pub no-tick : c ≡ 84 → ⊥
   pub no-peek : c ≡ 69 → ⊥
+  pub no-begin : c ≡ 66 → ⊥
   pub no-describe : c ≡ 80 → ⊥
   pub no-launch : c ≡ 76 → ⊥
 
 module _ (c : ℕ) where
   -- any other without a field
   none-unknown : NotAlone c → lettered c letters [] ≡ unknown
-  unfolding letters groupAndWords oneField noField
+  unfolding letters groupAndWords oneField noField forceField
   none-unknown other = passed c [] letters (λ q. refl, (λ q. refl, (λ q. refl, (λ q. absurd (other .no-poll q), (λ q. refl, (λ q. absurd (other .no-dispose q), (λ q. absurd (other .no-begin q), (λ q. absurd (other .no-end q), (λ q. refl, (λ q. refl, tt))))))))))
 
   -- any other with one field
   one-unknown : (n : ℕ) → NotOne c → lettered c letters (n ∷ []) ≡ unknown
-  unfolding letters groupAndWords oneField noField
-  one-unknown n other = passed c (n ∷ []) letters (λ q. absurd (other .no-arrive q), (λ q. absurd (other .no-schedule q), (λ q. absurd (other .no-tick q), (λ q. refl, (λ q. absurd (other .no-peek q), (λ q. refl, (λ q. refl, (λ q. refl, (λ q. absurd (other .no-describe q), (λ q. absurd (other .no-launch q), tt))))))))))
+  unfolding letters groupAndWords oneField noField forceField
+  one-unknown n other = passed c (n ∷ []) letters (λ q. absurd (other .no-arrive q), (λ q. absurd (other .no-schedule q), (λ q. absurd (other .no-tick q), (λ q. refl, (λ q. absurd (other .no-peek q), (λ q. refl, (λ q. absurd (other .no-begin q), (λ q. refl, (λ q. absurd (other .no-describe q), (λ q. absurd (other .no-launch q), tt))))))))))
 
   -- any other with more
   more-unknown : (n m : ℕ) (ns : List ℕ) → (c ≡ 65 → ⊥) → lettered c letters (n ∷ m ∷ ns) ≡ unknown
-  unfolding letters groupAndWords oneField noField
+  unfolding letters groupAndWords oneField noField forceField
   more-unknown n m ns other = passed c (n ∷ m ∷ ns) letters (λ q. absurd (other q), (λ q. refl, (λ q. refl, (λ q. refl, (λ q. refl, (λ q. refl, (λ q. refl, (λ q. refl, (λ q. refl, (λ q. refl, tt))))))))))
+
+-- a number that tells neither no nor yes
+pub begins-not : (force : ℕ) → force ≢ 0 → force ≢ 1 → BeginRead force Unknown
+unfolding BeginRead operationOf yesOrNo
+begins-not zero none one = absurd (none refl)
+begins-not (suc zero) none one = absurd (one refl)
+begins-not (suc (suc k)) none one = refl
 
 module _ (letter count first : ℕ) where
   -- an operation with no field

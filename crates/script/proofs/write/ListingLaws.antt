@@ -12,7 +12,7 @@ use lib.Seq.{take-suc}
 use borrow.Author.Tests.{eq-eqb, ne-eqb}
 use Rattle.rules.specs.Build.{Build, wordLimit}
 use Rattle.rules.specs.Lists.{pad}
-use Rattle.rules.specs.Node.{Message, Node, groupOf, emptyGroup}
+use Rattle.rules.specs.Node.{Message, Node, groupOf, timerRuns, emptyGroup}
 use Rattle.rules.specs.Operation.{Request, poll, peek, dispose, beginAtomic, endAtomic, describe, launch, Operation, arrive, schedule, tick, user, unknown, Report}
 use Rattle.rules.specs.Refusal.{refusal, refuseRequest, refuseLaunch}
 use Rattle.rules.specs.Script.{newline, header, reportLine}
@@ -111,20 +111,20 @@ line-behind {q} h i =
     ∙ ap (λ (t : List ℕ). t ++ (newline ∷ [])) (sym (row-fields i (before (q .sent))))
 
 -- a tick sends nothing
-tick-sent : (b : Build) (q : List Message) (e : Effect) → oneTick b q e .sent ≡ e .sent
+tick-sent : (b : Build) (e : Effect) → oneTick b e .sent ≡ e .sent
 unfolding oneTick timedOut counted
-tick-sent b [] e = refl
-tick-sent b (m ∷ q) e = either (eqb (e .node .timer + 1) (b .timeout))
+tick-sent b e = either (timerRuns (e .node)) (eqb (e .node .timer + 1) (b .timeout))
   where
-    either : (t : Bool) → cond t (timedOut b e) (counted e) .sent ≡ e .sent
-    either true = refl
-    either false = refl
+    either : (runs t : Bool) → cond runs (cond t (timedOut b e) (counted e)) e .sent ≡ e .sent
+    either true true = refl
+    either true false = refl
+    either false t = refl
 
 -- nor do ticks
 ticks-sent : (b : Build) (k : ℕ) (e : Effect) → ticks b k e .sent ≡ e .sent
 unfolding ticks
 ticks-sent b zero e = refl
-ticks-sent b (suc k) e = ticks-sent b k (oneTick b (e .node .queue) e) ∙ tick-sent b (e .node .queue) e
+ticks-sent b (suc k) e = ticks-sent b k (oneTick b e) ∙ tick-sent b e
 
 module _ {b : Build} {n : Node} (v : Valid b n) where
   -- an accepted request
@@ -133,7 +133,7 @@ module _ {b : Build} {n : Node} (v : Valid b n) where
   served-listed poll runs e = silent refl
   served-listed (peek i) runs e = silent refl
   served-listed dispose runs e = silent refl
-  served-listed beginAtomic runs e = silent refl
+  served-listed (beginAtomic force) runs e = silent refl
   served-listed endAtomic runs e = silent refl
   served-listed (describe w) runs e = silent refl
   served-listed (launch k) runs e = sending k (n .running) (groupOf n (n .running) .descriptor) refl (some (groupOf n (n .running) .descriptor) e) few

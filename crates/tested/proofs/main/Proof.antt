@@ -15,7 +15,7 @@ use Rattle.tested.proofs.main.Tie as tie
 
 abbrev Inv-loop : tie.InvT-loop
 Inv-loop memory₀ script out₀ digits₀ n at len l₀ times₀ memory out digits l times =
-    (length memory ≡ 8088)
+    (length memory ≡ 8104)
     × ((length out ≡ 65536) × ((length digits ≡ 20) × ((l .at ≤ 65536) × ((times ≤ 64) × CountsTo digits (l .len) (65537 * (64 - times))))))
 
 abbrev μ-loop : tie.MeasureT-loop

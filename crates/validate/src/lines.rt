@@ -155,7 +155,7 @@ fn head_stays(m: &[u32]) -> bool
     if g != m[RUNNING] {
         return false;
     }
-    if group_word(m, g, COUNT) != 0 {
+    if group_word(m, g, COUNT) > 0 {
         return false;
     }
     group_word(m, g, REVOKED) != 1

@@ -1,6 +1,6 @@
 -- A group's line, its flags, the timer, the head of the queue and the running group's first page, as the words tell them: a line is not empty
 -- where the group's buffer holds messages or the hardware queue has some of its own. Assumes nothing.
-use Prim.Native.Nat.{ℕ, zero, suc, _+_, _-_, _≤_}
+use Prim.Native.Nat.{ℕ, zero, suc, _+_, _-_, _≤_, _<_}
 use mathlib.Core.Path.{_≡_, refl, sym, subst, ap, _∙_}
 use mathlib.Core.Logic.{_≢_}
 use mathlib.Core.Bool.{Bool, true, false, not, _&&_, or-true}
@@ -237,14 +237,14 @@ module _ (m : List ℕ) where
     unfolding mayStay messageAt nodeAt
     head-own = head-may s ∙ rw (eq-eqb (word m queueAt) (word m runningAt) o)
 
-    pub head-held : (n : ℕ) → n ≡ word m (groupAddress (word m queueAt) + countOffset) → n ≢ 0
+    pub head-held : (n : ℕ) → n ≡ word m (groupAddress (word m queueAt) + countOffset) → 0 < n
         → headStays (nodeAt m .queue) (nodeAt m) ≡ false
     unfolding buffered bufferHolds
-    head-held n e d = head-own ∙ rw (count-read m (word m queueAt) (head-framed l s), ← e, lt-ltb 0 n (positive n d))
+    head-held n e h = head-own ∙ rw (count-read m (word m queueAt) (head-framed l s), ← e, lt-ltb 0 n h)
 
-    pub head-direct : (n w : ℕ) → n ≡ word m (groupAddress (word m queueAt) + countOffset) → n ≡ 0
+    pub head-direct : (n w : ℕ) → n ≡ word m (groupAddress (word m queueAt) + countOffset) → n ≤ 0
         → w ≡ word m (groupAddress (word m queueAt) + revokedOffset) → headStays (nodeAt m .queue) (nodeAt m) ≡ not (eqb w 1)
     unfolding buffered bufferHolds
     head-direct n w e z r =
         let f = head-framed l s in
-        head-own ∙ rw (count-read m (word m queueAt) f, ← e, z, revoked-read m (word m queueAt) f w r)
+        head-own ∙ rw (count-read m (word m queueAt) f, ← e, le-ltb 0 n z, revoked-read m (word m queueAt) f w r)

@@ -1,8 +1,8 @@
 -- What the clauses tested so far establish for those behind them. The counts bound every list; the buffers' numbers and the pages, each
--- standing once among 96, make every list name pages; and with the queue's groups every line can be told. Assumes nothing.
+-- standing once among 96, make every list name pages; and with the queue's groups and the flags every line can be told. Assumes nothing.
 use Prim.Native.Nat.{ℕ, _+_, _-_, _*_, _≤_, _<_}
-use mathlib.Core.Path.{_≡_}
-use mathlib.Core.Bool.{true, not, _||_, and-eq-true-iff}
+use mathlib.Core.Path.{_≡_, refl}
+use mathlib.Core.Bool.{Bool, true, false, not, _||_, false≢true, and-eq-true-iff}
 use mathlib.Core.List.{List, _∷_, _++_}
 use native.Mathlib.Omega.{arith}
 use lib.Dec.{eqb, leb, ltb}
@@ -11,16 +11,23 @@ use borrow.Author.Tests.{leb-true, ltb-true, eqb-true}
 use Rattle.rules.specs.Lists.{all, upFrom}
 use Rattle.rules.specs.Build.{groupCount}
 use Rattle.rules.specs.Frames.{ceilDiv}
-use Rattle.rules.specs.Valid.{isMessage, frameNumbers, standsOnce}
-use Rattle.rules.specs.Memory.{runningAt, queuedAt, freeCountAt, swapCountAt, enteredCountAt, queueAt, queueStride, usedOffset, countOffset, heldOffset, describedOffset, size, word, wordsAt, messageAt, groupAddress, nodeAt}
+use Rattle.rules.specs.Valid.{isMessage, onlyAtomic, frameNumbers, standsOnce}
+use Rattle.rules.specs.Memory.{runningAt, queuedAt, freeCountAt, swapCountAt, enteredCountAt, queueAt, queueStride, atomicOffset, forceOffset, usedOffset, countOffset, heldOffset, describedOffset, size, word, wordsAt, messageAt, flagAt, groupAt, groupAddress, nodeAt}
 use Rattle.rules.specs.MemoryTest.{groupCounts, lengthInBounds, countsInBounds}
 use Rattle.rules.proofs.Map.TestLaws.{range-tells}
 use Rattle.rules.proofs.Steps.EveryLaws.{every-append}
 use Rattle.rules.proofs.Steps.ListLaws.{once-bounded}
-use Rattle.validate.specs.Clauses.{messageGood, bufferGood, pagesOnce, listStart, listCount, listed, numbersGood, framesGood}
+use Rattle.validate.specs.Clauses.{flagsAtomic, messageGood, bufferGood, pagesOnce, listStart, listCount, listed, numbersGood, framesGood}
 use Rattle.validate.specs.Known.{Counted, Framed, Lined}
 use Rattle.validate.proofs.frames.ListedLaws.{group-count, group-start, numbers-listed, numbers-split, behind}
 use Rattle.validate.proofs.TestLaws.{numbers-tell, frames-tell}
+
+-- of three flags that stand only with one, the second
+only : (a p f r : Bool) → a || not (p || (f || r)) ≡ true → f ≡ true → a ≡ true
+only true p f r h on = refl
+only false true f r h on = absurd (false≢true h)
+only false false true r h on = absurd (false≢true h)
+only false false false r h on = absurd (false≢true on)
 
 module _ (m : List ℕ) where
   -- the counts of group g
@@ -81,7 +88,7 @@ module _ (m : List ℕ) where
       → (g : ℕ) → 1 ≤ g → g ≤ groupCount → Framed m g
   framed c h l o g low high =
       let ns = numbers-tell m .0 h in
-      let b = buffer-tells g (range-tells (bufferGood m) 1 groupCount .0 (ns .1 .1 .1 .0) g low (omega arith)) in
+      let b = buffer-tells g (range-tells (bufferGood m) 1 groupCount .0 (ns .1 .1 .1) g low (omega arith)) in
       let back : g + 2 - 2 ≡ g = omega arith in
       let count = rw back at (group-count m (g + 2) (omega arith)) in
       let start = rw back at (group-start (g + 2) (omega arith)) in
@@ -103,9 +110,14 @@ module _ (m : List ℕ) where
       let l = and-eq-true-iff _ _ .0 (k .1) in
       (leb-true 1 _ (k .0), leb-true _ 8 (l .0))
 
+  -- force stands only with atomic
+  force-tells : (g : ℕ) → flagsAtomic m g ≡ true → flagAt m (groupAddress g + forceOffset) ≡ true → flagAt m (groupAddress g + atomicOffset) ≡ true
+  unfolding flagsAtomic onlyAtomic groupAt
+  force-tells g h = let G = groupAt m (groupAddress g) in only (G .atomic) (G .pending) (G .force) (G .revoked) h
+
   -- every line can be told
-  pub lined : Counted m → numbersGood m ≡ true → framesGood m ≡ true → Lined m
-  lined c h k =
+  pub lined : Counted m → all (flagsAtomic m) (upFrom 1 groupCount) ≡ true → numbersGood m ≡ true → framesGood m ≡ true → Lined m
+  lined c a h k =
       let ns = numbers-tell m .0 h in
       let fs = frames-tell m .0 k in
       record {
@@ -113,4 +125,5 @@ module _ (m : List ℕ) where
         running = leb-true (word m runningAt) 8 (ns .0);
         groups = λ i l. group-tells i (range-tells (messageGood m) 0 (word m queuedAt) .0 (ns .1 .1 .0) i (omega arith) (omega arith));
         framed = framed c h (eqb-true (length (frameNumbers (nodeAt m))) 96 (fs .0)) (fs .1 .0);
+        forced = λ g low high. force-tells g (range-tells (flagsAtomic m) 1 groupCount .0 a g low (omega arith));
       }

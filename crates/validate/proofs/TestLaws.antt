@@ -15,12 +15,12 @@ use Rattle.rules.specs.Build.{paper01, groupCount, wordLimit}
 use Rattle.rules.specs.Frames.{pledges}
 use Rattle.rules.specs.Valid.{isMessage, isPlace, isFrame, isBuffer, isGroup, isSwap, frameNumbers, frameOrder, pendingHasLine, runnerAtomic, headStays, runnerInFrame, nodeTests, isNode}
 use Rattle.rules.specs.Memory.{runningAt, timerAt, queuedAt, freeAt, freeCountAt, swapAt, swapCountAt, queueAt, groupsAt, heldOffset, describedOffset, descriptorOffset, listOffset, size, word, wordsAt, placeAt, framePlaces, frameAddress, frameAt, listAt, bufferAt, groupAt, groupsFrom, groupAddress, pagingFrom, nodeAt}
-use Rattle.rules.specs.MemoryTest.{countsInBounds, flagsAreFlags, unusedAreZero, memoryTests, isMemory}
+use Rattle.rules.specs.MemoryTest.{countsInBounds, groupFlags, flagsAreFlags, unusedAreZero, memoryTests, isMemory}
 use Rattle.rules.proofs.Map.TestLaws.{all-every, passes-every, range-tells}
 use Rattle.rules.proofs.Steps.EveryLaws.{every-of, every-map, every-concat}
 use Rattle.rules.proofs.Map.MapWords.{Records, length-wordsAt, length-records, every-record}
 use Rattle.rules.proofs.Map.MapParts.{messages, places, groups}
-use Rattle.validate.specs.Clauses.{messageGood, bufferGood, pendingAtomic, waitingGood, pagesOnce, swapPage, enteredOnce, numbersGood, framesGood, linesGood}
+use Rattle.validate.specs.Clauses.{flagsAtomic, flagsGood, messageGood, bufferGood, waitingGood, pagesOnce, swapPage, enteredOnce, numbersGood, framesGood, linesGood}
 use Rattle.validate.specs.Known.{Counted}
 use Rattle.validate.proofs.RangeLaws.{fails}
 use Rattle.validate.proofs.frames.PlaceLaws.{places-all}
@@ -124,8 +124,8 @@ module _ (m : List ℕ) where
 
   -- one group
   group-tested : Counted m → (g : ℕ) → 1 ≤ g → g ≤ groupCount
-      → (isGroup paper01 (groupAt m (groupAddress g)) ≡ true) ↔ ((bufferGood m g ≡ true) × ((pendingAtomic m g ≡ true) × (waitingGood m g ≡ true)))
-  unfolding isGroup isBuffer groupAt bufferAt listAt bufferGood pendingAtomic waitingGood
+      → (isGroup paper01 (groupAt m (groupAddress g)) ≡ true) ↔ ((bufferGood m g ≡ true) × ((flagsAtomic m g ≡ true) × (waitingGood m g ≡ true)))
+  unfolding isGroup isBuffer groupAt bufferAt listAt bufferGood flagsAtomic waitingGood
   group-tested c g low high =
       let a = groupAddress g in
       let list = length-wordsAt m (a + listOffset) (word m (a + heldOffset)) in
@@ -143,23 +143,38 @@ module _ (m : List ℕ) where
   groups-tell : Counted m
       → (all (isGroup paper01) (nodeAt m .groups) ≡ true)
       ↔ ((all (bufferGood m) (upFrom 1 groupCount) ≡ true)
-      × ((all (pendingAtomic m) (upFrom 1 groupCount) ≡ true) × (all (waitingGood m) (upFrom 1 groupCount) ≡ true)))
+      × ((all (flagsAtomic m) (upFrom 1 groupCount) ≡ true) × (all (waitingGood m) (upFrom 1 groupCount) ≡ true)))
   groups-tell c =
       let all8 = range-tells (λ g. isGroup paper01 (groupAt m (groupAddress g))) 1 groupCount in
       let buffers = range-tells (bufferGood m) 1 groupCount in
-      let flags = range-tells (pendingAtomic m) 1 groupCount in
+      let flags = range-tells (flagsAtomic m) 1 groupCount in
       let waits = range-tells (waitingGood m) 1 groupCount in
       rw groups-tested (
         λ h.
-            let one : ((g : ℕ) → 1 ≤ g → g < 9 → (bufferGood m g ≡ true) × ((pendingAtomic m g ≡ true) × (waitingGood m g ≡ true))) =
+            let one : ((g : ℕ) → 1 ≤ g → g < 9 → (bufferGood m g ≡ true) × ((flagsAtomic m g ≡ true) × (waitingGood m g ≡ true))) =
             λ g low high. group-tested c g low (omega arith) .0 (all8 .0 h g low high) in (
               buffers .1 (λ g low high. one g low high .0),
               (flags .1 (λ g low high. one g low high .1 .0), waits .1 (λ g low high. one g low high .1 .1)),
             ),
         λ h.
-            let one : ((g : ℕ) → 1 ≤ g → g < 9 → (bufferGood m g ≡ true) × ((pendingAtomic m g ≡ true) × (waitingGood m g ≡ true))) =
+            let one : ((g : ℕ) → 1 ≤ g → g < 9 → (bufferGood m g ≡ true) × ((flagsAtomic m g ≡ true) × (waitingGood m g ≡ true))) =
             λ g low high. (buffers .0 (h .0) g low high, (flags .0 (h .1 .0) g low high, waits .0 (h .1 .1) g low high)) in
             all8 .1 (λ g low high. group-tested c g low (omega arith) .1 (one g low high)),
+      )
+
+  -- The flags: those of the words, and those of the groups.
+  pub flags-tell : (all (flagsGood m) (upFrom 1 groupCount) ≡ true)
+      ↔ ((flagsAreFlags m ≡ true) × (all (flagsAtomic m) (upFrom 1 groupCount) ≡ true))
+  unfolding flagsGood flagsAreFlags
+  flags-tell =
+      let both = range-tells (flagsGood m) 1 groupCount in
+      let words = range-tells (groupFlags m) 1 groupCount in
+      let atomic = range-tells (flagsAtomic m) 1 groupCount in (
+        λ h. (
+          words .1 (λ g low high. and-eq-true-iff (groupFlags m g) (flagsAtomic m g) .0 (both .0 h g low high) .0),
+          atomic .1 (λ g low high. and-eq-true-iff (groupFlags m g) (flagsAtomic m g) .0 (both .0 h g low high) .1),
+        ),
+        λ h. both .1 (λ g low high. and-eq-true-iff _ _ .1 (words .0 (h .0) g low high, atomic .0 (h .1) g low high)),
       )
 
   -- The three parts, clause by clause.
@@ -167,10 +182,9 @@ module _ (m : List ℕ) where
   pub numbers-tell : (numbersGood m ≡ true)
       ↔ ((leb (word m runningAt) groupCount ≡ true)
       × ((ltb (word m timerAt) 256 ≡ true)
-      × ((all (messageGood m) (upFrom 0 (word m queuedAt)) ≡ true)
-      × ((all (bufferGood m) (upFrom 1 groupCount) ≡ true) × (all (pendingAtomic m) (upFrom 1 groupCount) ≡ true)))))
+      × ((all (messageGood m) (upFrom 0 (word m queuedAt)) ≡ true) × (all (bufferGood m) (upFrom 1 groupCount) ≡ true))))
   unfolding numbersGood
-  numbers-tell = and-tells (and-tells (and-tells (and-tells Iff·rfl)))
+  numbers-tell = and-tells (and-tells (and-tells Iff·rfl))
 
   pub frames-tell : (framesGood m ≡ true)
       ↔ ((eqb (length (frameNumbers (nodeAt m))) 96 ≡ true)
@@ -191,7 +205,7 @@ module _ (m : List ℕ) where
   -- the clauses of a node are those of its words
   pub node-tested : Counted m
       → (isNode paper01 (nodeAt m) ≡ true)
-      ↔ ((numbersGood m ≡ true) × ((framesGood m ≡ true) × (linesGood m ≡ true)))
+      ↔ ((all (flagsAtomic m) (upFrom 1 groupCount) ≡ true) × ((numbersGood m ≡ true) × ((framesGood m ≡ true) × (linesGood m ≡ true))))
   unfolding isNode nodeTests pagesOnce enteredOnce
   node-tested c = (
     λ h.
@@ -199,19 +213,22 @@ module _ (m : List ℕ) where
         let Gs = groups-tell c .0 (t .1 .1 .1 .1 .1 .0) in
         let fs = t .1 .1 .1 .1 .1 .1 .1 .1 in
         let ls = fs .1 .1 .1 .1 .1 in (
-          numbers-tell .1 (sym running-tested ∙ t .0, (sym timer-tested ∙ t .1 .0, (sym queue-tested ∙ t .1 .1 .1 .0, (Gs .0, Gs .1 .0)))),
+          Gs .1 .0,
           (
-            frames-tell .1 (fs .1 .0, (fs .0, (sym swap-numbered ∙ fs .1 .1 .0, (fs .1 .1 .1 .1 .0, (fs .1 .1 .1 .0, Gs .1 .1))))),
-            lines-tell .1 (ls .0, (ls .1 .0, (ls .1 .1 .0, (ls .1 .1 .1 .0, ls .1 .1 .1 .1 .0)))),
+            numbers-tell .1 (sym running-tested ∙ t .0, (sym timer-tested ∙ t .1 .0, (sym queue-tested ∙ t .1 .1 .1 .0, Gs .0))),
+            (
+              frames-tell .1 (fs .1 .0, (fs .0, (sym swap-numbered ∙ fs .1 .1 .0, (fs .1 .1 .1 .1 .0, (fs .1 .1 .1 .0, Gs .1 .1))))),
+              lines-tell .1 (ls .0, (ls .1 .0, (ls .1 .1 .0, (ls .1 .1 .1 .0, ls .1 .1 .1 .1 .0)))),
+            ),
           ),
         ),
     λ h.
-        let ns = numbers-tell .0 (h .0) in
-        let fs = frames-tell .0 (h .1 .0) in
-        let ls = lines-tell .0 (h .1 .1) in
+        let ns = numbers-tell .0 (h .1 .0) in
+        let fs = frames-tell .0 (h .1 .1 .0) in
+        let ls = lines-tell .0 (h .1 .1 .1) in
         let places = le-leb (length (nodeAt m .queue)) 16 (omega (arith, c .queued, queue-length)) in
         let eight = eq-eqb (length (nodeAt m .groups)) 8 groups-length in
-        let Gs = groups-tell c .1 (ns .1 .1 .1 .0, (ns .1 .1 .1 .1, fs .1 .1 .1 .1 .1)) in
+        let Gs = groups-tell c .1 (ns .1 .1 .1, (h .0, fs .1 .1 .1 .1 .1)) in
         passes-every (nodeTests paper01) (nodeAt m) .1 (
           running-tested ∙ ns .0,
           (
@@ -256,17 +273,17 @@ module _ (m : List ℕ) where
   module _ (c : Counted m) where
     -- a number that fails
     pub numbers-fail : numbersGood m ≡ false → isNode paper01 (nodeAt m) ≡ false
-    numbers-fail e = fails (isNode paper01 (nodeAt m)) (λ h. true≢false (sym (node-tested c .0 h .0) ∙ e))
+    numbers-fail e = fails (isNode paper01 (nodeAt m)) (λ h. true≢false (sym (node-tested c .0 h .1 .0) ∙ e))
 
     -- a frame that does
     pub frames-fail : framesGood m ≡ false → isNode paper01 (nodeAt m) ≡ false
-    frames-fail e = fails (isNode paper01 (nodeAt m)) (λ h. true≢false (sym (node-tested c .0 h .1 .0) ∙ e))
+    frames-fail e = fails (isNode paper01 (nodeAt m)) (λ h. true≢false (sym (node-tested c .0 h .1 .1 .0) ∙ e))
 
     -- else the lines decide
-    pub lines-decide : (t : Bool) → numbersGood m ≡ true → framesGood m ≡ true → linesGood m ≡ t
-        → isNode paper01 (nodeAt m) ≡ t
-    lines-decide t n f l =
-        same-test (isNode paper01 (nodeAt m)) t (λ h. sym l ∙ node-tested c .0 h .1 .1, λ h. node-tested c .1 (n, (f, l ∙ h)))
+    pub lines-decide : (t : Bool) → all (flagsAtomic m) (upFrom 1 groupCount) ≡ true → numbersGood m ≡ true → framesGood m ≡ true
+        → linesGood m ≡ t → isNode paper01 (nodeAt m) ≡ t
+    lines-decide t a n f l =
+        same-test (isNode paper01 (nodeAt m)) t (λ h. sym l ∙ node-tested c .0 h .1 .1 .1, λ h. node-tested c .1 (a, (n, (f, l ∙ h))))
 
 -- the memory test, clause by clause
 pub memory-tested : (m : List ℕ)
@@ -281,3 +298,12 @@ memory-tested m =
       λ h. let t = passes-every memoryTests m .0 h in both .1 (t .0, (t .1 .0, (t .1 .1 .0, (t .1 .1 .1 .0, t .1 .1 .1 .1 .0)))),
       λ h. let t = both .0 h in passes-every memoryTests m .1 (t .0, (t .1 .0, (t .1 .1 .0, (t .1 .1 .1 .0, (t .1 .1 .1 .1, tt))))),
     )
+
+-- a flag that fails
+pub flags-fail : (m : List ℕ) → Counted m → all (flagsGood m) (upFrom 1 groupCount) ≡ false → isMemory m ≡ false
+unfolding isMemory memoryTests
+flags-fail m c e =
+    fails (isMemory m)
+    (λ h.
+    let t = passes-every memoryTests m .0 h in
+    true≢false (sym (flags-tell m .1 (t .1 .1 .0, node-tested m c .0 (t .1 .1 .1 .1 .0) .0)) ∙ e))

@@ -1,5 +1,6 @@
--- The clauses of "Memory is a node when" on the node that the words hold, in the order in which they are tested. A buffer's clause is
--- parted in two, since the places of its waiting messages can be looked at only where its frames are known. Assumes nothing.
+-- The clauses of "Memory is a node when" on the node that the words hold, in the order in which they are tested. A group's clause is parted in
+-- three: its flags are tested in one pass with what is asked of their words, and the places of its waiting messages can be looked at only
+-- where its frames are known. Assumes nothing.
 use Prim.Native.Nat.{ℕ, zero, suc, _+_, _*_, _/_, _%_}
 use mathlib.Core.Bool.{Bool, not, _&&_, _||_}
 use mathlib.Core.List.{List}
@@ -9,8 +10,17 @@ use Rattle.rules.specs.Lists.{all, concatMap, upFrom}
 use Rattle.rules.specs.Build.{paper01, pageCount, groupCount}
 use Rattle.rules.specs.Node.{waiting}
 use Rattle.rules.specs.Frames.{ceilDiv, pledges}
-use Rattle.rules.specs.Valid.{isMessage, isWaiting, frameNumbers, frameOrder, standsOnce, pendingHasLine, runnerAtomic, headStays, runnerInFrame}
-use Rattle.rules.specs.Memory.{runningAt, timerAt, queuedAt, freeCountAt, queueAt, queueStride, freeAt, listOffset, atomicOffset, pendingOffset, usedOffset, countOffset, heldOffset, placeStride, swapCountAt, enteredCountAt, swapAt, enteredAt, word, wordsAt, messageAt, placeAt, frameAddress, flagAt, bufferAt, groupAddress, nodeAt}
+use Rattle.rules.specs.Valid.{isMessage, isWaiting, onlyAtomic, frameNumbers, frameOrder, standsOnce, pendingHasLine, runnerAtomic, headStays, runnerInFrame}
+use Rattle.rules.specs.Memory.{runningAt, timerAt, queuedAt, freeCountAt, queueAt, queueStride, freeAt, listOffset, usedOffset, countOffset, heldOffset, placeStride, swapCountAt, enteredCountAt, swapAt, enteredAt, word, wordsAt, messageAt, placeAt, frameAddress, bufferAt, groupAt, groupAddress, nodeAt}
+use Rattle.rules.specs.MemoryTest.{groupFlags}
+
+-- pending, force and revoked "only with atomic": of one group
+unfoldable pub flagsAtomic : List ℕ → ℕ → Bool
+flagsAtomic m g = onlyAtomic (groupAt m (groupAddress g))
+
+-- the same, and "flags are 0 or 1"
+unfoldable pub flagsGood : List ℕ → ℕ → Bool
+flagsGood m g = groupFlags m g && flagsAtomic m g
 
 -- "groups, waiting messages' lengths .. are within the bounds above": those of the i-th in the queue
 unfoldable pub messageGood : List ℕ → ℕ → Bool
@@ -23,10 +33,6 @@ bufferGood m g =
     let n = word m (groupAddress g + countOffset) in
     ltb h (paper01 .perFrame)
     && ((not (eqb n 0) || eqb h 0) && eqb (word m (groupAddress g + heldOffset)) (ceilDiv (h + n) (paper01 .perFrame)))
-
--- "pending only with atomic": of one group
-unfoldable pub pendingAtomic : List ℕ → ℕ → Bool
-pendingAtomic m g = not (flagAt m (groupAddress g + pendingOffset)) || flagAt m (groupAddress g + atomicOffset)
 
 -- "waiting messages' lengths"; "a waiting message's words past its length are 0": of those in the buffer of one group
 unfoldable pub waitingGood : List ℕ → ℕ → Bool
@@ -77,15 +83,14 @@ enteredOnce m = all (standsOnce (frameOrder (nodeAt m))) (upFrom 0 (paper01 .fra
 unfoldable pub swapPage : List ℕ → ℕ → Bool
 swapPage m i = leb (paper01 .frames) (word m (swapAt + i))
 
--- The clauses on the node that the words hold, in three parts.
+-- The clauses on the node that the words hold, but for the flags, in three parts.
 
 -- those on the numbers that stand where they are read
 unfoldable pub numbersGood : List ℕ → Bool
 numbersGood m =
     leb (word m runningAt) groupCount
     && (ltb (word m timerAt) (paper01 .timeout)
-    && (all (messageGood m) (upFrom 0 (word m queuedAt))
-    && (all (bufferGood m) (upFrom 1 groupCount) && all (pendingAtomic m) (upFrom 1 groupCount))))
+    && (all (messageGood m) (upFrom 0 (word m queuedAt)) && all (bufferGood m) (upFrom 1 groupCount)))
 
 -- those on the frames and swap pages and on what waits in them
 unfoldable pub framesGood : List ℕ → Bool

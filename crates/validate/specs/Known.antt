@@ -2,13 +2,14 @@
 -- followed out of the memory. Assumes nothing.
 use Prim.Native.Nat.{ℕ, _+_, _*_, _≤_, _<_}
 use mathlib.Core.Path.{_≡_}
+use mathlib.Core.Bool.{true}
 use mathlib.Core.List.{List}
 use lib.ListN.{length, getD}
 use Rattle.rules.specs.Lists.{filter}
 use Rattle.rules.specs.Build.{paper01, pageCount, groupCount, wordLimit}
 use Rattle.rules.specs.Node.{isOf}
 use Rattle.rules.specs.Frames.{ceilDiv}
-use Rattle.rules.specs.Memory.{runningAt, queuedAt, freeCountAt, queueAt, queueStride, listOffset, usedOffset, countOffset, heldOffset, describedOffset, swapCountAt, enteredCountAt, size, word, messagesAt, groupAddress}
+use Rattle.rules.specs.Memory.{runningAt, queuedAt, freeCountAt, queueAt, queueStride, listOffset, atomicOffset, forceOffset, usedOffset, countOffset, heldOffset, describedOffset, swapCountAt, enteredCountAt, size, word, messagesAt, flagAt, groupAddress}
 
 -- what the size and the first clause establish, so that every count can be followed within the memory
 pub record Counted (m : List ℕ) : Type 0 where
@@ -41,9 +42,10 @@ pub record QueueCounts (m : List ℕ) (i : ℕ) (counts : List ℕ) : Type 0 whe
   pub sized : length counts ≡ 9
   pub each : (g : ℕ) → g < 9 → getD counts g 0 ≡ queuedOf m i g
 
--- what the clauses on the queue, the buffers and the frames establish, so that lines can be told
+-- what the clauses on the flags, the queue, the buffers and the frames establish, so that lines can be told
 pub record Lined (m : List ℕ) : Type 0 where
   pub counted : Counted m
   pub running : word m runningAt ≤ groupCount
   pub groups : (i : ℕ) → i < word m queuedAt → (1 ≤ word m (queueAt + queueStride * i)) × (word m (queueAt + queueStride * i) ≤ groupCount)
   pub framed : (g : ℕ) → 1 ≤ g → g ≤ groupCount → Framed m g
+  pub forced : (g : ℕ) → 1 ≤ g → g ≤ groupCount → flagAt m (groupAddress g + forceOffset) ≡ true → flagAt m (groupAddress g + atomicOffset) ≡ true

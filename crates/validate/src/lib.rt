@@ -9,15 +9,18 @@ use crate::frames::frames_good;
 use crate::lines::lines_good;
 use crate::numbers::numbers_good;
 use crate::words::counts_in_bounds;
-use crate::words::flags_are_flags;
+use crate::words::flags_good;
 use crate::words::unused_are_zero;
 use memory::Node;
 use memory::map::SIZE;
 ghost use mathlib.Core.Path.{_≡_};
-ghost use Rattle.rules.specs.Build.{paper01};
+ghost use mathlib.Core.Bool.{true};
+ghost use Rattle.rules.specs.Lists.{all, upFrom};
+ghost use Rattle.rules.specs.Build.{paper01, groupCount};
 ghost use Rattle.rules.specs.Memory.{nodeAt};
 ghost use Rattle.rules.specs.Valid.{isNode};
 ghost use Rattle.rules.specs.MemoryTest.{isMemory};
+ghost use Rattle.validate.specs.Clauses.{flagsAtomic};
 ghost use Rattle.validate.specs.Known.{Counted};
 
 // Frames and swap pages together.
@@ -26,6 +29,7 @@ const PAGE_COUNT: u32 = Node::FRAMES + Node::SWAP;
 // The words hold a node.
 fn holds_node(m: &[u32]) -> bool
     requires { ⌜ Counted (now m) ⌝ }
+    requires { ⌜ all (flagsAtomic (now m)) (upFrom 1 groupCount) ≡ true ⌝ }
     ensures { λ t. ⌜ isNode paper01 (nodeAt (now (m .entry))) ≡ t ⌝ }
 {
     if !numbers_good(m) {
@@ -47,7 +51,7 @@ pub fn is_node(memory: &[u32]) -> bool
     if !counts_in_bounds(memory) {
         return false;
     }
-    if !flags_are_flags(memory) {
+    if !flags_good(memory) {
         return false;
     }
     if !unused_are_zero(memory) {

@@ -1,14 +1,16 @@
-// The clauses on the groups' lines: pledges, flags, the running group and its first page, and the head of the queue.
+// The clauses on the groups' lines: pledges, flags, the running group and its first page, and the head of the queue or, without one, the timer.
 use crate::PAGE_COUNT;
 use memory::Node;
 use memory::map::ATOMIC;
 use memory::map::COUNT;
+use memory::map::FORCE;
 use memory::map::GROUP;
 use memory::map::HELD;
 use memory::map::LIST;
 use memory::map::PENDING;
 use memory::map::QUEUE_AT;
 use memory::map::QUEUED;
+use memory::map::REVOKED;
 use memory::map::RUNNING;
 use memory::map::TIMER;
 use memory::map::USED;
@@ -17,6 +19,7 @@ use memory::map::group_word;
 use memory::map::queue_word;
 ghost use mathlib.Core.Path.{_≡_};
 ghost use mathlib.Core.Bool.{not};
+ghost use mathlib.Core.List.{[]};
 ghost use Prim.Native.Nat.{_≤_};
 ghost use lib.Dec.{leb};
 ghost use Rattle.rules.specs.Lists.{all, isEmpty, upFrom};
@@ -125,19 +128,37 @@ fn runner_atomic(m: &[u32], queued: [u32; 9]) -> bool
     group_word(m, runner, ATOMIC) == 1
 }
 
-// "if the hardware queue isn't empty its head is the running group's, and that group is direct; if it is empty the timer is 0"
+// "an empty queue has a timer above 0 only where the running group has force on"
+fn timer_idle(m: &[u32]) -> bool
+    requires { ⌜ Lined (now m) ⌝ }
+    ensures { λ t. ⌜ headStays [] (nodeAt (now (m .entry))) ≡ t ⌝ }
+{
+    if m[TIMER] == 0 {
+        return true;
+    }
+    let runner = m[RUNNING];
+    if runner == 0 {
+        return false;
+    }
+    group_word(m, runner, FORCE) == 1
+}
+
+// "if the hardware queue isn't empty its head is the running group's, and that group is direct", which a revoked one is not
 fn head_stays(m: &[u32]) -> bool
     requires { ⌜ Lined (now m) ⌝ }
     ensures { λ t. ⌜ headStays (nodeAt (now (m .entry)) .queue) (nodeAt (now (m .entry))) ≡ t ⌝ }
 {
     if m[QUEUED] == 0 {
-        return m[TIMER] == 0;
+        return timer_idle(m);
     }
     let g = m[QUEUE_AT];
     if g != m[RUNNING] {
         return false;
     }
-    group_word(m, g, COUNT) == 0
+    if group_word(m, g, COUNT) > 0 {
+        return false;
+    }
+    group_word(m, g, REVOKED) != 1
 }
 
 // "a running group's first page is in a frame"

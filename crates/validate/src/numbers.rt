@@ -1,11 +1,9 @@
-// The clauses on the numbers that stand where they are read: the running group, the timer, the messages of the queue, and the groups' own.
+// The clauses on the numbers that stand where they are read: the running group, the timer, the messages of the queue, and the groups' buffers.
 use memory::Node;
-use memory::map::ATOMIC;
 use memory::map::COUNT;
 use memory::map::GROUP;
 use memory::map::HELD;
 use memory::map::LENGTH;
-use memory::map::PENDING;
 use memory::map::QUEUED;
 use memory::map::RUNNING;
 use memory::map::TIMER;
@@ -15,11 +13,10 @@ use memory::map::group_word;
 use memory::map::queue_word;
 ghost use mathlib.Core.Path.{_≡_};
 ghost use Prim.Native.Nat.{_≤_, _<_};
-ghost use lib.ListN.{length};
 ghost use Rattle.rules.specs.Lists.{all, upFrom};
 ghost use Rattle.rules.specs.Build.{groupCount};
-ghost use Rattle.rules.specs.Memory.{size, word, queuedAt};
-ghost use Rattle.validate.specs.Clauses.{messageGood, bufferGood, pendingAtomic, numbersGood};
+ghost use Rattle.rules.specs.Memory.{word, queuedAt};
+ghost use Rattle.validate.specs.Clauses.{messageGood, bufferGood, numbersGood};
 ghost use Rattle.validate.specs.Known.{Counted};
 
 // The messages that all frames and swap pages hold.
@@ -96,33 +93,6 @@ fn buffers_good(m: &[u32]) -> bool
     true
 }
 
-// "pending only with atomic": of group g
-fn pending_atomic(m: &[u32], g: u32) -> bool
-    requires { ⌜ size ≤ length (now m) ⌝ }
-    requires { ⌜ (1 ≤ g) × (g ≤ groupCount) ⌝ }
-    ensures { λ t. ⌜ pendingAtomic (now (m .entry)) g ≡ t ⌝ }
-{
-    if group_word(m, g, PENDING) != 1 {
-        return true;
-    }
-    group_word(m, g, ATOMIC) == 1
-}
-
-// Of all groups.
-fn pendings_atomic(m: &[u32]) -> bool
-    requires { ⌜ size ≤ length (now m) ⌝ }
-    ensures { λ t. ⌜ all (pendingAtomic (now (m .entry))) (upFrom 1 groupCount) ≡ t ⌝ }
-{
-    let mut g: u32 = 1;
-    while g <= Node::GROUPS {
-        if !pending_atomic(m, g) {
-            return false;
-        }
-        g += 1;
-    }
-    true
-}
-
 // The clauses on the numbers that stand where they are read.
 pub fn numbers_good(m: &[u32]) -> bool
     requires { ⌜ Counted (now m) ⌝ }
@@ -137,8 +107,5 @@ pub fn numbers_good(m: &[u32]) -> bool
     if !queue_good(m) {
         return false;
     }
-    if !buffers_good(m) {
-        return false;
-    }
-    pendings_atomic(m)
+    buffers_good(m)
 }

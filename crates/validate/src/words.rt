@@ -1,4 +1,4 @@
-// The clauses of "Memory is a node when" on words alone: counts, flags and unused words.
+// The clauses of "Memory is a node when" on words alone: counts, flags and unused words. Of a group's flags all is asked in one pass.
 use crate::PAGE_COUNT;
 use memory::Node;
 use memory::map::ATOMIC;
@@ -6,6 +6,7 @@ use memory::map::DESCRIBED;
 use memory::map::DESCRIPTOR;
 use memory::map::ENTERED_AT;
 use memory::map::ENTERED_COUNT;
+use memory::map::FORCE;
 use memory::map::FREE_AT;
 use memory::map::FREE_COUNT;
 use memory::map::HELD;
@@ -19,6 +20,7 @@ use memory::map::PLACES;
 use memory::map::QUEUE_AT;
 use memory::map::QUEUE_STRIDE;
 use memory::map::QUEUED;
+use memory::map::REVOKED;
 use memory::map::SWAP_AT;
 use memory::map::SWAP_COUNT;
 use memory::map::SWAP_LINE;
@@ -29,13 +31,14 @@ use memory::map::queue_word;
 use memory::words::zeros;
 ghost use mathlib.Core.Path.{_≡_};
 ghost use mathlib.Core.Bool.{_&&_};
-ghost use Prim.Native.Nat.{_≤_, _<_};
+ghost use Prim.Native.Nat.{_+_, _≤_, _<_};
 ghost use lib.Dec.{leb};
 ghost use lib.ListN.{length};
 ghost use Rattle.rules.specs.Lists.{all, upFrom};
 ghost use Rattle.rules.specs.Build.{groupCount};
-ghost use Rattle.rules.specs.Memory.{size, word, queuedAt, swapCountAt, enteredCountAt};
-ghost use Rattle.rules.specs.MemoryTest.{groupCounts, lengthInBounds, countsInBounds, groupFlags, flagsAreFlags, queueUnused, freeUnused, swapUnused, enteredUnused, groupUnused, messageUnused, unusedAreZero};
+ghost use Rattle.rules.specs.Memory.{size, word, queuedAt, swapCountAt, enteredCountAt, forceOffset, revokedOffset, groupAddress};
+ghost use Rattle.rules.specs.MemoryTest.{groupCounts, lengthInBounds, countsInBounds, queueUnused, freeUnused, swapUnused, enteredUnused, groupUnused, messageUnused, unusedAreZero};
+ghost use Rattle.validate.specs.Clauses.{flagsGood};
 ghost use Rattle.validate.specs.Known.{Counted};
 
 // "counts .. are within the bounds above": those of the list and the descriptor of group g
@@ -113,22 +116,38 @@ pub fn counts_in_bounds(m: &[u32]) -> bool
     lengths_in_bounds(m)
 }
 
-// "flags are 0 or 1": those of group g
+// The timer's flags of group g: none is above atomic.
+fn timer_flags(m: &[u32], g: u32, atomic: u32) -> bool
+    requires { ⌜ size ≤ length (now m) ⌝ }
+    requires { ⌜ (1 ≤ g) × (g ≤ groupCount) ⌝ }
+    ensures { λ t. ⌜ leb (word (now (m .entry)) (groupAddress g + forceOffset)) atomic && leb (word (now (m .entry)) (groupAddress g + revokedOffset)) atomic ≡ t ⌝ }
+{
+    if group_word(m, g, FORCE) > atomic {
+        return false;
+    }
+    group_word(m, g, REVOKED) <= atomic
+}
+
+// "flags are 0 or 1"; pending, force and revoked "only with atomic": of group g none is above atomic, which is at most 1
 fn group_flags(m: &[u32], g: u32) -> bool
     requires { ⌜ size ≤ length (now m) ⌝ }
     requires { ⌜ (1 ≤ g) × (g ≤ groupCount) ⌝ }
-    ensures { λ t. ⌜ groupFlags (now (m .entry)) g ≡ t ⌝ }
+    ensures { λ t. ⌜ flagsGood (now (m .entry)) g ≡ t ⌝ }
 {
-    if group_word(m, g, ATOMIC) > 1 {
+    let atomic = group_word(m, g, ATOMIC);
+    if atomic > 1 {
         return false;
     }
-    group_word(m, g, PENDING) <= 1
+    if group_word(m, g, PENDING) > atomic {
+        return false;
+    }
+    timer_flags(m, g, atomic)
 }
 
-// "flags are 0 or 1"
-pub fn flags_are_flags(m: &[u32]) -> bool
+// Of all groups.
+pub fn flags_good(m: &[u32]) -> bool
     requires { ⌜ size ≤ length (now m) ⌝ }
-    ensures { λ t. ⌜ flagsAreFlags (now (m .entry)) ≡ t ⌝ }
+    ensures { λ t. ⌜ all (flagsGood (now (m .entry))) (upFrom 1 groupCount) ≡ t ⌝ }
 {
     let mut g: u32 = 1;
     while g <= Node::GROUPS {

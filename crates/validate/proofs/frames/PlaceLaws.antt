@@ -15,7 +15,7 @@ use Rattle.rules.specs.Lists.{all, concatMap, upFrom}
 use Rattle.rules.specs.Node.{emptyPlace, waiting}
 use Rattle.rules.specs.Frames.{ceilDiv}
 use Rattle.rules.specs.Valid.{isWaiting}
-use Rattle.rules.specs.Memory.{usedOffset, countOffset, heldOffset, listOffset, placeStride, word, wordsAt, placeAt, framePlaces, frameAddress, listAt, bufferAt, groupAddress}
+use Rattle.rules.specs.Memory.{usedOffset, countOffset, heldOffset, listOffset, groupStride, placeStride, size, word, wordsAt, placeAt, framePlaces, frameAddress, listAt, bufferAt, groupAddress}
 use Rattle.rules.specs.MemoryTest.{zeroAt}
 use Rattle.rules.proofs.Steps.EveryLaws.{every-of}
 use Rattle.rules.proofs.Steps.ListLaws.{length-parts}
@@ -137,7 +137,7 @@ module _ (m : List ℕ) (g : ℕ) (f : Framed m g) where
     here : groupAddress g + listOffset + p / 8 ≡ groupAddress g + (listOffset + p / 8)
     here = omega arith
 
-    pub listed-inside : listOffset + p / 8 < 110
+    pub listed-inside : listOffset + p / 8 < groupStride
     listed-inside = omega (arith, room, f .few)
 
     pub listed-frame : (w : ℕ) → w ≡ word m (groupAddress g + (listOffset + p / 8)) → w < 96
@@ -185,7 +185,7 @@ unfolding waitingIn
 place-tested m f i a t e r = rw (← e) r
 
 -- a place of a page is within the memory
-pub place-inside : (f r a : ℕ) → f < 96 → r < 8 → a ≡ frameAddress f + placeStride * r → a + placeStride ≤ 8088
+pub place-inside : (f r a : ℕ) → f < 96 → r < 8 → a ≡ frameAddress f + placeStride * r → a + placeStride ≤ size
 unfolding frameAddress
 place-inside f r a h l e = omega arith
 

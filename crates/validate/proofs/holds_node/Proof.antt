@@ -1,5 +1,5 @@
 -- `validate::holds_node` meets its contract: the clauses on the words that are read, then on the frames, then on the lines, each part
--- standing on those before it, are together those of the node. Assumes nothing.
+-- standing on those before it, are with those on the flags, which it requires, together those of the node. Assumes nothing.
 use borrow.Author.Needs.{needs}
 use Rattle.validate.proofs.RangeLaws.{refused, accepted}
 use Rattle.validate.proofs.FactLaws.{lined}
@@ -13,21 +13,21 @@ numbers-good-requires c κs = search needs
 returns : tie.Need-returns
 returns c =
     let s = c .before .before .before in
-    numbers-fail (s .args .m .now) (s .pre) (refused (c .before .numbers-good .ensures) (c .if1 .taken))
+    numbers-fail (s .args .m .now) (s .pre .0) (refused (c .before .numbers-good .ensures) (c .if1 .taken))
 
 frames-good-requires : tie.Need-frames-good-requires
-frames-good-requires c κs = (c .before .before .before .pre, accepted (c .before .numbers-good .ensures) (c .if1 .left))
+frames-good-requires c κs = (c .before .before .before .pre .0, accepted (c .before .numbers-good .ensures) (c .if1 .left))
 
 returns-2 : tie.Need-returns-2
 returns-2 c =
     let s = c .before .before .before .before .before in
-    frames-fail (s .args .m .now) (s .pre) (refused (c .before .frames-good .ensures) (c .if2 .taken))
+    frames-fail (s .args .m .now) (s .pre .0) (refused (c .before .frames-good .ensures) (c .if2 .taken))
 
 lines-good-requires : tie.Need-lines-good-requires
 lines-good-requires c κs =
     let d = c .before .before in
     let s = d .before .before .before in
-    lined (s .args .m .now) (s .pre) (accepted (d .before .numbers-good .ensures) (d .if1 .left))
+    lined (s .args .m .now) (s .pre .0) (s .pre .1) (accepted (d .before .numbers-good .ensures) (d .if1 .left))
     (accepted (c .before .frames-good .ensures) (c .if2 .left))
 
 returns-3 : tie.Need-returns-3
@@ -35,7 +35,7 @@ returns-3 c =
     let e = c .before in
     let d = e .before .before in
     let s = d .before .before .before in
-    lines-decide (s .args .m .now) (s .pre) _ (accepted (d .before .numbers-good .ensures) (d .if1 .left))
+    lines-decide (s .args .m .now) (s .pre .0) _ (s .pre .1) (accepted (d .before .numbers-good .ensures) (d .if1 .left))
     (accepted (e .before .frames-good .ensures) (e .if2 .left)) (c .lines-good .ensures)
 
 pub holds-node-spec : {M : Type 1} → statement M

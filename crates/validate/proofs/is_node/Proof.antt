@@ -7,10 +7,14 @@ use borrow.Author.Needs.{needs}
 use borrow.Author.Tests.{le-leb, lt-leb}
 use lib.Dec.{leb}
 use lib.ListN.{length}
+use Rattle.rules.specs.Lists.{all, upFrom}
+use Rattle.rules.specs.Build.{groupCount}
 use Rattle.rules.specs.Memory.{size}
+use Rattle.rules.specs.MemoryTest.{flagsAreFlags}
+use Rattle.validate.specs.Clauses.{flagsAtomic}
 use Rattle.validate.specs.Known.{Counted}
 use Rattle.validate.proofs.RangeLaws.{refused, accepted}
-use Rattle.validate.proofs.TestLaws.{memory-tested}
+use Rattle.validate.proofs.TestLaws.{flags-tell, flags-fail, memory-tested}
 use Rattle.validate.proofs.FactLaws.{counted}
 use Rattle.validate.proofs.is_node.Statement.{statement}
 use Rattle.validate.proofs.is_node.Tie as tie
@@ -32,21 +36,26 @@ returns-2 c =
     let d = c .before .before in
     rw (memory-tested (d .before .before .args .memory .now), long d, refused (c .before .counts-in-bounds .ensures) (c .if2 .taken))
 
-flags-are-flags-requires : tie.Need-flags-are-flags-requires
-flags-are-flags-requires c κs = search needs
-
-returns-3 : tie.Need-returns-3
-returns-3 c =
-    let e = c .before .before in
-    let d = e .before .before in
-    rw (memory-tested (d .before .before .args .memory .now), long d, accepted (e .before .counts-in-bounds .ensures) (e .if2 .left))
-    (rw (refused (c .before .flags-are-flags .ensures) (c .if3 .taken)))
+flags-good-requires : tie.Need-flags-good-requires
+flags-good-requires c κs = search needs
 
 -- what the counts establish
 counts : (c : tie.Else2) → Counted (c .before .before .before .before .args .memory .now)
 counts c =
     let d = c .before .before in
     counted (d .before .before .args .memory .now) (omega arith) (accepted (c .before .counts-in-bounds .ensures) (c .if2 .left))
+
+returns-3 : tie.Need-returns-3
+returns-3 c =
+    let e = c .before .before in
+    sym (flags-fail (e .before .before .before .before .args .memory .now) (counts e) (refused (c .before .flags-good .ensures) (c .if3 .taken)))
+
+-- what the flags do: those of the words, and those of the groups
+flags : (c : tie.Else3)
+    → let m = c .before .before .before .before .before .before .args .memory .now in
+    (flagsAreFlags m ≡ true) × (all (flagsAtomic m) (upFrom 1 groupCount) ≡ true)
+flags c =
+    flags-tell (c .before .before .before .before .before .before .args .memory .now) .0 (accepted (c .before .flags-good .ensures) (c .if3 .left))
 
 unused-are-zero-requires : tie.Need-unused-are-zero-requires
 unused-are-zero-requires c κs = counts (c .before .before)
@@ -57,10 +66,10 @@ returns-4 c =
     let e = f .before .before in
     let d = e .before .before in
     rw (memory-tested (d .before .before .args .memory .now), long d, accepted (e .before .counts-in-bounds .ensures) (e .if2 .left))
-    (rw (accepted (f .before .flags-are-flags .ensures) (f .if3 .left), refused (c .before .unused-are-zero .ensures) (c .if4 .taken)))
+    (rw (flags f .0, refused (c .before .unused-are-zero .ensures) (c .if4 .taken)))
 
 holds-node-requires : tie.Need-holds-node-requires
-holds-node-requires c κs = counts (c .before .before .before .before)
+holds-node-requires c κs = let f = c .before .before in (counts (f .before .before), flags f .1)
 
 returns-5 : tie.Need-returns-5
 returns-5 c =
@@ -69,7 +78,7 @@ returns-5 c =
     let e = f .before .before in
     let d = e .before .before in
     rw (memory-tested (d .before .before .args .memory .now), long d, accepted (e .before .counts-in-bounds .ensures) (e .if2 .left))
-    (rw (accepted (f .before .flags-are-flags .ensures) (f .if3 .left), accepted (h .before .unused-are-zero .ensures) (h .if4 .left))
+    (rw (flags f .0, accepted (h .before .unused-are-zero .ensures) (h .if4 .left))
     (sym (c .holds-node .ensures)))
 
 pub is-node-spec : {M : Type 1} → statement M
@@ -79,7 +88,7 @@ is-node-spec =
     returns
     counts-in-bounds-requires
     returns-2
-    flags-are-flags-requires
+    flags-good-requires
     returns-3
     unused-are-zero-requires
     returns-4

@@ -1,9 +1,9 @@
--- A group's line, its flags, the head of the queue and the running group's first page, as the words tell them: a line is not empty where the group is buffered or has
--- messages in the hardware queue. Assumes nothing.
-use Prim.Native.Nat.{ℕ, zero, suc, _+_, _-_, _≤_}
+-- A group's line, its flags, the timer, the head of the queue and the running group's first page, as the words tell them: a line is not empty
+-- where the group's buffer holds messages or the hardware queue has some of its own. Assumes nothing.
+use Prim.Native.Nat.{ℕ, zero, suc, _+_, _-_, _≤_, _<_}
 use mathlib.Core.Path.{_≡_, refl, sym, subst, ap, _∙_}
 use mathlib.Core.Logic.{_≢_}
-use mathlib.Core.Bool.{Bool, true, false, not, _||_}
+use mathlib.Core.Bool.{Bool, true, false, not, _&&_, or-true}
 use mathlib.Core.List.{List, [], _∷_, map}
 use native.Mathlib.Omega.{arith}
 use lib.Dec.{eqb, ltb}
@@ -11,11 +11,11 @@ use lib.ListN.{length, take, drop, length-take, length-drop, length-map}
 use borrow.Author.Tests.{eq-eqb, ne-eqb, lt-ltb, le-ltb, not-true, not-false}
 use Rattle.rules.specs.Lists.{isEmpty}
 use Rattle.rules.specs.Build.{paper01}
-use Rattle.rules.specs.Node.{Message, groupOf, buffered, messageOf, waiting, inBuffer, inQueue, line}
+use Rattle.rules.specs.Node.{Message, groupOf, bufferHolds, buffered, forced, messageOf, waiting, inBuffer, inQueue, line}
 use Rattle.rules.specs.Settling.{mayStay}
 use Rattle.rules.specs.Valid.{pendingHasLine, runnerAtomic, headStays, firstInFrame, runnerInFrame}
 use Rattle.rules.specs.Paging.{inFrame}
-use Rattle.rules.specs.Memory.{runningAt, timerAt, queuedAt, queueAt, queueStride, atomicOffset, pendingOffset, usedOffset, countOffset, heldOffset, listOffset, word, wordsAt, messageAt, messagesAt, flagAt, listAt, bufferAt, groupAt, groupAddress, nodeAt}
+use Rattle.rules.specs.Memory.{runningAt, timerAt, queuedAt, queueAt, queueStride, atomicOffset, pendingOffset, forceOffset, revokedOffset, usedOffset, countOffset, heldOffset, listOffset, word, wordsAt, messageAt, messagesAt, flagAt, listAt, bufferAt, groupAt, groupAddress, nodeAt}
 use Rattle.rules.proofs.Steps.ListLaws.{some-append, length-some}
 use Rattle.rules.proofs.Steps.LineLaws.{direct-line}
 use Rattle.validate.specs.Known.{queuedOf, Framed, Lined}
@@ -35,6 +35,11 @@ positive : (k : ℕ) → k ≢ 0 → 1 ≤ k
 positive zero h = absurd (h refl)
 positive (suc k) h = omega arith
 
+-- a test with one that follows from it
+and-implied : (a b : Bool) → (a ≡ true → b ≡ true) → a && b ≡ a
+and-implied true b h = h refl
+and-implied false b h = refl
+
 module _ (m : List ℕ) (g : ℕ) (f : Framed m g) where
   -- n of the node's group
   count-read : groupOf (nodeAt m) g .buffer .count ≡ word m (groupAddress g + countOffset)
@@ -49,7 +54,7 @@ module _ (m : List ℕ) (g : ℕ) (f : Framed m g) where
       rw (group-read m g (f .low) (f .high))
       (part-length (bufferAt m a .places) (word m (a + usedOffset)) (word m (a + countOffset)) (rw (places-all m a) (room m g f)))
 
-  -- a buffered group has a line
+  -- with messages in the buffer there is a line
   pub line-buffered : (n : ℕ) → n ≡ word m (groupAddress g + countOffset) → n ≢ 0 → isEmpty (line (nodeAt m) g) ≡ false
   unfolding line inBuffer
   line-buffered n e d =
@@ -57,10 +62,10 @@ module _ (m : List ℕ) (g : ℕ) (f : Framed m g) where
       let some : 1 ≤ length (map (messageOf g) ws) = omega (arith, length-map ws (messageOf g), waiting-read, positive n d) in
       some-append (map (messageOf g) ws) (inQueue (nodeAt m) g) (length-some (map (messageOf g) ws) some)
 
-  -- a direct one where it has messages in the queue
+  -- else where the group has messages in the queue
   pub line-direct : (n k : ℕ) → n ≡ word m (groupAddress g + countOffset) → n ≡ 0 → k ≡ queuedOf m (word m queuedAt) g
       → isEmpty (line (nodeAt m) g) ≡ eqb k 0
-  unfolding buffered queuedOf inQueue nodeAt
+  unfolding bufferHolds queuedOf inQueue nodeAt
   line-direct n k e z q =
       let none : groupOf (nodeAt m) g .buffer .count ≤ 0 = omega (arith, count-read) in
       ap (isEmpty {A = Message}) (direct-line (nodeAt m) g (le-ltb 0 (groupOf (nodeAt m) g .buffer .count) none))
@@ -84,6 +89,17 @@ module _ (m : List ℕ) (g : ℕ) (f : Framed m g) where
   unfolding groupAt flagAt
   atomic-read w e = rw (group-read m g (f .low) (f .high), ← e)
 
+  -- force, where it stands only with atomic
+  force-read : (flagAt m (groupAddress g + forceOffset) ≡ true → flagAt m (groupAddress g + atomicOffset) ≡ true)
+      → (w : ℕ) → w ≡ word m (groupAddress g + forceOffset) → groupOf (nodeAt m) g .force && groupOf (nodeAt m) g .atomic ≡ eqb w 1
+  unfolding groupAt flagAt
+  force-read only w e = rw (group-read m g (f .low) (f .high)) (rw e (and-implied _ _ only))
+
+  -- revoked
+  revoked-read : (w : ℕ) → w ≡ word m (groupAddress g + revokedOffset) → groupOf (nodeAt m) g .revoked ≡ eqb w 1
+  unfolding groupAt flagAt
+  revoked-read w e = rw (group-read m g (f .low) (f .high), ← e)
+
 -- what a call that tells of a line says
 pub empty-line : {a t : Bool} → not a ≡ t → not t ≡ true → a ≡ true
 empty-line {a} {t} e n = not-false a (e ∙ not-true t n)
@@ -92,10 +108,6 @@ pub some-line : {a t : Bool} → not a ≡ t → not t ≡ false → a ≡ false
 some-line {a} {t} e n = not-true a (e ∙ not-false t n)
 
 -- The running group.
-
-or-true : (b : Bool) → b || true ≡ true
-or-true true = refl
-or-true false = refl
 
 module _ (m : List ℕ) (r : ℕ) (running : r ≡ word m runningAt) where
   -- is read
@@ -128,6 +140,33 @@ module _ (m : List ℕ) (r : ℕ) (running : r ≡ word m runningAt) where
       let flag = subst (λ (k : ℕ). groupOf (nodeAt m) k .atomic ≡ eqb w 1) (sym runner-read) (atomic-read m r f w a) in
       rw (ne-eqb (nodeAt m .running) 0 (λ z. d (sym runner-read ∙ z)), some) flag
 
+  -- The timer with an empty queue.
+
+  -- at rest
+  pub timer-rests : word m timerAt ≡ 0 → headStays [] (nodeAt m) ≡ true
+  unfolding headStays nodeAt
+  timer-rests z = rw z
+
+  module _ (above : word m timerAt ≢ 0) where
+    -- else it is to be forced
+    timer-counts : headStays [] (nodeAt m) ≡ forced (nodeAt m)
+    unfolding headStays nodeAt
+    timer-counts = rw (ne-eqb (word m timerAt) 0 above)
+
+    -- by nobody it is not
+    pub timer-nobody : r ≡ 0 → headStays [] (nodeAt m) ≡ false
+    unfolding forced
+    timer-nobody z = timer-counts ∙ rw (runner-read, z)
+
+    -- by a group where its force is on
+    pub timer-forced : Lined m → r ≢ 0 → (w : ℕ) → w ≡ word m (groupAddress r + forceOffset) → headStays [] (nodeAt m) ≡ eqb w 1
+    unfolding forced
+    timer-forced l d w e =
+        let f = runner-framed l d in
+        let force = subst (λ (k : ℕ). groupOf (nodeAt m) k .force && groupOf (nodeAt m) k .atomic ≡ eqb w 1) (sym runner-read)
+        (force-read m r f (l .forced r (f .low) (f .high)) w e) in
+        timer-counts ∙ rw (ne-eqb (nodeAt m .running) 0 (λ z. d (sym runner-read ∙ z))) force
+
   -- Its first page.
 
   -- where nobody runs
@@ -159,15 +198,15 @@ module _ (m : List ℕ) (r : ℕ) (running : r ≡ word m runningAt) where
 
 -- The head of the queue.
 
-not-above : (n : ℕ) → not (ltb 0 n) ≡ eqb n 0
-not-above zero = refl
-not-above (suc n) = rw (lt-ltb 0 (suc n) (omega arith), ne-eqb (suc n) 0 (λ z. omega arith))
-
 module _ (m : List ℕ) where
-  -- none: the timer decides
-  pub head-none : word m queuedAt ≡ 0 → headStays (nodeAt m .queue) (nodeAt m) ≡ eqb (word m timerAt) 0
-  unfolding headStays nodeAt messagesAt
-  head-none z = rw z
+  -- none
+  queue-none : word m queuedAt ≡ 0 → nodeAt m .queue ≡ []
+  unfolding nodeAt messagesAt
+  queue-none z = rw z
+
+  -- the timer decides
+  pub head-none : word m queuedAt ≡ 0 → headStays (nodeAt m .queue) (nodeAt m) ≡ headStays [] (nodeAt m)
+  head-none z = rw (queue-none z)
 
   -- the queue has a head
   queue-head : word m queuedAt ≢ 0 → nodeAt m .queue ≡ messageAt m queueAt ∷ messagesAt m (queueAt + queueStride) (word m queuedAt - 1)
@@ -192,11 +231,20 @@ module _ (m : List ℕ) where
   unfolding mayStay messageAt nodeAt
   head-other s d = head-may s ∙ rw (ne-eqb (word m queueAt) (word m runningAt) d)
 
-  -- else whether its group is direct
-  pub head-own : (g : ℕ) → Framed m g → g ≡ word m queueAt → word m queuedAt ≢ 0 → word m queueAt ≡ word m runningAt
-      → (n : ℕ) → n ≡ word m (groupAddress g + countOffset) → headStays (nodeAt m .queue) (nodeAt m) ≡ eqb n 0
-  unfolding mayStay buffered messageAt nodeAt
-  head-own g f e s o n c =
-      let many : groupOf (nodeAt m) (word m queueAt) .buffer .count ≡ n =
-      subst (λ (k : ℕ). groupOf (nodeAt m) k .buffer .count ≡ n) e (count-read m g f ∙ sym c) in
-      head-may s ∙ rw (eq-eqb (word m queueAt) (word m runningAt) o, many) (not-above n)
+  -- else whether its group is direct: its buffer holds none, and it is not revoked
+  module _ (l : Lined m) (s : word m queuedAt ≢ 0) (o : word m queueAt ≡ word m runningAt) where
+    head-own : headStays (nodeAt m .queue) (nodeAt m) ≡ not (buffered (nodeAt m) (word m queueAt))
+    unfolding mayStay messageAt nodeAt
+    head-own = head-may s ∙ rw (eq-eqb (word m queueAt) (word m runningAt) o)
+
+    pub head-held : (n : ℕ) → n ≡ word m (groupAddress (word m queueAt) + countOffset) → 0 < n
+        → headStays (nodeAt m .queue) (nodeAt m) ≡ false
+    unfolding buffered bufferHolds
+    head-held n e h = head-own ∙ rw (count-read m (word m queueAt) (head-framed l s), ← e, lt-ltb 0 n h)
+
+    pub head-direct : (n w : ℕ) → n ≡ word m (groupAddress (word m queueAt) + countOffset) → n ≤ 0
+        → w ≡ word m (groupAddress (word m queueAt) + revokedOffset) → headStays (nodeAt m .queue) (nodeAt m) ≡ not (eqb w 1)
+    unfolding buffered bufferHolds
+    head-direct n w e z r =
+        let f = head-framed l s in
+        head-own ∙ rw (count-read m (word m queueAt) f, ← e, le-ltb 0 n z, revoked-read m (word m queueAt) f w r)

@@ -1,9 +1,9 @@
--- The clauses on one message of the queue and on one group's record, as the words tell them: the first comparison that fails decides, and
+-- The clauses on one message of the queue and on one group's buffer, as the words tell them: the first comparison that fails decides, and
 -- the last is the answer. A message's length is the one kept with it where that is in bounds. Assumes nothing.
 use Prim.Native.Nat.{ℕ, _+_, _*_, _/_, _≤_, _<_}
-use mathlib.Core.Path.{_≡_, refl, sym, ap, _∙_}
+use mathlib.Core.Path.{_≡_, sym, ap, _∙_}
 use mathlib.Core.Logic.{_≢_}
-use mathlib.Core.Bool.{Bool, true, false, _&&_}
+use mathlib.Core.Bool.{false, and-true}
 use mathlib.Core.List.{List}
 use native.Mathlib.Omega.{arith}
 use borrow.Author.Tests.{le-leb, lt-leb, lt-ltb, le-ltb, ne-eqb}
@@ -12,13 +12,9 @@ use lib.ListN.{length}
 use Rattle.rules.specs.Build.{wordLimit}
 use Rattle.rules.specs.Frames.{ceilDiv}
 use Rattle.rules.specs.Valid.{isMessage}
-use Rattle.rules.specs.Memory.{word, groupAddress, queueAt, queueStride, usedOffset, countOffset, heldOffset, atomicOffset, pendingOffset, messageAt, flagAt}
+use Rattle.rules.specs.Memory.{word, groupAddress, queueAt, queueStride, usedOffset, countOffset, heldOffset, messageAt}
 use Rattle.rules.proofs.Map.MapWords.{take-wordsAt, length-wordsAt}
-use Rattle.validate.specs.Clauses.{messageGood, bufferGood, pendingAtomic}
-
-and-true : (b : Bool) → b && true ≡ b
-and-true true = refl
-and-true false = refl
+use Rattle.validate.specs.Clauses.{messageGood, bufferGood}
 
 module _ (m : List ℕ) where
   -- the length of a message
@@ -78,15 +74,3 @@ module _ (m : List ℕ) where
     pub count-held : h < 8 → n ≢ 0 → (c : ℕ) → c ≡ ceilDiv (h + n) 8 → bufferGood m g ≡ eqb k c
     unfolding bufferGood
     count-held l d c e = rw e (rw (← used, ← count, ← held, lt-ltb h 8 l, ne-eqb n 0 d))
-
-  -- The flags of group g.
-
-  -- not pending
-  pub pending-off : (g : ℕ) → word m (groupAddress g + pendingOffset) ≢ 1 → pendingAtomic m g ≡ true
-  unfolding pendingAtomic flagAt
-  pending-off g d = rw (ne-eqb (word m (groupAddress g + pendingOffset)) 1 d)
-
-  -- pending: atomic decides
-  pub pending-on : (g w : ℕ) → word m (groupAddress g + pendingOffset) ≡ 1 → w ≡ word m (groupAddress g + atomicOffset) → pendingAtomic m g ≡ eqb w 1
-  unfolding pendingAtomic flagAt
-  pending-on g w e f = rw (e, ← f)

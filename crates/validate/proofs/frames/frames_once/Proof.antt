@@ -6,7 +6,7 @@ use mathlib.Core.Bool.{true}
 use mathlib.Core.List.{_++_}
 use native.Mathlib.Omega.{arith}
 use borrow.Author.Needs.{needs}
-use Rattle.rules.specs.Memory.{word, wordsAt}
+use Rattle.rules.specs.Memory.{size, word, wordsAt}
 use Rattle.validate.specs.Clauses.{listed}
 use Rattle.validate.proofs.frames.ListedLaws.{list-bound}
 use Rattle.validate.proofs.frames.OnceLaws.{Marked}
@@ -52,7 +52,7 @@ loop-holds c =
 
 -- number i of the list is within the memory
 bound : (c : tie.In-loop Inv-loop μ-loop Inv-lists μ-lists)
-    → c .before .before .before .list-at .result + c .before .loop .i < 8088
+    → c .before .before .before .list-at .result + c .before .loop .i < size
 bound c =
     let d = c .before .before .before .before .before in
     let s = d .before .before in

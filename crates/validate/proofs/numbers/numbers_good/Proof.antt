@@ -39,22 +39,10 @@ buffers-good-requires c κs = search needs
 returns-4 : tie.Need-returns-4
 unfolding word numbersGood
 returns-4 c =
-    let d = c .before .before in
+    let d = c .before in
     let m = d .before .before .before .before .before .before .before .args .m .now in
     rw (le-leb (word m 0) 8 (omega arith), lt-ltb (word m 1) 256 (omega arith), accepted (d .before .queue-good .ensures) (d .if3 .left))
-    (rw (refused (c .before .buffers-good .ensures) (c .if4 .taken)))
-
-pendings-atomic-requires : tie.Need-pendings-atomic-requires
-pendings-atomic-requires c κs = search needs
-
-returns-5 : tie.Need-returns-5
-unfolding word numbersGood
-returns-5 c =
-    let e = c .before in
-    let d = e .before .before in
-    let m = d .before .before .before .before .before .before .before .args .m .now in
-    rw (le-leb (word m 0) 8 (omega arith), lt-ltb (word m 1) 256 (omega arith), accepted (d .before .queue-good .ensures) (d .if3 .left))
-    (rw (accepted (e .before .buffers-good .ensures) (e .if4 .left)) (c .pendings-atomic .ensures))
+    (c .buffers-good .ensures)
 
 pub numbers-good-spec : {M : Type 1} → statement M
 numbers-good-spec =
@@ -67,6 +55,4 @@ numbers-good-spec =
     queue-good-requires
     returns-3
     buffers-good-requires
-    returns-4
-    pendings-atomic-requires
-    returns-5)
+    returns-4)

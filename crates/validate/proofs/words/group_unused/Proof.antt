@@ -1,8 +1,8 @@
 -- `validate::words::group_unused` meets its contract: a list and a descriptor within their bounds end within the record. Assumes nothing.
-use Prim.Native.Nat.{_≤_}
+use Prim.Native.Nat.{_+_, _≤_}
 use native.Mathlib.Omega.{arith}
 use borrow.Author.Needs.{needs}
-use Rattle.rules.specs.Memory.{groupAddress}
+use Rattle.rules.specs.Memory.{groupStride, size, groupAddress}
 use Rattle.rules.specs.MemoryTest.{groupUnused}
 use Rattle.validate.proofs.RangeLaws.{refused, accepted}
 use Rattle.validate.proofs.words.group_unused.Statement.{statement}
@@ -25,7 +25,7 @@ group-at-requires c κs = search needs
 
 -- the record is within the memory, and the counts within their bounds
 known : (c : tie.After-group-at)
-    → (c .group-at .result ≤ 966) × ((c .before .before .group-word .result ≤ 96) × (c .before .group-word2 .result ≤ 8))
+    → (c .group-at .result + groupStride ≤ size) × ((c .before .before .group-word .result ≤ 96) × (c .before .group-word2 .result ≤ 8))
 unfolding groupAddress
 known c =
     let s = c .before .before .before .before in

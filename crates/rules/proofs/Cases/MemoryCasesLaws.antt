@@ -158,7 +158,7 @@ step-on-memory-cases =
       power-on-short = refl;
       power-on-none = refl;
       step-report = step-report fresh _ fresh-node;
-      step-words = step-writes _ (schedule 1) 0 1076 _ fresh-node refl;
+      step-words = step-writes _ (schedule 1) 0 1092 _ fresh-node refl;
       step-short = step-refused _ _ (words-fail _ 0 refl);
       step-no-node = step-refused _ _ (node-fails _ 0 refl);
       before-unknown = step-refused _ _ (node-fails _ 0 refl);
@@ -167,9 +167,9 @@ step-on-memory-cases =
       before-ticks = step-refused _ _ (words-fail _ 0 refl);
       unknown-two = step-report fresh _ fresh-node;
       dispose-report = step-report _ _ busy-node;
-      dispose-words = step-writes _ (user dispose) 0 1076 _ busy-node refl;
-      dispose-frames = step-writes _ (user dispose) 1067 162 _ busy-node refl;
-      dispose-rest = step-writes _ (user dispose) 7988 102 _ busy-node refl;
+      dispose-words = step-writes _ (user dispose) 0 1092 _ busy-node refl;
+      dispose-frames = step-writes _ (user dispose) 1083 162 _ busy-node refl;
+      dispose-rest = step-writes _ (user dispose) 8004 102 _ busy-node refl;
     }
 
 pub head-cases : HeadCases

@@ -32,8 +32,12 @@ laid a (p ∷ ps) = replicate (p .start - a) 0 ++ (p .held ++ laid (p .start + l
 abbrev pub fresh : List ℕ
 fresh = laid 0 (3 holds (32 ∷ []) ∷ 164 holds upFrom 0 32 ∷ 8004 holds (64 ∷ 0 ∷ 0 ∷ 0 ∷ upFrom 32 64) ∷ [])
 
+-- group 1 runs in a section with force on, at tick 255 of its timer, and is revoked; there is no message
+abbrev pub forced : List ℕ
+forced = put 0 (1 ∷ 255 ∷ []) (put 196 (1 ∷ 0 ∷ 1 ∷ 1 ∷ []) fresh)
+
 -- a busy node: group 1 runs, with a descriptor of two words and two messages in the queue, one of group 2 between them, at tick 5; group 3
--- has 8 messages behind 2 used-up places in the frames 0 and 1
+-- has 8 messages behind 2 used-up places in the frames 0 and 1, and is atomic, revoked and has force on
 abbrev pub busy : List ℕ
 busy =
     laid 0
@@ -43,7 +47,7 @@ busy =
     ∷ 24 holds (1 ∷ 3 ∷ 4 ∷ 4 ∷ 4 ∷ [])
     ∷ 164 holds upFrom 2 30
     ∷ 196 holds (1 ∷ 1 ∷ 0 ∷ 0 ∷ 0 ∷ 0 ∷ 0 ∷ 2 ∷ 9 ∷ 8 ∷ [])
-    ∷ 420 holds (1 ∷ 0 ∷ 0 ∷ 0 ∷ 2 ∷ 8 ∷ 2 ∷ 0 ∷ [])
+    ∷ 420 holds (1 ∷ 0 ∷ 1 ∷ 1 ∷ 2 ∷ 8 ∷ 2 ∷ 0 ∷ [])
     ∷ 436 holds (0 ∷ 1 ∷ [])
     ∷ 1092 holds (2 ∷ 10 ∷ 11 ∷ [])
     ∷ 1101 holds (2 ∷ 20 ∷ 21 ∷ [])
@@ -80,13 +84,13 @@ fullQueue =
     ∷ 8004 holds (64 ∷ 0 ∷ 0 ∷ 0 ∷ upFrom 32 64)
     ∷ [])
 
--- group 2 has all frames and swap pages, full of its 768 messages of 8 words
+-- group 2 has all frames and swap pages, full of its 768 messages of 8 words, each of them 8
 abbrev pub fullPages : List ℕ
 fullPages =
     laid 0
     (312 holds (0 ∷ 768 ∷ 96 ∷ [])
     ∷ 324 holds upFrom 0 96
-    ∷ 1092 holds concatMap (λ w. 8 ∷ replicate 8 w) (upFrom 1 768)
+    ∷ 1092 holds replicate 6912 8
     ∷ 8004 holds (0 ∷ 32 ∷ 64 ∷ 0 ∷ [])
     ∷ 8072 holds upFrom 0 32
     ∷ [])
@@ -112,7 +116,7 @@ firstSwapped =
     laid 0
     (3 holds (31 ∷ [])
     ∷ 164 holds (upFrom 0 4 ++ upFrom 5 27)
-    ∷ 420 holds (1 ∷ 0 ∷ 0 ∷ 0 ∷ 7 ∷ 2 ∷ 2 ∷ [])
+    ∷ 424 holds (7 ∷ 2 ∷ 2 ∷ [])
     ∷ 436 holds (37 ∷ 4 ∷ [])
     ∷ 1380 holds (1 ∷ 5 ∷ [])
     ∷ 3819 holds (1 ∷ 6 ∷ [])
@@ -127,7 +131,7 @@ pub record MapCases : Type 0 where
   -- the size
   pub fresh-size : length fresh ≡ 8104
   -- every kind of number at its place
-  pub busy-words : memoryAfter (bytes "A,3,10,11\nA,3,20,21\nA,3,30,31\nA,3,40\nA,3,50\nA,3,60\nA,3,70\nA,3,80\nA,3,90\nA,3,100\nS,3\nD\nD\nS,1\nP,9\nP,8\nA,1,7\nA,2,5,6\nA,1,4,4,4\nT,5\n") ≡ busy
+  pub busy-words : memoryAfter (bytes "A,3,10,11\nA,3,20,21\nA,3,30,31\nA,3,40\nA,3,50\nA,3,60\nA,3,70\nA,3,80\nA,3,90\nA,3,100\nS,3\nD\nD\nB,1\nT,256\nS,1\nP,9\nP,8\nA,1,7\nA,2,5,6\nA,1,4,4,4\nT,5\n") ≡ busy
   -- the last group's list, as long as there are frames; the last place of the last frame; the order of entry, which is the memory's end
   pub last-frame : Leaves (copies 256 "A,8,1,2,3,4,5,6,7,8\n")
       (980 holds (0 ∷ 0 ∷ 0 ∷ 0 ∷ 0 ∷ 256 ∷ 32 ∷ 0 ∷ replicate 8 0 ++ (upFrom 0 32 ++ replicate 64 0))
@@ -195,19 +199,29 @@ pub record NodeCases : Type 0 where
   pub full-queue-node : isMemory fullQueue ≡ true
   -- "h the used-up places before the first (0 to 7 ..)"; a list in any order
   pub seven-used : isMemory sevenUsed ≡ true
-  -- the timer at 255, a queued message of group 8 and one of 8 words, a buffered one of 8 words, a descriptor of 8 words; group 5 atomic
-  -- with no line, group 3 pending with a line in its buffer, group 8 with one in the queue
+  -- the timer at 255, a queued message of group 8 and one of 8 words, a buffered one of 8 words, a descriptor of 8 words; group 5 atomic, with
+  -- force on and revoked, with no line, group 3 pending with a line in its buffer, group 8 with one in the queue. "Places used up or never used
+  -- may hold anything" (docs/DECISIONS.md), and so may free frames and swap pages
   pub edges :
-      isMemory (put 1 (255 ∷ []) (put 14 (8 ∷ []) (put 25 (8 ∷ []) (put 421 (1 ∷ []) (put 644 (1 ∷ []) (put 980 (1 ∷ 1 ∷ []) (put 987 (8 ∷ []) (put 1173 (8 ∷ []) busy))))))))
+      isMemory
+      (put 1 (255 ∷ [])
+      (put 14 (8 ∷ [])
+      (put 25 (8 ∷ [])
+      (put 421 (1 ∷ [])
+      (put 644 (1 ∷ 0 ∷ 1 ∷ 1 ∷ [])
+      (put 980 (1 ∷ 1 ∷ [])
+      (put 987 (8 ∷ [])
+      (put 1092 (replicate 18 9)
+      (put 1173 (8 ∷ [])
+      (put 1182 (replicate 6822 9)
+      busy))))))))))
       ≡ true
-  -- "Places used up or never used may hold anything" (docs/DECISIONS.md), and so may free frames and swap pages; group 3, which does not run,
-  -- has a line and is not atomic
-  pub anything :
-      isMemory (put 420 (0 ∷ []) (put 1092 (replicate 18 9) (put 1182 (replicate 54 9) (put 1236 (replicate 6768 9) busy)))) ≡ true
   -- a page in swap, and the first page of the group, which runs, in a frame
   pub swapped-node : isMemory swapped ≡ true
-  -- the first page of a group that does not run, in swap; "each count staying at 4,294,967,295 once there"
+  -- the first page of a group that does not run, in swap, and the group not atomic; "each count staying at 4,294,967,295 once there"
   pub first-swapped : isMemory firstSwapped ≡ true
+  -- "an empty queue has a timer above 0 only where the running group has force on", up to 255; a revoked group with nothing in its buffer
+  pub forced-timer : isMemory forced ≡ true
 
 -- "Memory is a node when", clause by clause: each of these is a node but for one clause
 pub record NoNodeCases : Type 0 where
@@ -273,9 +287,11 @@ pub record NoNodeCases : Type 0 where
   pub list-too-short : isMemory (put 424 (2 ∷ 15 ∷ []) sixteen) ≡ false
   pub list-of-none :
       isMemory (put 3 (31 ∷ []) (put 195 (0 ∷ []) (put 650 (1 ∷ []) (put 660 (31 ∷ []) (put 8005 (1 ∷ []) (put 8072 (31 ∷ []) fresh)))))) ≡ false
-  -- "flags are 0 or 1": atomic, pending
+  -- "flags are 0 or 1": atomic, pending, force, revoked
   pub atomic-two : isMemory (put 644 (2 ∷ []) fresh) ≡ false
   pub pending-two : isMemory (put 645 (2 ∷ []) fresh) ≡ false
+  pub force-two : isMemory (put 646 (2 ∷ []) fresh) ≡ false
+  pub revoked-two : isMemory (put 647 (2 ∷ []) fresh) ≡ false
   pub atomic-two-first : isMemory (put 196 (2 ∷ []) fresh) ≡ false
   pub pending-two-last : isMemory (put 981 (2 ∷ []) fresh) ≡ false
   -- "unused places of the queue .. are 0": the first word behind the messages, its length, the last word of the last place
@@ -311,8 +327,13 @@ pub record NoNodeCases : Type 0 where
   pub used-of-none :
       isMemory (put 3 (31 ∷ []) (put 195 (0 ∷ []) (put 648 (1 ∷ 0 ∷ 1 ∷ []) (put 660 (31 ∷ []) (put 8005 (1 ∷ []) (put 8072 (31 ∷ []) fresh)))))) ≡ false
   -- "pending only with atomic"
-  pub pending-not-atomic : isMemory (put 420 (0 ∷ 1 ∷ []) busy) ≡ false
+  pub pending-not-atomic : isMemory (put 420 (0 ∷ 1 ∷ 0 ∷ 0 ∷ []) busy) ≡ false
   pub pending-not-atomic-queued : isMemory (put 308 (0 ∷ 1 ∷ []) busy) ≡ false
+  -- "force and revoked stand only with atomic": of a group that does not run, of the one that runs
+  pub force-not-atomic : isMemory (put 646 (1 ∷ []) fresh) ≡ false
+  pub revoked-not-atomic : isMemory (put 647 (1 ∷ []) fresh) ≡ false
+  pub force-not-atomic-runner : isMemory (put 0 (8 ∷ []) (put 982 (1 ∷ []) fresh)) ≡ false
+  pub revoked-not-atomic-runner : isMemory (put 0 (8 ∷ []) (put 983 (1 ∷ []) fresh)) ≡ false
   -- "and a line not empty": of the running group, of others
   pub pending-no-line-runner : isMemory (put 0 (5 ∷ []) (put 644 (1 ∷ 1 ∷ []) fresh)) ≡ false
   pub pending-no-line : isMemory (put 644 (1 ∷ 1 ∷ []) fresh) ≡ false
@@ -327,10 +348,15 @@ pub record NoNodeCases : Type 0 where
   -- "and that group is direct": group 1 with a message in frame 31
   pub head-group-buffered :
       isMemory (put 3 (29 ∷ []) (put 193 (0 ∷ []) (put 201 (1 ∷ 1 ∷ []) (put 212 (31 ∷ []) (put 3324 (1 ∷ 5 ∷ []) (put 8005 (3 ∷ []) (put 8074 (31 ∷ []) busy))))))) ≡ false
-  -- "if it is empty the timer is 0"
+  -- a revoked group "counts as buffered, empty or not"
+  pub head-group-revoked : isMemory (put 199 (1 ∷ []) busy) ≡ false
+  -- "if it is empty the timer is 0", now but for "where the running group has force on": nobody has, the runner has not, nobody runs, another runs
   pub timer-idle : isMemory (put 1 (1 ∷ []) fresh) ≡ false
+  pub timer-force-off : isMemory (put 198 (0 ∷ []) forced) ≡ false
+  pub timer-of-nobody : isMemory (put 0 (0 ∷ []) forced) ≡ false
+  pub timer-of-another : isMemory (put 0 (2 ∷ []) forced) ≡ false
   -- "a running group's first page is in a frame"
-  pub runner-swapped : isMemory (put 0 (3 ∷ []) firstSwapped) ≡ false
+  pub runner-swapped : isMemory (put 0 (3 ∷ []) (put 420 (1 ∷ []) firstSwapped)) ≡ false
 
 -- "the words of the head message as a part of the lent memory": where they begin, and how many they are
 pub record HeadCases : Type 0 where
@@ -339,9 +365,10 @@ pub record HeadCases : Type 0 where
   -- from a frame's: in the list's first, behind the used-up places
   pub head-buffered : headPart sevenUsed ≡ record { start = 1228; len = 8 }
   pub head-words : headWords sevenUsed ≡ replicate 8 16
-  -- "the running group's first, an empty part if there is none": nobody runs, and group 3 has messages; or a group with no line runs
+  -- "the running group's first, an empty part if there is none": nobody runs, and group 3 has messages; or a group with no line runs, which
+  -- counts as buffered
   pub head-nobody : headPart firstSwapped ≡ record { start = 0; len = 0 }
-  pub head-no-line : headPart (put 0 (1 ∷ []) fresh) ≡ record { start = 0; len = 0 }
+  pub head-no-line : headPart forced ≡ record { start = 0; len = 0 }
   -- "or the memory is no node"
   pub head-no-node : headPart (put 1 (256 ∷ []) busy) ≡ record { start = 0; len = 0 }
 

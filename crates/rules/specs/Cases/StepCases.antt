@@ -143,7 +143,7 @@ pub record TickCases : Type 0 where
       ∷ "A,1,7\n" gives "3,0,0,0,1,0\n"
       ∷ "T,255\n" gives "4,0,0,0,0,0\n"
       ∷ "T,1\n" gives "5,0,0,3,0,1\n"
-      ∷ "T,65535\n" gives "6,0,0,0,0,0\n"
+      ∷ "T,256\n" gives "6,0,0,0,0,0\n"
       ∷ "D\n" gives "7,0,0,1,0,0\n"
       ∷ "N\n" gives "8,0,0,2,0,0\n"
       ∷ "A,1,8\n" gives "9,0,0,0,1,0\n"
@@ -163,7 +163,7 @@ pub record TickCases : Type 0 where
       ∷ "D\n" gives "9,0,0,1,0,0\n"
       ∷ "N\n" gives "10,0,0,2,0,0\n"
       ∷ "A,1,9\n" gives "11,0,0,0,1,0\n"
-      ∷ "T,65535\n" gives "12,0,0,3,0,1\n"
+      ∷ "T,1000\n" gives "12,0,0,3,0,1\n"
       ∷ [])
   -- "the whole hardware queue moves to the buffers", of all groups, and moved counts them; the section goes on
   pub timeout-all : Lists

@@ -6,6 +6,7 @@ pub mod AnswerCasesLaws
 pub mod ScriptCasesLaws
 pub mod BufferCasesLaws
 pub mod StepCasesLaws
+pub mod ForceCasesLaws
 pub mod TestComputes
 pub mod MemoryCasesLaws
 pub mod PagingCasesLaws

@@ -5,6 +5,7 @@ pub mod AnswerCases
 pub mod ScriptCases
 pub mod BufferCases
 pub mod StepCases
+pub mod ForceCases
 pub mod MemoryCases
 pub mod PagingCases
 pub mod TypeCases

@@ -5,7 +5,7 @@ use mathlib.Core.List.{[], _∷_, _++_}
 use Rattle.rules.specs.Lists.{upFrom}
 use Rattle.rules.specs.Operation.{schedule, user, dispose}
 use Rattle.rules.specs.MemoryTest.{isMemory}
-use Rattle.rules.specs.Cases.MemoryCases.{fresh, busy, sevenUsed, swapped, firstSwapped}
+use Rattle.rules.specs.Cases.MemoryCases.{fresh, forced, busy, sevenUsed, swapped, firstSwapped}
 use Rattle.rules.specs.Cases.MemoryCases.{MapCases, StepOnMemoryCases, NodeCases, NoNodeCases, HeadCases, CountCases}
 use Rattle.rules.proofs.Cases.Computes.{computes}
 use Rattle.rules.proofs.Cases.TestComputes.{words-fail, node-fails, unused-fail, is-node, same-words, step-report, step-writes, step-refused, head-of, head-reads, head-none, counts-of, counts-none}
@@ -50,6 +50,11 @@ first-swapped : isMemory firstSwapped ≡ true
 unfolding computes
 first-swapped = is-node _ (upFrom 0 4 ++ (upFrom 5 32 ++ (upFrom 38 58 ++ (37 ∷ 4 ∷ [])))) (upFrom 0 4 ++ (upFrom 5 27 ++ (4 ∷ []))) refl refl refl refl refl refl refl refl refl
 
+-- the one whose timer force keeps
+forced-timer : isMemory forced ≡ true
+unfolding computes
+forced-timer = is-node _ (upFrom 0 96) (upFrom 0 32) refl refl refl refl refl refl refl refl refl
+
 pub node-cases : NodeCases
 unfolding computes
 node-cases =
@@ -59,9 +64,9 @@ node-cases =
       full-queue-node = is-node _ (1 ∷ 8 ∷ upFrom 2 6 ++ (0 ∷ upFrom 9 87)) (1 ∷ 8 ∷ upFrom 2 6 ++ (0 ∷ upFrom 9 23)) refl refl refl refl refl refl refl refl refl;
       seven-used = seven-used;
       edges = is-node _ (upFrom 2 30 ++ (upFrom 32 64 ++ (0 ∷ 1 ∷ []))) (upFrom 2 30 ++ (0 ∷ 1 ∷ [])) refl refl refl refl refl refl refl refl refl;
-      anything = is-node _ (upFrom 2 30 ++ (upFrom 32 64 ++ (0 ∷ 1 ∷ []))) (upFrom 2 30 ++ (0 ∷ 1 ∷ [])) refl refl refl refl refl refl refl refl refl;
       swapped-node = swapped-node;
       first-swapped = first-swapped;
+      forced-timer = forced-timer;
     }
 
 pub no-node-cases : NoNodeCases
@@ -109,6 +114,8 @@ no-node-cases =
       list-of-none = node-fails _ 5 refl;
       atomic-two = words-fail _ 2 refl;
       pending-two = words-fail _ 2 refl;
+      force-two = words-fail _ 2 refl;
+      revoked-two = words-fail _ 2 refl;
       atomic-two-first = words-fail _ 2 refl;
       pending-two-last = words-fail _ 2 refl;
       queue-unused = unused-fail _ refl;
@@ -135,6 +142,10 @@ no-node-cases =
       used-of-none = node-fails _ 5 refl;
       pending-not-atomic = node-fails _ 5 refl;
       pending-not-atomic-queued = node-fails _ 5 refl;
+      force-not-atomic = node-fails _ 5 refl;
+      revoked-not-atomic = node-fails _ 5 refl;
+      force-not-atomic-runner = node-fails _ 5 refl;
+      revoked-not-atomic-runner = node-fails _ 5 refl;
       pending-no-line-runner = node-fails _ 14 refl;
       pending-no-line = node-fails _ 14 refl;
       pending-no-line-first = node-fails _ 14 refl;
@@ -144,7 +155,11 @@ no-node-cases =
       head-of-nobody = node-fails _ 16 refl;
       head-of-another = node-fails _ 16 refl;
       head-group-buffered = node-fails _ 16 refl;
+      head-group-revoked = node-fails _ 16 refl;
       timer-idle = node-fails _ 16 refl;
+      timer-force-off = node-fails _ 16 refl;
+      timer-of-nobody = node-fails _ 16 refl;
+      timer-of-another = node-fails _ 16 refl;
       runner-swapped = node-fails _ 17 refl;
     }
 
@@ -158,7 +173,7 @@ step-on-memory-cases =
       power-on-short = refl;
       power-on-none = refl;
       step-report = step-report fresh _ fresh-node;
-      step-words = step-writes _ (schedule 1) 0 1076 _ fresh-node refl;
+      step-words = step-writes _ (schedule 1) 0 1092 _ fresh-node refl;
       step-short = step-refused _ _ (words-fail _ 0 refl);
       step-no-node = step-refused _ _ (node-fails _ 0 refl);
       before-unknown = step-refused _ _ (node-fails _ 0 refl);
@@ -167,9 +182,9 @@ step-on-memory-cases =
       before-ticks = step-refused _ _ (words-fail _ 0 refl);
       unknown-two = step-report fresh _ fresh-node;
       dispose-report = step-report _ _ busy-node;
-      dispose-words = step-writes _ (user dispose) 0 1076 _ busy-node refl;
-      dispose-frames = step-writes _ (user dispose) 1067 162 _ busy-node refl;
-      dispose-rest = step-writes _ (user dispose) 7988 102 _ busy-node refl;
+      dispose-words = step-writes _ (user dispose) 0 1092 _ busy-node refl;
+      dispose-frames = step-writes _ (user dispose) 1083 162 _ busy-node refl;
+      dispose-rest = step-writes _ (user dispose) 8004 102 _ busy-node refl;
     }
 
 pub head-cases : HeadCases
@@ -180,7 +195,7 @@ head-cases =
       head-buffered = head-of _ seven-used;
       head-words = head-reads _ _ seven-used refl;
       head-nobody = head-of _ first-swapped;
-      head-no-line = head-of _ (is-node _ (upFrom 0 96) (upFrom 0 32) refl refl refl refl refl refl refl refl refl);
+      head-no-line = head-of _ forced-timer;
       head-no-node = head-none _ (node-fails _ 1 refl);
     }
 

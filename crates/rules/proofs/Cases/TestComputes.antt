@@ -14,7 +14,7 @@ use Rattle.rules.specs.Operation.{Operation, notNode, refused}
 use Rattle.rules.specs.Step.{step}
 use Rattle.rules.specs.Node.{Place, Group, Node}
 use Rattle.rules.specs.Valid.{frameNumbers, frameOrder, standsOnce, nodeTests, isNode}
-use Rattle.rules.specs.Memory.{runningAt, timerAt, queuedAt, freeCountAt, queueAt, queueStride, freeAt, groupsAt, groupStride, atomicOffset, pendingOffset, usedOffset, countOffset, heldOffset, describedOffset, descriptorOffset, listOffset, placeStride, swapCountAt, enteredCountAt, outAt, broughtAt, swapAt, enteredAt, size}
+use Rattle.rules.specs.Memory.{runningAt, timerAt, queuedAt, freeCountAt, queueAt, queueStride, freeAt, groupsAt, groupStride, atomicOffset, pendingOffset, forceOffset, revokedOffset, usedOffset, countOffset, heldOffset, describedOffset, descriptorOffset, listOffset, placeStride, swapCountAt, enteredCountAt, outAt, broughtAt, swapAt, enteredAt, size}
 use Rattle.rules.specs.Memory.{word, wordsAt, frameAddress, groupAddress, messagesAt, placeAt, placesAt, framePlaces, frameAt, flagAt, listAt, bufferAt, groupAt, groupsFrom, pagingFrom, nodeAt}
 use Rattle.rules.specs.MemoryTest.{zeroAt, countsInBounds, flagsAreFlags, queueUnused, freeUnused, swapUnused, enteredUnused, groupUnused, messageUnused, unusedAreZero, memoryTests, isMemory, replaced, stepMemory, emptyPart, runnerPart, headPart, headWords, pageCounts}
 
@@ -91,6 +91,8 @@ groupBy m a =
     record {
       atomic = flagAt m (a + atomicOffset);
       pending = flagAt m (a + pendingOffset);
+      force = flagAt m (a + forceOffset);
+      revoked = flagAt m (a + revokedOffset);
       buffer =
           record {
             used = word m (a + usedOffset);

@@ -2,14 +2,14 @@
 use mathlib.Core.Path.{refl}
 use Rattle.rules.specs.Types.{operationOf as operationNamed}
 use Rattle.rules.specs.Text.{extendFirst, split, isDigit, valueFrom}
-use Rattle.rules.specs.Script.{isNumber, number, andNumber, numbers, groupAndWords, oneField, noField, letters, lettered, onlyByte, operationOf, readFields, readLine}
+use Rattle.rules.specs.Script.{isNumber, number, andNumber, numbers, groupAndWords, oneField, noField, yesOrNo, forceField, letters, lettered, onlyByte, operationOf, readFields, readLine}
 use Rattle.rules.specs.Cases.TypeCases.{TypesHold}
 
 pub types-hold : TypesHold
 unfolding
     operationNamed
     extendFirst split isDigit valueFrom
-    isNumber number andNumber numbers groupAndWords oneField noField letters lettered onlyByte operationOf readFields readLine
+    isNumber number andNumber numbers groupAndWords oneField noField yesOrNo forceField letters lettered onlyByte operationOf readFields readLine
 types-hold =
     record {
       operations = λ x ws. refl;

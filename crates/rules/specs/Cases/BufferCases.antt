@@ -43,7 +43,7 @@ pub record ArriveCases : Type 0 where
   pub queue-moves-up : Stands (bytes "S,1\nB\nA,1,7,7,7\nA,1,8\nD\n") 0
       (1 ∷ 0 ∷ 1 ∷ 32 ∷ 1 ∷ 1 ∷ 8 ∷ replicate 7 0 ++ replicate 150 0)
   -- "a list of frames, filled in order": frame 0, place after place, then frame 1
-  pub frame-filled : Stands (bytes "A,3,1\nA,3,2\nA,3,3\nA,3,4\nA,3,5\nA,3,6\nA,3,7\nA,3,8,8\nA,3,1,2,3,4,5,6,7,8\n") 1076
+  pub frame-filled : Stands (bytes "A,3,1\nA,3,2\nA,3,3\nA,3,4\nA,3,5\nA,3,6\nA,3,7\nA,3,8,8\nA,3,1,2,3,4,5,6,7,8\n") 1092
       (concatMap (λ w. 1 ∷ w ∷ replicate 7 0) (upFrom 1 7) ++ (2 ∷ 8 ∷ 8 ∷ replicate 6 0 ++ (8 ∷ 1 ∷ 2 ∷ 3 ∷ 4 ∷ 5 ∷ 6 ∷ 7 ∷ 8 ∷ replicate 63 0)))
   -- a message is written behind the waiting ones, the used-up places counted too
   pub arrive-behind-used : Lists
@@ -59,25 +59,25 @@ pub record ArriveCases : Type 0 where
       ∷ "M\n" gives "10,0,0,0,0,0\n"
       ∷ [])
   -- with a place used up and all others written, the next message takes a frame
-  pub arrive-next-frame : Stands (copies 8 "A,3,5\n" ++ bytes "S,3\nD\nA,3,9\n") 416
-      (1 ∷ 0 ∷ 1 ∷ 8 ∷ 2 ∷ 0 ∷ replicate 8 0 ++ (0 ∷ 1 ∷ replicate 94 0))
+  pub arrive-next-frame : Stands (copies 8 "A,3,5\n" ++ bytes "S,3\nD\nA,3,9\n") 420
+      (1 ∷ 0 ∷ 0 ∷ 0 ∷ 1 ∷ 8 ∷ 2 ∷ 0 ∷ replicate 8 0 ++ (0 ∷ 1 ∷ replicate 94 0))
   -- and stands at its first place
-  pub arrive-next-place : Stands (copies 8 "A,3,5\n" ++ bytes "S,3\nD\nA,3,9\n") 1148
+  pub arrive-next-place : Stands (copies 8 "A,3,5\n" ++ bytes "S,3\nD\nA,3,9\n") 1164
       (1 ∷ 9 ∷ replicate 7 0)
   -- a group's record: flags, h, n, frames, descriptor, and its list, head first; unused places are 0
-  pub list-head-first : Stands (bytes "A,4,5\n" ++ (copies 9 "A,3,5\n" ++ bytes "S,3\nP,4\nD\n")) 416
-      (1 ∷ 0 ∷ 1 ∷ 8 ∷ 2 ∷ 1 ∷ 4 ∷ replicate 7 0 ++ (1 ∷ 2 ∷ replicate 94 0))
+  pub list-head-first : Stands (bytes "A,4,5\n" ++ (copies 9 "A,3,5\n" ++ bytes "S,3\nP,4\nD\n")) 420
+      (1 ∷ 0 ∷ 0 ∷ 0 ∷ 1 ∷ 8 ∷ 2 ∷ 1 ∷ 4 ∷ replicate 7 0 ++ (1 ∷ 2 ∷ replicate 94 0))
   -- "A frame is taken from the front": of three groups the frames 0, 1 and 2; the free line begins with 3
   pub taken-from-front : Stands (bytes "A,5,7\nA,1,7\nA,8,7\n") 164
       (upFrom 3 29 ++ (0 ∷ 0 ∷ 0 ∷ []))
   -- group 5 took the first
-  pub taken-by-whom : Stands (bytes "A,5,7\nA,1,7\nA,8,7\n") 650
+  pub taken-by-whom : Stands (bytes "A,5,7\nA,1,7\nA,8,7\n") 660
       (0 ∷ 0 ∷ [])
   -- group 1 the second
-  pub taken-by-group-1 : Stands (bytes "A,5,7\nA,1,7\nA,8,7\n") 210
+  pub taken-by-group-1 : Stands (bytes "A,5,7\nA,1,7\nA,8,7\n") 212
       (1 ∷ 0 ∷ [])
   -- group 8 the third
-  pub taken-by-group-8 : Stands (bytes "A,5,7\nA,1,7\nA,8,7\n") 980
+  pub taken-by-group-8 : Stands (bytes "A,5,7\nA,1,7\nA,8,7\n") 996
       (2 ∷ 0 ∷ [])
 
 -- D, and how frames are freed
@@ -132,26 +132,26 @@ pub record DisposeCases : Type 0 where
       ∷ "D\n" gives "5,0,0,0,0,0\n"
       ∷ [])
   -- a used-up place: h and n, the frame still held
-  pub used-up-place : Stands (bytes "A,3,5,6\nA,3,7\nS,3\nD\n") 416
-      (1 ∷ 0 ∷ 1 ∷ 1 ∷ 1 ∷ 0 ∷ replicate 8 0 ++ (0 ∷ replicate 95 0))
+  pub used-up-place : Stands (bytes "A,3,5,6\nA,3,7\nS,3\nD\n") 420
+      (1 ∷ 0 ∷ 0 ∷ 0 ∷ 1 ∷ 1 ∷ 1 ∷ 0 ∷ replicate 8 0 ++ (0 ∷ replicate 95 0))
   -- its words and its kept length stay
-  pub used-up-words : Stands (bytes "A,3,5,6\nA,3,7\nS,3\nD\n") 1076
+  pub used-up-words : Stands (bytes "A,3,5,6\nA,3,7\nS,3\nD\n") 1092
       (2 ∷ 5 ∷ 6 ∷ replicate 6 0 ++ (1 ∷ 7 ∷ replicate 61 0))
   -- "A frame whose places are all used up is freed": after 8 of 9, h is 0, the list is frame 1 alone
-  pub used-up-frame : Stands (copies 9 "A,3,5\n" ++ (bytes "S,3\n" ++ copies 8 "D\n")) 416
-      (1 ∷ 0 ∷ 0 ∷ 1 ∷ 1 ∷ 0 ∷ replicate 8 0 ++ (1 ∷ replicate 95 0))
+  pub used-up-frame : Stands (copies 9 "A,3,5\n" ++ (bytes "S,3\n" ++ copies 8 "D\n")) 420
+      (1 ∷ 0 ∷ 0 ∷ 0 ∷ 0 ∷ 1 ∷ 1 ∷ 0 ∷ replicate 8 0 ++ (1 ∷ replicate 95 0))
   -- and frame 0 stands at the end of the free line, which has 31
   pub used-up-frame-freed : Stands (copies 9 "A,3,5\n" ++ (bytes "S,3\n" ++ copies 8 "D\n")) 164
       (upFrom 2 30 ++ (0 ∷ 0 ∷ []))
   -- after 7 of 9 it is held still
-  pub not-yet-freed : Stands (copies 9 "A,3,5\n" ++ (bytes "S,3\n" ++ copies 7 "D\n")) 416
-      (1 ∷ 0 ∷ 7 ∷ 2 ∷ 2 ∷ 0 ∷ replicate 8 0 ++ (0 ∷ 1 ∷ replicate 94 0))
+  pub not-yet-freed : Stands (copies 9 "A,3,5\n" ++ (bytes "S,3\n" ++ copies 7 "D\n")) 420
+      (1 ∷ 0 ∷ 0 ∷ 0 ∷ 7 ∷ 2 ∷ 2 ∷ 0 ∷ replicate 8 0 ++ (0 ∷ 1 ∷ replicate 94 0))
   -- "when n becomes 0 its last frame is freed too", in the middle of it: h is 0, the list empty
-  pub last-frame-freed : Stands (bytes "A,3,5\nA,3,6\nS,3\nD\nD\n") 416
-      (1 ∷ 0 ∷ 0 ∷ 0 ∷ 0 ∷ 0 ∷ replicate 104 0)
+  pub last-frame-freed : Stands (bytes "A,3,5\nA,3,6\nS,3\nD\nD\n") 420
+      (1 ∷ replicate 111 0)
   -- a frame whose last place is also the last message is freed once
-  pub eighth-disposed : Stands (copies 8 "A,3,5\n" ++ (bytes "S,3\n" ++ copies 8 "D\n")) 416
-      (1 ∷ 0 ∷ 0 ∷ 0 ∷ 0 ∷ 0 ∷ replicate 104 0)
+  pub eighth-disposed : Stands (copies 8 "A,3,5\n" ++ (bytes "S,3\n" ++ copies 8 "D\n")) 420
+      (1 ∷ replicate 111 0)
   -- the free line has 32 again, frame 0 the last
   pub eighth-disposed-free : Stands (copies 8 "A,3,5\n" ++ (bytes "S,3\n" ++ copies 8 "D\n")) 3
       (32 ∷ replicate 160 0 ++ (upFrom 1 31 ++ (0 ∷ [])))
@@ -162,11 +162,11 @@ pub record DisposeCases : Type 0 where
   pub freed-count : Stands (bytes "A,2,5\nA,3,6\nS,2\nD\nS,3\nD\n") 3
       (32 ∷ [])
   -- "Freed words, and the length kept with each message, stay unchanged."
-  pub freed-words : Stands (bytes "A,3,5,6\nA,3,7\nS,3\nD\nD\n") 1076
+  pub freed-words : Stands (bytes "A,3,5,6\nA,3,7\nS,3\nD\nD\n") 1092
       (2 ∷ 5 ∷ 6 ∷ replicate 6 0 ++ (1 ∷ 7 ∷ replicate 61 0))
   -- frame 0, freed and alone in the line, is taken again: "a written message's words past its length are 0", the next place keeps its own
-  pub taken-again : Stands (bytes "A,1,7,8,9\nA,1,4,5\n" ++ (copies 248 "A,2,6\n" ++ bytes "S,1\nD\nD\nS,0\nA,1,3\n")) 1076
+  pub taken-again : Stands (bytes "A,1,7,8,9\nA,1,4,5\n" ++ (copies 248 "A,2,6\n" ++ bytes "S,1\nD\nD\nS,0\nA,1,3\n")) 1092
       (1 ∷ 3 ∷ replicate 7 0 ++ (2 ∷ 4 ∷ 5 ∷ replicate 60 0))
   -- group 1 holds it
   pub taken-again-list : Stands (bytes "A,1,7,8,9\nA,1,4,5\n" ++ (copies 248 "A,2,6\n" ++ bytes "S,1\nD\nD\nS,0\nA,1,3\n")) 196
-      (1 ∷ 0 ∷ 0 ∷ 1 ∷ 1 ∷ 0 ∷ replicate 8 0 ++ replicate 96 0)
+      (1 ∷ 0 ∷ 0 ∷ 0 ∷ 0 ∷ 1 ∷ 1 ∷ 0 ∷ replicate 8 0 ++ replicate 96 0)

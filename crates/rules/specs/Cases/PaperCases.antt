@@ -5,7 +5,7 @@ use Rattle.rules.specs.Cases.Case.{_gives_, times, Lists, crowded, Lists
 
 -- "The K cases are proved from the definitions as one collected table"
 pub record CasesHold : Type 0 where
-  -- K1: "the whole case"
+  -- K1: "the whole case"; "Line 8 of the whole case therefore now has trap 2."
   pub k1 : Lists
       ("S,1\n" gives "1,0,0,0,0,0\n"
       ∷ "A,1,7\n" gives "2,0,0,0,1,0\n"
@@ -14,7 +14,7 @@ pub record CasesHold : Type 0 where
       ∷ "E,0\n" gives "5,0,7,0,0,0\n"
       ∷ "T,256\n" gives "6,0,0,3,0,2\n"
       ∷ "D\n" gives "7,0,0,1,0,0\n"
-      ∷ "N\n" gives "8,0,0,0,0,0\n"
+      ∷ "N\n" gives "8,0,0,2,0,0\n"
       ∷ "S,2\n" gives "9,0,0,0,2,0\n"
       ∷ "M\n" gives "10,0,2,0,0,0\n"
       ∷ "D\n" gives "11,0,0,1,0,0\n"

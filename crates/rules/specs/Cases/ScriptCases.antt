@@ -247,7 +247,7 @@ pub record ScriptCasesHold : Type 0 where
       ∷ "M,0\n" gives "4,2,0,0,0,0\n"
       ∷ "E,0,0\n" gives "5,2,0,0,0,0\n"
       ∷ "D,0\n" gives "6,2,0,0,0,0\n"
-      ∷ "B,0\n" gives "7,2,0,0,0,0\n"
+      ∷ "B,0,0\n" gives "7,2,0,0,0,0\n"
       ∷ "N,0\n" gives "8,2,0,0,0,0\n"
       ∷ "P,1,1\n" gives "9,2,0,0,0,0\n"
       ∷ "L,0,0\n" gives "10,2,0,0,0,0\n"

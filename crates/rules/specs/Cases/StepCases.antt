@@ -116,14 +116,14 @@ pub record ScheduleCases : Type 0 where
   pub running-word : Stands (bytes "S,1\nS,8\n") 0
       (8 ∷ 0 ∷ 0 ∷ 32 ∷ [])
   -- the upcall "becomes atomic and pending": the flags of group 8 as it runs
-  pub flags-words : Stands (bytes "A,8,5\nS,8\n") 966
-      (1 ∷ 1 ∷ 0 ∷ 1 ∷ 1 ∷ 0 ∷ [])
+  pub flags-words : Stands (bytes "A,8,5\nS,8\n") 980
+      (1 ∷ 1 ∷ 0 ∷ 0 ∷ 0 ∷ 1 ∷ 1 ∷ 0 ∷ [])
   -- and after it lost the processor; group 1, running with no line, has none
-  pub flags-kept : Stands (bytes "A,8,5\nS,8\nS,1\n") 966
-      (1 ∷ 1 ∷ 0 ∷ 1 ∷ 1 ∷ 0 ∷ [])
+  pub flags-kept : Stands (bytes "A,8,5\nS,8\nS,1\n") 980
+      (1 ∷ 1 ∷ 0 ∷ 0 ∷ 0 ∷ 1 ∷ 1 ∷ 0 ∷ [])
   -- nobody running, nobody is called: group 1 with a message has its flags off
   pub no-upcall-for-nobody : Stands (bytes "A,1,5\nS,0\n") 196
-      (0 ∷ 0 ∷ 0 ∷ 1 ∷ 1 ∷ 0 ∷ [])
+      (0 ∷ 0 ∷ 0 ∷ 0 ∷ 0 ∷ 1 ∷ 1 ∷ 0 ∷ [])
 
 -- T
 pub record TickCases : Type 0 where
@@ -143,24 +143,27 @@ pub record TickCases : Type 0 where
       ∷ "A,1,7\n" gives "3,0,0,0,1,0\n"
       ∷ "T,255\n" gives "4,0,0,0,0,0\n"
       ∷ "T,1\n" gives "5,0,0,3,0,1\n"
-      ∷ "T,65535\n" gives "6,0,0,0,0,0\n"
+      ∷ "T,256\n" gives "6,0,0,0,0,0\n"
       ∷ "D\n" gives "7,0,0,1,0,0\n"
-      ∷ "A,1,8\n" gives "8,0,0,0,0,0\n"
-      ∷ "T,255\n" gives "9,0,0,0,0,0\n"
-      ∷ "T,1\n" gives "10,0,0,3,0,1\n"
+      ∷ "N\n" gives "8,0,0,2,0,0\n"
+      ∷ "A,1,8\n" gives "9,0,0,0,1,0\n"
+      ∷ "T,255\n" gives "10,0,0,0,0,0\n"
+      ∷ "T,1\n" gives "11,0,0,3,0,1\n"
       ∷ [])
-  -- ticks behind a timeout do not count, and there is one timeout in one T
+  -- with force off, ticks behind a timeout do not count, and there is one timeout in one T
   pub ticks-over : Lists
       ("S,1\n" gives "1,0,0,0,0,0\n"
       ∷ "A,1,7\n" gives "2,0,0,0,1,0\n"
       ∷ "T,300\n" gives "3,0,0,3,0,1\n"
       ∷ "D\n" gives "4,0,0,1,0,0\n"
-      ∷ "A,1,8\n" gives "5,0,0,0,0,0\n"
-      ∷ "T,255\n" gives "6,0,0,0,0,0\n"
-      ∷ "T,1\n" gives "7,0,0,3,0,1\n"
-      ∷ "D\n" gives "8,0,0,1,0,0\n"
-      ∷ "A,1,9\n" gives "9,0,0,0,0,0\n"
-      ∷ "T,65535\n" gives "10,0,0,3,0,1\n"
+      ∷ "N\n" gives "5,0,0,2,0,0\n"
+      ∷ "A,1,8\n" gives "6,0,0,0,1,0\n"
+      ∷ "T,255\n" gives "7,0,0,0,0,0\n"
+      ∷ "T,1\n" gives "8,0,0,3,0,1\n"
+      ∷ "D\n" gives "9,0,0,1,0,0\n"
+      ∷ "N\n" gives "10,0,0,2,0,0\n"
+      ∷ "A,1,9\n" gives "11,0,0,0,1,0\n"
+      ∷ "T,1000\n" gives "12,0,0,3,0,1\n"
       ∷ [])
   -- "the whole hardware queue moves to the buffers", of all groups, and moved counts them; the section goes on
   pub timeout-all : Lists
@@ -176,7 +179,7 @@ pub record TickCases : Type 0 where
       ∷ "D\n" gives "10,0,0,1,0,0\n"
       ∷ "E,0\n" gives "11,0,8,0,0,0\n"
       ∷ "D\n" gives "12,0,0,1,0,0\n"
-      ∷ "N\n" gives "13,0,0,0,0,0\n"
+      ∷ "N\n" gives "13,0,0,2,0,0\n"
       ∷ "S,2\n" gives "14,0,0,0,2,0\n"
       ∷ "E,0\n" gives "15,0,5,0,0,0\n"
       ∷ "S,3\n" gives "16,0,0,0,3,0\n"
@@ -284,17 +287,17 @@ pub record UserCases : Type 0 where
       ∷ "L,0\n" gives "8,0,1,0,0,0,0,3,1\n"
       ∷ [])
   -- the descriptor in memory: its length, its words, 0 past them
-  pub descriptor-words : Stands (bytes "S,3\nP,7\nP,8\nP,9\n") 416
-      (replicate 5 0 ++ (3 ∷ 7 ∷ 8 ∷ 9 ∷ replicate 101 0))
+  pub descriptor-words : Stands (bytes "S,3\nP,7\nP,8\nP,9\n") 420
+      (replicate 7 0 ++ (3 ∷ 7 ∷ 8 ∷ 9 ∷ replicate 101 0))
   -- after L it is empty, its words 0
-  pub descriptor-emptied : Stands (bytes "S,3\nP,7\nP,8\nP,9\nL,5\n") 416
-      (replicate 110 0)
+  pub descriptor-emptied : Stands (bytes "S,3\nP,7\nP,8\nP,9\nL,5\n") 420
+      (replicate 112 0)
   -- B: atomic on, pending off
-  pub begin-words : Stands (bytes "S,3\nB\n") 416
-      (1 ∷ replicate 109 0)
+  pub begin-words : Stands (bytes "S,3\nB\n") 420
+      (1 ∷ replicate 111 0)
   -- N: both off
-  pub end-words : Stands (bytes "S,3\nB\nN\n") 416
-      (replicate 110 0)
+  pub end-words : Stands (bytes "S,3\nB\nN\n") 420
+      (replicate 112 0)
   -- after the upcall and D: atomic on, pending off
-  pub dispose-words : Stands (bytes "S,3\nA,3,7\nD\n") 416
-      (1 ∷ replicate 109 0)
+  pub dispose-words : Stands (bytes "S,3\nA,3,7\nD\n") 420
+      (1 ∷ replicate 111 0)

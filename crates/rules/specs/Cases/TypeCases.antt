@@ -2,6 +2,7 @@
 -- The letters of a script stand beside the operations' names. Assumes nothing.
 use Prim.Native.Nat.{ℕ}
 use mathlib.Core.Path.{_≡_}
+use mathlib.Core.Bool.{true, false}
 use mathlib.Core.List.{List, [], _∷_, map}
 use lib.ListN.{replicate}
 use Rattle.rules.specs.Build.{paper01}
@@ -21,7 +22,8 @@ everyOperation x ws =
     ∷ user poll
     ∷ user (peek x)
     ∷ user dispose
-    ∷ user beginAtomic
+    ∷ user (beginAtomic false)
+    ∷ user (beginAtomic true)
     ∷ user endAtomic
     ∷ user (describe x)
     ∷ user (launch x)
@@ -32,10 +34,10 @@ everyOperation x ws =
 pub record TypesHold : Type 0 where
   -- the operations by name, with words lent beside them
   pub operations : (x : ℕ) (ws : List ℕ)
-      → map (λ o. operationOf o ws) (Arrive x ∷ Schedule x ∷ Tick x ∷ Poll ∷ Peek x ∷ Dispose ∷ BeginAtomic ∷ EndAtomic ∷ Describe x ∷ Launch x ∷ Unknown ∷ [])
+      → map (λ o. operationOf o ws) (Arrive x ∷ Schedule x ∷ Tick x ∷ Poll ∷ Peek x ∷ Dispose ∷ BeginAtomic false ∷ BeginAtomic true ∷ EndAtomic ∷ Describe x ∷ Launch x ∷ Unknown ∷ [])
       ≡ everyOperation x ws
   -- and by letter
-  pub letters : map (λ l. readLine (bytes l)) ("A,3,5,6" ∷ "S,3" ∷ "T,3" ∷ "M" ∷ "E,3" ∷ "D" ∷ "B" ∷ "N" ∷ "P,3" ∷ "L,3" ∷ "Q" ∷ [])
+  pub letters : map (λ l. readLine (bytes l)) ("A,3,5,6" ∷ "S,3" ∷ "T,3" ∷ "M" ∷ "E,3" ∷ "D" ∷ "B" ∷ "B,1" ∷ "N" ∷ "P,3" ∷ "L,3" ∷ "Q" ∷ [])
       ≡ everyOperation 3 (5 ∷ 6 ∷ [])
   -- "answer .. , value, trap, upcall group or 0, moved; an accepted L adds node, group, words"
   pub reports : reportOf (record { answer = 1; value = 2; trap = 3; upcall = 4; moved = 5; sent = 6 ∷ 7 ∷ 8 ∷ 9 ∷ [] })

@@ -1,7 +1,6 @@
 -- The queue in memory: a message is read where it stands, the front is dropped, a message joins the end. Assumes nothing.
 use Prim.Native.Nat.{_*_, _+_, _-_, _<_, _≤_, ℕ}
 use native.Mathlib.Omega.{arith}
-use mathlib.Core.Bool.{true, false, or-true}
 use mathlib.Core.List.{List, [], _++_, _∷_, append-assoc, append-nil}
 use mathlib.Core.Path.{_∙_, _≡_, ap, refl, sym}
 use lib.ListN.{drop, getD, length, length-append, length-drop, length-replicate, replicate, take, take-append-drop}
@@ -9,9 +8,8 @@ use lib.Seq.{length-take-le}
 use Rattle.rules.specs.Build.{paper01, wordLimit}
 use Rattle.rules.specs.Lists.{all, concatMap, pad}
 use Rattle.rules.specs.Memory.{messageWords, placeWords, queueAt, queueStride, queueWords, queuedAt, word, wordsAt}
-use Rattle.rules.specs.Node.{Message, Node, forced, placeOf, timerRuns, withTimer}
+use Rattle.rules.specs.Node.{Message, Node, placeOf}
 use Rattle.rules.specs.Refusal.{queued}
-use Rattle.rules.specs.Settling.{restTimer}
 use Rattle.rules.specs.Valid.{GoodMessage}
 use Rattle.rules.proofs.Steps.EveryLaws.{every-append, every-drop, every-getD, every-of}
 use Rattle.rules.proofs.Steps.ListLaws.{length-pad, length-parts, pad-fits}
@@ -96,27 +94,6 @@ dropping-held {m} {m₁} {m₂} {n} {r} h i some w₁ w₂ =
     queue-held h (drop i q) (omega arith) (every-drop GoodMessage i q (v .queue-good))
     (covered w₁ queueAt (pad 160 vs) (omega arith) (omega (arith, length-pad 160 vs)) moved)
     (wrote-as w₂ (ap (λ (k : ℕ). k ∷ []) (ap (λ (k : ℕ). k - i) count ∙ sym ld)))
-
--- put to rest where the queue is empty and the timer not forced, and else as it was
-pub rest-empty : (n : Node) → length (n .queue) ≡ 0 → forced n ≡ false → restTimer n ≡ withTimer 0 n
-unfolding restTimer timerRuns
-rest-empty n e idle = go (n .queue) refl
-  where
-    go : (q : List Message) → n .queue ≡ q → restTimer n ≡ withTimer 0 n
-    go [] f = rw (idle, f)
-    go (x ∷ q) f = absurd (omega (arith, ap length f))
-
-pub rest-some : (n : Node) → 1 ≤ length (n .queue) → restTimer n ≡ n
-unfolding restTimer timerRuns
-rest-some n e = go (n .queue) refl
-  where
-    go : (q : List Message) → n .queue ≡ q → restTimer n ≡ n
-    go [] f = absurd (omega (arith, ap length f))
-    go (x ∷ q) f = rw f
-
-pub rest-forced : (n : Node) → forced n ≡ true → restTimer n ≡ n
-unfolding restTimer timerRuns
-rest-forced n e = rw (e, or-true)
 
 -- a message is written behind the last of the queue, and counted
 pub joined-held : {m m₁ m₂ : List ℕ} {n : Node} {r : List ℕ} → Holds m n r → (x : Message) → GoodMessage x → length (n .queue) < paper01 .places

@@ -9,7 +9,7 @@ use lib.Dec.{eqb}
 use borrow.Author.Tests.{eq-eqb, ne-eqb}
 use Rattle.rules.specs.Build.{paper01}
 use Rattle.rules.specs.Memory.{flagWord, forceOffset, groupAddress, queuedAt, runningAt, word}
-use Rattle.rules.specs.Node.{Group, Node, forced, groupOf, timerRuns, withTimer}
+use Rattle.rules.specs.Node.{Node, forced, groupOf, timerRuns, withTimer}
 use Rattle.rules.specs.Settling.{restTimer}
 use Rattle.rules.specs.Sound.{Sound}
 use Rattle.rules.proofs.Steps.ListLaws.{length-some}

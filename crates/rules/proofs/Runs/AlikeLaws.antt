@@ -1,7 +1,7 @@
 -- Two nodes that are alike but for where their pages are, and perhaps of different builds: a step reports the same of both, and leaves them alike.
 -- What is alike is all that reports and steps look at: the runner, the timer, the queue, and of each group its flags, its descriptor, its counts
 -- and its waiting messages. Assumes nothing.
-use Prim.Native.Nat.{ℕ, suc, pred, _+_, _-_, _≤_, _<_}
+use Prim.Native.Nat.{ℕ, suc, pred, _+_, _≤_, _<_}
 use mathlib.Core.Path.{_≡_, refl, sym, subst, ap, _∙_}
 use mathlib.Core.Logic.{_≢_}
 use mathlib.Core.Bool.{Bool, true, false, true≢false, cond, not, _&&_, _||_}

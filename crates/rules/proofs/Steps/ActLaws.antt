@@ -3,7 +3,7 @@
 use Prim.Native.Nat.{ℕ, suc, _+_, _≤_, _<_}
 use mathlib.Core.Path.{_≡_, refl, sym, ap, _∙_}
 use mathlib.Core.Logic.{_≢_}
-use mathlib.Core.Bool.{Bool, true, false, true≢false, false≢true, cond, _||_}
+use mathlib.Core.Bool.{Bool, true, false, false≢true, cond, _||_}
 use mathlib.Core.List.{List, [], _∷_, _++_}
 use native.Mathlib.Decide.{ℕ-discrete}
 use native.Mathlib.Omega.{arith}
@@ -298,7 +298,7 @@ module _ {b : Build} {n : Node} (v : Valid b n) where
       let d = drain b (n .queue) n in
       let t = timer-timed v runs in
       let same = drain-running b (n .queue) n in
-      let atomic : groupOf d (d .running) .atomic ≡ true = 
+      let atomic : groupOf d (d .running) .atomic ≡ true =
       ap (λ (g : ℕ). groupOf d g .atomic) same ∙ drain-flags b (n .queue) n (n .running) .atomic ∙ t .atomic in
       timer-flagged-ready drained-ready (rw same (t .runs)) (groupOf d (d .running) .force) true (λ e. atomic) (λ e. atomic)
 

@@ -7,7 +7,7 @@ use mathlib.Core.Path.{_≡_, refl, sym, ap, _∙_}
 use mathlib.Core.Logic.{_≢_}
 use mathlib.Core.Bool.{Bool, true, false, cond, not, _&&_}
 use mathlib.Core.List.{List, [], _∷_}
-use native.Mathlib.Nat.{add-zero, zero-add, mod-eq-of-lt, mod-lt, add-mod-left, zero-mod}
+use native.Mathlib.Nat.{add-zero, zero-add, mod-eq-of-lt, mod-lt, add-mod-left}
 use native.Mathlib.Decide.{ℕ-discrete}
 use native.Mathlib.Omega.{arith}
 use lib.Dec.{eqb, ltb}
@@ -95,7 +95,7 @@ revoke-forced n =
     ∙ ap (λ (a : Bool). not (eqb r 0) && (groupOf n r .force && a)) (kept (λ K. K .atomic) n r G refl r)
 
 -- after a timeout the timer runs where it is forced
-pub timeout-runs : (b : Build) (e : Effect) → timerRuns (timedOut b e .node) ≡ forced (e .node)
+timeout-runs : (b : Build) (e : Effect) → timerRuns (timedOut b e .node) ≡ forced (e .node)
 unfolding timedOut withTimer revoke timerFlagged withGroup forced groupOf
 timeout-runs b e =
     let d = drain b (e .node .queue) (e .node) in

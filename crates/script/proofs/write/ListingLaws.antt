@@ -12,7 +12,7 @@ use lib.Seq.{take-suc}
 use borrow.Author.Tests.{eq-eqb, ne-eqb}
 use Rattle.rules.specs.Build.{Build, wordLimit}
 use Rattle.rules.specs.Lists.{pad}
-use Rattle.rules.specs.Node.{Message, Node, groupOf, timerRuns, emptyGroup}
+use Rattle.rules.specs.Node.{Node, groupOf, timerRuns, emptyGroup}
 use Rattle.rules.specs.Operation.{Request, poll, peek, dispose, beginAtomic, endAtomic, describe, launch, Operation, arrive, schedule, tick, user, unknown, Report}
 use Rattle.rules.specs.Refusal.{refusal, refuseRequest, refuseLaunch}
 use Rattle.rules.specs.Script.{newline, header, reportLine}

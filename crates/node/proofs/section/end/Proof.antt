@@ -15,7 +15,7 @@ use Rattle.memory.specs.declared.group.Group.{Group as Group·rt}
 use Rattle.memory.proofs.PieceLaws.{holds-pieces}
 use Rattle.node.specs.Steps.{Running, effect}
 use Rattle.node.proofs.settling.CallLaws.{flag-off, flag-on}
-use Rattle.node.proofs.RunnerLaws.{runner-flagged, runner-in, runner-pending, runner-timer-flagged}
+use Rattle.node.proofs.RunnerLaws.{runner-in, runner-pending, runner-timer-flagged}
 use Rattle.node.proofs.section.SectionLaws.{section-ends, section-pending}
 use Rattle.node.proofs.ServedLaws.{request-finished, request-refused, request-sound}
 use Rattle.node.proofs.section.end.Statement.{statement}

@@ -1,5 +1,5 @@
 -- `script::read::begin` meets its contract. Assumes nothing.
-use mathlib.Core.Path.{ap, refl, sym}
+use mathlib.Core.Path.{ap, sym}
 use Rattle.rules.specs.Operation.{beginAtomic, user}
 use Rattle.rules.specs.Script.{yesOrNo}
 use Rattle.rules.specs.Types.{operationOf}

@@ -21,7 +21,7 @@ use Rattle.rules.specs.Run.{Input, asked, Event, play, wasAccepted, arri
 use Rattle.rules.specs.Valid.{Valid}
 use Rattle.rules.proofs.Steps.PagingLaws.{runner-repaged}
 use Rattle.rules.proofs.Steps.SettlingLaws.{upcall-kept, settle-queue, settle-moved, drain-queue}
-use Rattle.rules.proofs.Steps.LineLaws.{direct-head, line-buffered, removed-queue-buffered, removed-queue-direct}
+use Rattle.rules.proofs.Steps.LineLaws.{direct-head, buffered-holds, removed-queue-buffered, removed-queue-direct}
 use Rattle.rules.proofs.Steps.TickLaws.{timed, Ticked, idle, counting, timeout, ticked-by}
 use Rattle.rules.proofs.Steps.StepLaws.{step-cases, step-valid}
 use Rattle.rules.proofs.Private.EventLaws.{eventOf, refusal-answer, disposed-none, arrived-none}
@@ -64,7 +64,7 @@ ticked-queue {b} {n} v k = go (ticked-by v k)
 disposed-queue : {b : Build} {n : Node} → Valid b n → isEmpty (line n (n .running)) ≡ false
     → Flow (n .queue) (disposed b n .queue) [] (disposedBy (user dispose) (eqb (cond (buffered n (n .running)) disposeExtend noTrap) noTrap))
 unfolding disposedBy disposed flagged withTimer withGroup
-disposed-queue {b} {n} v some = rw (line-buffered v some) (go (bufferHolds n (n .running)) refl)
+disposed-queue {b} {n} v some = rw (buffered-holds v some) (go (bufferHolds n (n .running)) refl)
   where
     go : (t : Bool)
         → bufferHolds n (n .running) ≡ t

@@ -79,8 +79,8 @@ direct-head {b} {n} v direct some = go (n .queue) refl (rw (direct-line n (n .ru
     go (m ∷ q) e some = (m, q, e, stays n m (v .head-stays m q e) .0)
 
 -- a running group with a line is buffered exactly where its buffer holds a message
-pub line-buffered : {b : Build} {n : Node} → Valid b n → isEmpty (line n (n .running)) ≡ false → buffered n (n .running) ≡ bufferHolds n (n .running)
-line-buffered {b} {n} v some = go (bufferHolds n (n .running)) refl
+pub buffered-holds : {b : Build} {n : Node} → Valid b n → isEmpty (line n (n .running)) ≡ false → buffered n (n .running) ≡ bufferHolds n (n .running)
+buffered-holds {b} {n} v some = go (bufferHolds n (n .running)) refl
   where
     go : (t : Bool) → bufferHolds n (n .running) ≡ t → buffered n (n .running) ≡ bufferHolds n (n .running)
     go true e = unfold buffered in rw e

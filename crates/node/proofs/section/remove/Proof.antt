@@ -7,7 +7,7 @@ use borrow.Author.Needs.{needs}
 use Rattle.rules.specs.Frames.{extended}
 use Rattle.rules.specs.Memory.{countOffset}
 use Rattle.rules.specs.Node.{bufferHolds}
-use Rattle.rules.proofs.Steps.LineLaws.{line-buffered}
+use Rattle.rules.proofs.Steps.LineLaws.{buffered-holds}
 use Rattle.memory.specs.Holds.{Holds, removing}
 use Rattle.memory.specs.Writes.{InGroup}
 use Rattle.memory.proofs.PieceLaws.{holds-pieces}
@@ -41,7 +41,7 @@ returns c n r h line =
     let on : bufferHolds n (n .running) ≡ true = ap (bufferHolds n) (sym e) ∙ c .before .before .before .before .before .holds .ensures n r h ∙ c .before .before .before .before .if1 .taken in
     let k = c .before .before .unbuffer .ensures n r h (rw e (buffered-waits (line .running) on)) in
     record {
-      extended = rw (line-buffered (line .running .valid) (line .some), on);
+      extended = rw (buffered-holds (line .running .valid) (line .some), on);
       holds = rw (removed-buffered n on) (subst (λ (g : ℕ). Holds (c .before .before .unbuffer .last .0) (removing g n) r) e k);
     }
 
@@ -55,7 +55,7 @@ returns-2 : tie.Need-returns-2
 returns-2 c n r h line =
     let off : bufferHolds n (n .running) ≡ false = ap (bufferHolds n) (sym (line .own)) ∙ c .before .before .before .before .before .holds .ensures n r h ∙ c .before .before .before .before .if1 .left in
     record {
-      extended = rw (line-buffered (line .running .valid) (line .some), off);
+      extended = rw (buffered-holds (line .running .valid) (line .some), off);
       holds = rw (removed-direct (line .running .valid) off) (c .before .before .drop-head .ensures n r h (direct-queued (line .running .valid) off (line .some)));
     }
 

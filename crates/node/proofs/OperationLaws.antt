@@ -17,11 +17,11 @@ use Rattle.rules.specs.Operation.{Operation, Request, beginAtomic, describe, di
 use Rattle.rules.specs.Refusal.{refusal}
 use Rattle.rules.specs.Valid.{Valid}
 use Rattle.rules.specs.declared.Operation.{Operation as Operation·rt}
-use Rattle.rules.specs.declared.Report.{Report as Report·rt}
 use Rattle.memory.specs.Holds.{Holds}
 use Rattle.memory.proofs.PieceLaws.{holds-pieces}
-use Rattle.node.specs.Steps.{Running, Stepping}
-use Rattle.node.proofs.StepMap.{stepping-refused}
+use Rattle.node.specs.Steps.{Acted, Running, done}
+use Rattle.node.specs.declared.acted.Act.{Act as Act·rt}
+use Rattle.node.proofs.StepMap.{acted-refused}
 
 -- the tags of M to L, and of the others
 abbrev requestTags : List ℕ
@@ -66,20 +66,20 @@ a-request (Launch n) k ws = record { request = launch n; alone = refl; beside = 
 a-request Unknown k ws = absurd (miss requestTags 10 tt k)
 
 -- what is told of an operation is told of it by another name
-pub stepping-named : {m : List ℕ} {n : Node} {r : List ℕ} {o o′ : Operation} {rep : Report·rt} → o ≡ o′ → Stepping m n r o rep → Stepping m n r o′ rep
-stepping-named {m} {n} {r} {rep = rep} e s = subst (λ (o : Operation). Stepping m n r o rep) e s
+pub acted-named : {m : List ℕ} {n : Node} {r : List ℕ} {o o′ : Operation} {a : Act·rt} → o ≡ o′ → Acted m n r o a → Acted m n r o′ a
+acted-named {m} {n} {r} {a = a} e s = subst (λ (o : Operation). Acted m n r o a) e s
 
 -- nobody runs
-pub nobody-steps : {m : List ℕ} {n : Node} {r : List ℕ} {rep : Report·rt} → Holds m n r → word m runningAt ≡ 0 → (q : Request) → rep ≡ reportOf (refused nobodyRuns)
-    → Stepping m n r (user q) rep
+pub nobody-acts : {m : List ℕ} {n : Node} {r : List ℕ} {a : Act·rt} → Holds m n r → word m runningAt ≡ 0 → (q : Request)
+    → a ≡ done (reportOf (refused nobodyRuns)) → Acted m n r (user q) a
 unfolding refusal
-nobody-steps {n = n} h e q = stepping-refused (user q) 6 (rw (eq-eqb (n .running) 0 (sym (holds-pieces h .running) ∙ e))) h
+nobody-acts {n = n} h e q = acted-refused (user q) 6 (rw (eq-eqb (n .running) 0 (sym (holds-pieces h .running) ∙ e))) h
 
 -- somebody does
 pub somebody-runs : {m : List ℕ} {n : Node} {r : List ℕ} → Holds m n r → word m runningAt ≢ 0 → Valid paper01 n → Running n
 somebody-runs h d v = record { valid = v; some = let e = holds-pieces h .running in omega arith }
 
 -- an unknown operation
-pub unknown-steps : {m : List ℕ} {n : Node} {r : List ℕ} {rep : Report·rt} → Holds m n r → rep ≡ reportOf (refused unreadable) → Stepping m n r unknown rep
+pub unknown-acts : {m : List ℕ} {n : Node} {r : List ℕ} {a : Act·rt} → Holds m n r → a ≡ done (reportOf (refused unreadable)) → Acted m n r unknown a
 unfolding refusal
-unknown-steps h = stepping-refused unknown 1 refl h
+unknown-acts h = acted-refused unknown 1 refl h

@@ -1,6 +1,6 @@
 -- A request of the running group, as a step: refused it leaves the memory, and accepted it does what the table says. Where that leaves
 -- nothing to settle and no upcall due, report and node are the request's own. Assumes nothing.
-use Prim.Native.Nat.{ℕ, suc}
+use Prim.Native.Nat.{ℕ, suc, _≤_}
 use native.Mathlib.Omega.{arith}
 use mathlib.Core.List.{List}
 use mathlib.Core.Path.{_≡_, _∙_, refl}
@@ -18,9 +18,10 @@ use Rattle.rules.specs.Sound.{Sound}
 use Rattle.rules.proofs.Steps.StepLaws.{act-sound}
 use Rattle.memory.specs.Holds.{Holds}
 use Rattle.memory.proofs.PieceLaws.{holds-pieces}
-use Rattle.node.specs.Steps.{Running, Stepping, Finished}
+use Rattle.node.specs.Steps.{Acted, Running, Stepping, done, effect, unsettled}
+use Rattle.node.specs.declared.acted.Act.{Act as Act·rt}
 use Rattle.node.proofs.QuietLaws.{Quiet}
-use Rattle.node.proofs.StepMap.{stepping-finished, stepping-quiet, stepping-refused}
+use Rattle.node.proofs.StepMap.{acted-refused, acted-unsettled, stepping-quiet, stepping-refused}
 
 -- the running group is the first number of the memory
 pub runner : {m : List ℕ} {n : Node} {r : List ℕ} → Holds m n r → getD m 0 0 ≡ n .running
@@ -47,13 +48,19 @@ module _ {n : Node} (runs : Running n) (q : Request) where
     pub request-refused : Holds m n r → (k : ℕ) → refuseRequest n q ≡ suc k → rep ≡ reportOf (refused (suc k)) → Stepping m n r (user q) rep
     request-refused h k e report = stepping-refused (user q) k (request-refusal ∙ e) h report
 
-    -- accepted and finished
-    pub request-finished : (e : Effect) → refuseRequest n q ≡ accepted → serve paper01 n q ≡ e → Finished m e r rep → Stepping m n r (user q) rep
-    unfolding act
-    request-finished e fine same = stepping-finished (user q) e (request-refusal ∙ fine) same
-
     -- accepted, with nothing to settle and no upcall due
     pub request-quiet : refuseRequest n q ≡ accepted → Quiet paper01 (serve paper01 n q .node)
         → rep ≡ reportOf (ownReport (serve paper01 n q)) → Holds m (serve paper01 n q .node) r → Stepping m n r (user q) rep
     unfolding act ownReport
     request-quiet e quiet report h = stepping-quiet (user q) (serve paper01 n q) (request-refusal ∙ e) refl quiet h report
+
+  module _ {m : List ℕ} {r : List ℕ} {a : Act·rt} where
+    -- the same of one that acts: refused
+    pub acting-refused : Holds m n r → (k : ℕ) → refuseRequest n q ≡ suc k → a ≡ done (reportOf (refused (suc k))) → Acted m n r (user q) a
+    acting-refused h k e told = acted-refused (user q) k (request-refusal ∙ e) h told
+
+    -- accepted, and to settle
+    pub acting-unsettled : (k : Node) (trap moved : ℕ) → refuseRequest n q ≡ accepted → serve paper01 n q ≡ effect k 0 trap moved → Sound paper01 k
+        → moved ≤ paper01 .places → Holds m k r → a ≡ unsettled trap moved → Acted m n r (user q) a
+    unfolding act
+    acting-unsettled k trap moved fine same s few h told = acted-unsettled (user q) k trap moved (request-refusal ∙ fine) same s few h told

@@ -1,7 +1,8 @@
 -- A step on the memory of a node: refused, finished, or quiet. Assumes nothing.
-use Prim.Native.Nat.{suc, ℕ}
+use Prim.Native.Nat.{suc, _≤_, ℕ}
+use mathlib.Core.Bool.{false≢true, true≢false}
 use mathlib.Core.List.{List}
-use mathlib.Core.Path.{_∙_, _≡_, ap, subst, sym}
+use mathlib.Core.Path.{_∙_, _≡_, ap, refl, subst, sym}
 use Rattle.rules.specs.Build.{paper01}
 use Rattle.rules.specs.Node.{Node}
 use Rattle.rules.specs.Operation.{Operation, accepted, refused}
@@ -11,7 +12,9 @@ use Rattle.rules.specs.Types.{reportOf}
 use Rattle.rules.specs.declared.Report.{Report as Report·rt, Report as Report·rt}
 use Rattle.rules.proofs.Steps.StepLaws.{step-accepted, step-refused}
 use Rattle.memory.specs.Holds.{Holds}
-use Rattle.node.specs.Steps.{Finished, Stepping}
+use Rattle.rules.specs.Sound.{Sound}
+use Rattle.node.specs.Steps.{Acted, Acting, Finished, Stepping, done, effect, unsettled}
+use Rattle.node.specs.declared.acted.Act.{Act as Act·rt}
 use Rattle.node.proofs.QuietLaws.{Quiet, quiet-finish}
 
 module _ {m : List ℕ} {n : Node} {r : List ℕ} (op : Operation) {rep : Report·rt} where
@@ -33,6 +36,11 @@ module _ {m : List ℕ} {n : Node} {r : List ℕ} (op : Operation) {rep : Report
         holds = subst (λ (t : Stepped). Holds m (t .node) r) (sym s) (f .holds);
       }
 
+  -- what has acted and is then finished
+  pub stepping-acted : {m₀ : List ℕ} {told : Report·rt} → (a : Acting m₀ n r op told) → Finished m (effect (a .node) 0 (told .trap) (told .moved)) r rep
+      → Stepping m n r op rep
+  stepping-acted a f = stepping-finished _ (a .accepts) (a .same) f
+
   -- and where nothing settles and no upcall is due, it is what the operation did
   pub stepping-quiet : (e : Effect) → refusal paper01 n op ≡ accepted → act paper01 n op ≡ e → Quiet paper01 (e .node) → Holds m (e .node) r
       → rep ≡ reportOf (record { answer = accepted; value = e .value; trap = e .trap; upcall = 0; moved = e .moved; sent = e .sent }) → Stepping m n r op rep
@@ -42,4 +50,28 @@ module _ {m : List ℕ} {n : Node} {r : List ℕ} (op : Operation) {rep : Report
       record {
         report = same-report ∙ ap (λ (t : Stepped). reportOf (t .report)) (sym f);
         holds = subst (λ (t : Stepped). Holds m (t .node) r) (sym f) h;
+      })
+
+module _ {m : List ℕ} {n : Node} {r : List ℕ} (op : Operation) {a : Act·rt} where
+  -- a step that is done
+  pub acted-done : {rep : Report·rt} → a ≡ done rep → Stepping m n r op rep → Acted m n r op a
+  acted-done e s = subst (Acted m n r op) (sym e) (record { whole = λ z. s; partly = λ z. absurd (false≢true z) })
+
+  -- one that is refused
+  pub acted-refused : (k : ℕ) → refusal paper01 n op ≡ suc k → Holds m n r → a ≡ done (reportOf (refused (suc k))) → Acted m n r op a
+  acted-refused k out h e = acted-done e (stepping-refused op k out h refl)
+
+  -- one after which nothing settles and no upcall is due
+  pub acted-quiet : (e : Effect) → refusal paper01 n op ≡ accepted → act paper01 n op ≡ e → Quiet paper01 (e .node) → Holds m (e .node) r
+      → a ≡ done (reportOf (record { answer = accepted; value = e .value; trap = e .trap; upcall = 0; moved = e .moved; sent = e .sent })) → Acted m n r op a
+  acted-quiet e in-order same q h told = acted-done told (stepping-quiet op e in-order same q h refl)
+
+  -- one that is to settle
+  pub acted-unsettled : (k : Node) (trap moved : ℕ) → refusal paper01 n op ≡ accepted → act paper01 n op ≡ effect k 0 trap moved → Sound paper01 k
+      → moved ≤ paper01 .places → Holds m k r → a ≡ unsettled trap moved → Acted m n r op a
+  acted-unsettled k trap moved in-order same s few h e =
+      subst (Acted m n r op) (sym e)
+      (record {
+        whole = λ z. absurd (true≢false z);
+        partly = λ z. record { accepts = in-order; node = k; same = same; sound = s; holds = h; few = few };
       })

@@ -7,16 +7,18 @@ use lib.ListN.{length, getD}
 use Rattle.rules.specs.Build.{paper01}
 use Rattle.rules.specs.Lists.{isEmpty}
 use Rattle.rules.specs.Node.{Message, Node, groupOf, withTimer, buffered, forced, line}
-use Rattle.rules.specs.Operation.{Request, Operation, user, disposeExtend, noTrap, timeoutTrap}
+use Rattle.rules.specs.Operation.{Request, Operation, user, accepted, acceptedWith, disposeExtend, noTrap, timeoutTrap}
 use Rattle.rules.specs.Paging.{store}
 use Rattle.rules.specs.Settling.{mayStay, settle, drain, upcall, upcallGroup}
-use Rattle.rules.specs.Step.{Effect, finish, revoke, step, removed}
+use Rattle.rules.specs.Refusal.{refusal}
+use Rattle.rules.specs.Step.{Effect, act, finish, revoke, step, removed}
 use Rattle.rules.specs.Types.{operationOf, reportOf}
 use Rattle.rules.specs.declared.Operation.{Operation as Operation·rt}
 use Rattle.rules.specs.Valid.{Valid}
 use Rattle.rules.specs.declared.Report.{Report as Report·rt}
 use Rattle.rules.specs.Sound.{Sound}
 use Rattle.memory.specs.Holds.{Holds, Some, blank, dropping}
+use Rattle.node.specs.declared.acted.Act.{Act as Act·rt}
 
 -- the memory holds a node
 abbrev pub IsNode : List ℕ → Type 0
@@ -40,13 +42,47 @@ pub record Stepping (m′ : List ℕ) (n : Node) (rest : List ℕ) (op : Operati
 abbrev pub Steps : List ℕ → List ℕ → Operation → Report·rt → Type 0
 Steps m m′ op rep = (n : Node) (r : List ℕ) → Holds m n r → Valid paper01 n → Stepping m′ n r op rep
 
+-- the step is done, with this report
+abbrev pub done : Report·rt → Act·rt
+done rep = record { settles = false; report = rep }
+
+-- it is accepted, with this trap and so many messages moved, and settling is to come
+abbrev pub unsettled : ℕ → ℕ → Act·rt
+unsettled trap moved = record { settles = true; report = reportOf (acceptedWith 0 trap 0 moved) }
+
+-- an operation that sends nothing
+abbrev pub effect : Node → ℕ → ℕ → ℕ → Effect
+effect n value trap moved = record { node = n; value = value; trap = trap; moved = moved; sent = [] }
+
+-- what an accepted operation has done before settling, told by this report
+pub record Acting (m′ : List ℕ) (n : Node) (rest : List ℕ) (op : Operation) (rep : Report·rt) : Type 0 where
+  pub accepts : refusal paper01 n op ≡ accepted
+  pub node : Node
+  pub same : act paper01 n op ≡ effect node 0 (rep .trap) (rep .moved)
+  pub sound : Sound paper01 node
+  pub holds : Holds m′ node rest
+  pub few : rep .moved ≤ paper01 .places
+
+-- what an operation has done of its step: all, or what comes before settling
+pub record Acted (m′ : List ℕ) (n : Node) (rest : List ℕ) (op : Operation) (a : Act·rt) : Type 0 where
+  pub whole : a .settles ≡ false → Stepping m′ n rest op (a .report)
+  pub partly : a .settles ≡ true → Acting m′ n rest op (a .report)
+
+-- whatever node m held, this is what the operation has done
+abbrev pub Acts : List ℕ → List ℕ → Operation → Act·rt → Type 0
+Acts m m′ op a = (n : Node) (r : List ℕ) → Holds m n r → Valid paper01 n → Acted m′ n r op a
+
 -- the same of a request of the group that runs
+abbrev pub ActsFor : List ℕ → List ℕ → Request → Act·rt → Type 0
+ActsFor m m′ q a = (n : Node) (r : List ℕ) → Holds m n r → Running n → Acted m′ n r (user q) a
+
+-- one that is done at once
 abbrev pub Serves : List ℕ → List ℕ → Request → Report·rt → Type 0
 Serves m m′ q rep = (n : Node) (r : List ℕ) → Holds m n r → Running n → Stepping m′ n r (user q) rep
 
--- the same of a request by its Rattle name, whoever runs
-abbrev pub Requests : List ℕ → List ℕ → Operation·rt → Report·rt → Type 0
-Requests m m′ op rep = (q : Request) → operationOf op [] ≡ user q → Steps m m′ (user q) rep
+-- a request by its Rattle name, whoever runs
+abbrev pub Requests : List ℕ → List ℕ → Operation·rt → Act·rt → Type 0
+Requests m m′ op a = (q : Request) → operationOf op [] ≡ user q → Acts m m′ (user q) a
 
 -- a node in the middle of a step, with a message in its queue
 pub record Headed (n : Node) : Type 0 where
@@ -95,10 +131,6 @@ rest t n = cond (forced n) (t % paper01 .timeout) 0
 abbrev pub LeftOver : List ℕ → ℕ → ℕ → Type 0
 LeftOver m t x = (n : Node) (r : List ℕ) → Holds m n r → Sound paper01 n → x ≡ rest t n
 
--- an operation that sends nothing
-abbrev pub effect : Node → ℕ → ℕ → ℕ → Effect
-effect n value trap moved = record { node = n; value = value; trap = trap; moved = moved; sent = [] }
-
 -- t ticks on the timer reach the timeout
 abbrev pub late : ℕ → Node → Effect
 late t n = effect (withTimer (rest t n) (revoke (drain paper01 (n .queue) n))) 0 timeoutTrap (length (n .queue))
@@ -108,9 +140,14 @@ pub record Finished (m′ : List ℕ) (e : Effect) (rest : List ℕ) (rep : Repo
   pub report : rep ≡ reportOf (finish paper01 e .report)
   pub holds : Holds m′ (finish paper01 e .node) rest
 
--- whatever node with its timer running m held, what comes after is that of t ticks that reach the timeout
-abbrev pub TimesOut : List ℕ → List ℕ → ℕ → Report·rt → Type 0
-TimesOut m m′ t rep = (n : Node) (r : List ℕ) → Holds m n r → Ticking n → Finished m′ (late t n) r rep
+-- what t ticks that reach the timeout have done
+pub record TimedOut (m′ : List ℕ) (n : Node) (rest : List ℕ) (t : ℕ) (a : Act·rt) : Type 0 where
+  pub told : a ≡ unsettled timeoutTrap (length (n .queue))
+  pub holds : Holds m′ (late t n .node) rest
+
+-- whatever node with its timer running m held, this is what they have done
+abbrev pub TimesOut : List ℕ → List ℕ → ℕ → Act·rt → Type 0
+TimesOut m m′ t a = (n : Node) (r : List ℕ) → Holds m n r → Ticking n → TimedOut m′ n r t a
 
 -- whatever node in the middle of a step m held, what comes after is that of this effect on it
 abbrev pub Finishes : List ℕ → List ℕ → (Node → Effect) → Report·rt → Type 0

@@ -1,4 +1,5 @@
 // The kernel's operations: S and T.
+use super::acted::Act;
 use super::settling;
 use memory::Node;
 use memory::group;
@@ -9,43 +10,43 @@ ghost use Rattle.rules.specs.Operation.{schedule, tick};
 ghost use Rattle.rules.specs.Step.{revoke};
 ghost use Rattle.rules.specs.Sound.{Sound};
 ghost use Rattle.memory.specs.Holds.{Some, Becomes};
-ghost use Rattle.node.specs.Steps.{IsNode, Steps, Ticking, LeftOver, TimesOut};
+ghost use Rattle.node.specs.Steps.{IsNode, Acts, Ticking, LeftOver, TimesOut};
 
 // S: the processor is given to group g, 0 to nobody.
-pub fn schedule(m: &mut [u32], g: u32) -> Report
+pub fn schedule(m: &mut [u32], g: u32) -> Act
     requires { ⌜ IsNode (now m) ⌝ }
-    ensures { λ rep. ⌜ Steps (now (m .entry)) (now (m .exit)) (schedule g) rep ⌝ }
+    ensures { λ a. ⌜ Acts (now (m .entry)) (now (m .exit)) (schedule g) a ⌝ }
 {
     if g > Node::GROUPS {
-        return Report::refused(Report::BAD_SCHEDULE);
+        return Act::refused(Report::BAD_SCHEDULE);
     }
     if g == m[map::RUNNING] {
-        return Report::accepted(0, 0, 0, 0);
+        return Act::accepted();
     }
     m[map::RUNNING] = g;
     m[map::TIMER] = 0;
-    settling::finish(m, 0, 0, 0)
+    Act::unsettled(0, 0)
 }
 
 // T: k ticks, which count while the timer runs. They are not played one by one: ticks in a row leave what one timeout leaves, and on a forced
 // timer what is left over.
-pub fn tick(m: &mut [u32], k: u32) -> Report
+pub fn tick(m: &mut [u32], k: u32) -> Act
     requires { ⌜ IsNode (now m) ⌝ }
-    ensures { λ rep. ⌜ Steps (now (m .entry)) (now (m .exit)) (tick k) rep ⌝ }
+    ensures { λ a. ⌜ Acts (now (m .entry)) (now (m .exit)) (tick k) a ⌝ }
 {
     if k == 0 {
-        return Report::refused(Report::BAD_TICKS);
+        return Act::refused(Report::BAD_TICKS);
     }
     if k > Node::TICK_LIMIT {
-        return Report::refused(Report::BAD_TICKS);
+        return Act::refused(Report::BAD_TICKS);
     }
     if !settling::timer_runs(m) {
-        return Report::accepted(0, 0, 0, 0);
+        return Act::accepted();
     }
     let t = m[map::TIMER] + k;
     if t < Node::TIMEOUT {
         m[map::TIMER] = t;
-        return Report::accepted(0, 0, 0, 0);
+        return Act::accepted();
     }
     timeout(m, t)
 }
@@ -72,13 +73,13 @@ pub fn revoke(m: &mut [u32])
 }
 
 // The t ticks on the timer reach the timeout: the whole queue moves to the buffers, and the running group is revoked.
-pub fn timeout(m: &mut [u32], t: u32) -> Report
+pub fn timeout(m: &mut [u32], t: u32) -> Act
     requires { ⌜ Some (now m) Ticking ⌝ }
-    ensures { λ rep. ⌜ TimesOut (now (m .entry)) (now (m .exit)) t rep ⌝ }
+    ensures { λ a. ⌜ TimesOut (now (m .entry)) (now (m .exit)) t a ⌝ }
 {
     let left = left_over(m, t);
     let moved = settling::drain(m);
     revoke(m);
     m[map::TIMER] = left;
-    settling::finish(m, 0, Report::TIMED_OUT, moved)
+    Act::unsettled(Report::TIMED_OUT, moved)
 }

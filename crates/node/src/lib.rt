@@ -1,4 +1,5 @@
 // The steps of a node over lent memory.
+pub mod acted;
 pub mod kernel;
 pub mod message;
 pub mod network;
@@ -6,6 +7,7 @@ pub mod section;
 pub mod settling;
 pub mod user;
 
+use crate::acted::Act;
 use crate::message::Part;
 use memory::map;
 use rules::Operation;
@@ -17,7 +19,7 @@ ghost use Rattle.rules.specs.Types.{operationOf};
 ghost use Rattle.memory.specs.Answers.{Answers};
 ghost use Rattle.node.specs.Counts.{countsOf};
 ghost use Rattle.node.specs.Parts.{partOf};
-ghost use Rattle.node.specs.Steps.{IsNode, Steps, Requests};
+ghost use Rattle.node.specs.Steps.{IsNode, Steps, Acts, Requests};
 
 // A step: any memory and any operation, an arrival's words lent beside it.
 pub fn step(memory: &mut [u32], op: Operation, words: &[u32]) -> Report
@@ -82,31 +84,44 @@ pub fn step_node(memory: &mut [u32], op: Operation, words: &[u32]) -> Report
     requires { ⌜ IsNode (now memory) ⌝ }
     ensures { λ rep. ⌜ Steps (now (memory .entry)) (now (memory .exit)) (operationOf op (now (words .entry))) rep ⌝ }
 {
+    let a = act(memory, op, words);
+    let report = a.report;
+    if a.settles {
+        return settling::finish(memory, 0, report.trap, report.moved);
+    }
+    report
+}
+
+// What comes before settling.
+fn act(memory: &mut [u32], op: Operation, words: &[u32]) -> Act
+    requires { ⌜ IsNode (now memory) ⌝ }
+    ensures { λ a. ⌜ Acts (now (memory .entry)) (now (memory .exit)) (operationOf op (now (words .entry))) a ⌝ }
+{
     match op {
         Operation::Arrive(g) => network::arrive(memory, g, words),
         Operation::Schedule(g) => kernel::schedule(memory, g),
         Operation::Tick(k) => kernel::tick(memory, k),
-        Operation::Unknown => Report::refused(Report::UNREADABLE),
+        Operation::Unknown => Act::refused(Report::UNREADABLE),
         _ => request(memory, op),
     }
 }
 
 // M to L: they belong to the running group.
-fn request(memory: &mut [u32], op: Operation) -> Report
+fn request(memory: &mut [u32], op: Operation) -> Act
     requires { ⌜ IsNode (now memory) ⌝ }
-    ensures { λ rep. ⌜ Requests (now (memory .entry)) (now (memory .exit)) op rep ⌝ }
+    ensures { λ a. ⌜ Requests (now (memory .entry)) (now (memory .exit)) op a ⌝ }
 {
     if memory[map::RUNNING] == 0 {
-        return Report::refused(Report::NOBODY_RUNS);
+        return Act::refused(Report::NOBODY_RUNS);
     }
     match op {
-        Operation::Poll => user::poll(memory),
-        Operation::Peek(i) => user::peek(memory, i),
+        Operation::Poll => Act::done(user::poll(memory)),
+        Operation::Peek(i) => Act::done(user::peek(memory, i)),
         Operation::Dispose => section::dispose(memory),
-        Operation::BeginAtomic(force) => section::begin(memory, force),
+        Operation::BeginAtomic(force) => Act::done(section::begin(memory, force)),
         Operation::EndAtomic => section::end(memory),
-        Operation::Describe(w) => user::describe(memory, w),
-        Operation::Launch(k) => user::launch(memory, k),
-        _ => Report::refused(Report::UNREADABLE),
+        Operation::Describe(w) => Act::done(user::describe(memory, w)),
+        Operation::Launch(k) => Act::done(user::launch(memory, k)),
+        _ => Act::refused(Report::UNREADABLE),
     }
 }

@@ -1,5 +1,5 @@
 // The network's operation: A.
-use super::settling;
+use super::acted::Act;
 use memory::map;
 use memory::queue;
 use rules::Report;
@@ -15,7 +15,7 @@ ghost use Rattle.rules.specs.Refusal.{queued, refusal};
 ghost use Rattle.rules.specs.Valid.{Valid};
 ghost use Rattle.rules.specs.Sound.{Sound};
 ghost use Rattle.memory.specs.Holds.{Holds, Some, Any};
-ghost use Rattle.node.specs.Steps.{IsNode, Steps};
+ghost use Rattle.node.specs.Steps.{IsNode, Acts};
 
 // How many messages of group g are in the hardware queue.
 pub fn queued_of(m: &[u32], g: u32) -> u32
@@ -91,14 +91,14 @@ pub fn refusal(m: &[u32], g: u32, words: &[u32]) -> u32
 }
 
 // A message arrives from the network.
-pub fn arrive(m: &mut [u32], g: u32, words: &[u32]) -> Report
+pub fn arrive(m: &mut [u32], g: u32, words: &[u32]) -> Act
     requires { ⌜ IsNode (now m) ⌝ }
-    ensures { λ rep. ⌜ Steps (now (m .entry)) (now (m .exit)) (arrive g (now (words .entry))) rep ⌝ }
+    ensures { λ a. ⌜ Acts (now (m .entry)) (now (m .exit)) (arrive g (now (words .entry))) a ⌝ }
 {
     let answer = refusal(m, g, words);
     if answer != 0 {
-        return Report::refused(answer);
+        return Act::refused(answer);
     }
     queue::join(m, g, words);
-    settling::finish(m, 0, 0, 0)
+    Act::unsettled(0, 0)
 }

@@ -1,5 +1,5 @@
 // The running group's section and its messages' disposal: B, N and D.
-use super::settling;
+use super::acted::Act;
 use memory::buffer;
 use memory::group;
 use memory::map;
@@ -10,7 +10,7 @@ ghost use Prim.Native.Nat.{ℕ};
 ghost use Rattle.rules.specs.Node.{Node};
 ghost use Rattle.rules.specs.Operation.{beginAtomic, endAtomic, dispose};
 ghost use Rattle.memory.specs.Holds.{Holds, Some};
-ghost use Rattle.node.specs.Steps.{IsRunning, Serves, WithLine, TookFirst};
+ghost use Rattle.node.specs.Steps.{IsRunning, Serves, ActsFor, WithLine, TookFirst};
 
 // B: atomic on, and force too if it is so asked.
 pub fn begin(m: &mut [u32], force: bool) -> Report
@@ -26,14 +26,14 @@ pub fn begin(m: &mut [u32], force: bool) -> Report
 }
 
 // N: atomic off, and with it force and revoked.
-pub fn end(m: &mut [u32]) -> Report
+pub fn end(m: &mut [u32]) -> Act
     requires { ⌜ IsRunning (now m) ⌝ }
-    ensures { λ rep. ⌜ Serves (now (m .entry)) (now (m .exit)) endAtomic rep ⌝ }
+    ensures { λ a. ⌜ ActsFor (now (m .entry)) (now (m .exit)) endAtomic a ⌝ }
 {
     let g = m[map::RUNNING];
     let x = group::read(m, g);
     if x.pending != 0 {
-        return Report::refused(Report::STILL_PENDING);
+        return Act::refused(Report::STILL_PENDING);
     }
     let trap = if group::buffered(m, g) {
         Report::ATOMICITY_EXTEND
@@ -42,25 +42,25 @@ pub fn end(m: &mut [u32]) -> Report
     };
     group::set_timer_flags(m, g, 0, 0);
     group::set_flags(m, g, 0, 0);
-    settling::finish(m, 0, trap, 0)
+    Act::unsettled(trap, 0)
 }
 
 // D: the first message goes, pending off, timer 0.
-pub fn dispose(m: &mut [u32]) -> Report
+pub fn dispose(m: &mut [u32]) -> Act
     requires { ⌜ IsRunning (now m) ⌝ }
-    ensures { λ rep. ⌜ Serves (now (m .entry)) (now (m .exit)) dispose rep ⌝ }
+    ensures { λ a. ⌜ ActsFor (now (m .entry)) (now (m .exit)) dispose a ⌝ }
 {
     let g = m[map::RUNNING];
     let x = group::read(m, g);
     if x.count == 0 {
         if m[map::QUEUED] == 0 {
-            return Report::refused(Report::NO_MESSAGE);
+            return Act::refused(Report::NO_MESSAGE);
         }
     }
     let trap = remove(m, g);
     group::set_flags(m, g, x.atomic, 0);
     m[map::TIMER] = 0;
-    settling::finish(m, 0, trap, 0)
+    Act::unsettled(trap, 0)
 }
 
 // The first message of the running group's line goes, from its buffer or from the head of the queue: the trap of the first.

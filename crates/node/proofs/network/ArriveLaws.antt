@@ -17,14 +17,14 @@ use Rattle.rules.specs.Refusal.{queued, refusal, refuseArrive}
 use Rattle.rules.specs.Step.{act, valued}
 use Rattle.rules.specs.Types.{reportOf}
 use Rattle.rules.specs.Valid.{GoodMessage, Valid}
-use Rattle.rules.specs.declared.Report.{Report as Report·rt}
 use Rattle.rules.proofs.Steps.EveryLaws.{every-append}
 use Rattle.rules.proofs.Steps.ListLaws.{length-some}
 use Rattle.rules.specs.Sound.{Sound}
 use Rattle.rules.proofs.Steps.StepLaws.{act-sound}
 use Rattle.memory.specs.Holds.{Holds}
-use Rattle.node.specs.Steps.{Finished, Stepping, effect}
-use Rattle.node.proofs.StepMap.{stepping-finished, stepping-refused}
+use Rattle.node.specs.Steps.{Acted, done, unsettled}
+use Rattle.node.specs.declared.acted.Act.{Act as Act·rt}
+use Rattle.node.proofs.StepMap.{acted-refused, acted-unsettled}
 
 -- a second test that passes
 or-right : (t : Bool) → t || true ≡ true
@@ -123,13 +123,14 @@ arriving {b} {n} v g ws e =
     }
 
 -- a step refused with a number that is not 0
-pub refusing : {m : List ℕ} {n : Node} {r : List ℕ} → Holds m n r → (op : Operation) (a : ℕ) → a ≡ refusal paper01 n op → a ≢ 0 → {rep : Report·rt}
-    → rep ≡ reportOf (refused a) → Stepping m n r op rep
+pub refusing : {m : List ℕ} {n : Node} {r : List ℕ} → Holds m n r → (op : Operation) (a : ℕ) → a ≡ refusal paper01 n op → a ≢ 0 → {acted : Act·rt}
+    → acted ≡ done (reportOf (refused a)) → Acted m n r op acted
 refusing h op zero e some p = absurd (some refl)
-refusing h op (suc a) e some p = stepping-refused op a (sym e) h p
+refusing h op (suc a) e some p = acted-refused op a (sym e) h p
 
--- an accepted arrival is queued and finishes
-pub arrived : {m′ : List ℕ} {n : Node} {r : List ℕ} (g : ℕ) (ws : List ℕ) → refusal paper01 n (arrive g ws) ≡ 0 → {rep : Report·rt}
-    → Finished m′ (effect (queued (record { group = g; words = ws }) n) 0 0 0) r rep → Stepping m′ n r (arrive g ws) rep
+-- an accepted arrival is queued, and settling is to come
+pub arrived : {m′ : List ℕ} {n : Node} {r : List ℕ} (g : ℕ) (ws : List ℕ) → refusal paper01 n (arrive g ws) ≡ 0 → {a : Act·rt}
+    → Sound paper01 (queued (record { group = g; words = ws }) n) → Holds m′ (queued (record { group = g; words = ws }) n) r → a ≡ unsettled 0 0
+    → Acted m′ n r (arrive g ws) a
 unfolding act valued
-arrived {n = n} g ws e f = stepping-finished (arrive g ws) (effect (queued (record { group = g; words = ws }) n) 0 0 0) e refl f
+arrived {n = n} g ws e s h told = acted-unsettled (arrive g ws) (queued (record { group = g; words = ws }) n) 0 0 e refl s (omega arith) h told

@@ -1,89 +1,31 @@
--- `node::step_node` meets its contract: each arm hands on to the function of its operation. Assumes nothing.
-use Rattle.rules.specs.Types.{operationOf}
-use mathlib.Core.Path.{ap, sym}
+-- `node::step_node` meets its contract: what has acted is finished, unless it is done. Assumes nothing.
 use borrow.Author.Needs.{needs}
-use Rattle.rules.specs.declared.Operation.{Operation as Operation·rt}
-use Rattle.node.proofs.OperationLaws.{a-request, stepping-named, unknown-steps}
+use Rattle.node.proofs.StepMap.{stepping-acted}
 use Rattle.node.proofs.step_node.Statement.{statement}
 use Rattle.node.proofs.step_node.Tie as tie
 
-enum-known-op : tie.Need-enum-known-op
-enum-known-op c = search needs
+act-requires : tie.Need-act-requires
+act-requires c κs = search needs
 
-arrive-requires : tie.Need-arrive-requires
-arrive-requires c κs = search needs
-
-enum-known-op-2 : tie.Need-enum-known-op-2
-enum-known-op-2 c = search needs
-
-schedule-requires : tie.Need-schedule-requires
-schedule-requires c κs = search needs
-
-enum-known-op-3 : tie.Need-enum-known-op-3
-enum-known-op-3 c = search needs
-
-tick-requires : tie.Need-tick-requires
-tick-requires c κs = search needs
-
-enum-told : tie.Need-enum-told
-enum-told c = search needs
-
-refused-requires : tie.Need-refused-requires
-refused-requires c κs = search needs
-
-request-requires : tie.Need-request-requires
-request-requires c κs = search needs
+finish-requires : tie.Need-finish-requires
+finish-requires c κs =
+    let p = c .before .before .before .before .before .before .before .before .before .pre in
+    let a = c .before .before .before .before .before .act .ensures (p .node) (p .rest) (p .holds) (p .fact) .partly (c .before .if1 .taken) in
+    (record { node = a .node; rest = p .rest; holds = a .holds; fact = a .sound }, a .few)
 
 same-length : tie.Need-same-length
 same-length c = search needs
 
 returns : tie.Need-returns
-unfolding operationOf
-returns c n r h v = stepping-named (sym (ap (λ (o : Operation·rt). operationOf o (c .before .before .before .before .before .before .before .before .before .args .words .now)) (c .before .before .before .before .before .op .given .1))) (c .before .before .arrive .ensures n r h v)
+returns c n r h v =
+    let a = c .before .before .before .before .before .before .before .before .act .ensures n r h v .partly (c .before .before .before .before .if1 .taken) in
+    stepping-acted _ a (c .before .before .finish .ensures (a .node) r (a .holds) (a .sound))
 
 same-length-2 : tie.Need-same-length-2
 same-length-2 c = search needs
 
 returns-2 : tie.Need-returns-2
-unfolding operationOf
-returns-2 c n r h v = stepping-named (sym (ap (λ (o : Operation·rt). operationOf o (c .before .before .before .before .before .before .before .before .before .args .words .now)) (c .before .before .before .before .before .op2 .given .1))) (c .before .before .schedule .ensures n r h v)
-
-same-length-3 : tie.Need-same-length-3
-same-length-3 c = search needs
-
-returns-3 : tie.Need-returns-3
-unfolding operationOf
-returns-3 c n r h v = stepping-named (sym (ap (λ (o : Operation·rt). operationOf o (c .before .before .before .before .before .before .before .before .before .args .words .now)) (c .before .before .before .before .before .op3 .given .1))) (c .before .before .tick .ensures n r h v)
-
-returns-4 : tie.Need-returns-4
-unfolding operationOf
-returns-4 c n r h v = stepping-named (sym (ap (λ (o : Operation·rt). operationOf o (c .before .before .before .before .before .args .words .now)) (c .before .enum-told .given .1))) (unknown-steps h (c .refused .ensures))
-
-same-length-4 : tie.Need-same-length-4
-same-length-4 c = search needs
-
-returns-5 : tie.Need-returns-5
-returns-5 c n r h v = let s = (c .before .before .before .before .before .before .before) in let a = a-request (s .args .op) (c .before .before .before .before .match .keys5) (s .args .words .now) in stepping-named (sym (a .beside)) (c .before .before .request .ensures (a .request) (a .alone) n r h v)
+returns-2 c n r h v = c .before .before .before .before .act .ensures n r h v .whole (c .if1 .left)
 
 pub step-node-spec : {M : Type 1} → statement M
-step-node-spec =
-    tie.close
-    (tie.spec
-    enum-known-op
-    arrive-requires
-    enum-known-op-2
-    schedule-requires
-    enum-known-op-3
-    tick-requires
-    enum-told
-    refused-requires
-    request-requires
-    same-length
-    returns
-    same-length-2
-    returns-2
-    same-length-3
-    returns-3
-    returns-4
-    same-length-4
-    returns-5)
+step-node-spec = tie.close (tie.spec act-requires finish-requires same-length returns same-length-2 returns-2)

@@ -16,7 +16,7 @@ use Rattle.memory.proofs.PieceLaws.{holds-pieces}
 use Rattle.memory.proofs.PieceWrites.{running-held, timer-held}
 use Rattle.memory.proofs.WriteLaws.{wrote-set}
 use Rattle.node.proofs.kernel.KernelLaws.{schedule-accepted, schedule-other, schedule-refused, schedule-same, schedule-sound}
-use Rattle.node.proofs.StepMap.{stepping-finished, stepping-quiet, stepping-refused}
+use Rattle.node.proofs.StepMap.{acted-quiet, acted-refused, acted-unsettled}
 use Rattle.node.proofs.kernel.schedule.Statement.{statement}
 use Rattle.node.proofs.kernel.schedule.Tie as tie
 
@@ -30,7 +30,7 @@ refused-requires : tie.Need-refused-requires
 refused-requires c κs = search needs
 
 returns : tie.Need-returns
-returns c n r h v = stepping-refused (schedule (c .before .before .before .args .g)) 13 (schedule-refused n (c .before .before .before .args .g) (c .before .if1 .taken)) h (c .refused .ensures)
+returns c n r h v = acted-refused (schedule (c .before .before .before .args .g)) 13 (schedule-refused n (c .before .before .before .args .g) (c .before .if1 .taken)) h (c .refused .ensures)
 
 slice-read-if2 : tie.Need-slice-read-if2
 slice-read-if2 c = omega (arith, holds-pieces (c .before .before .before .pre .holds) .long)
@@ -40,7 +40,7 @@ accepted-requires c κs = search needs
 
 returns-2 : tie.Need-returns-2
 unfolding word valued
-returns-2 c n r h v = let g = c .before .before .before .before .before .args .g in stepping-quiet (schedule g) (valued 0 n) (schedule-accepted n g (c .before .before .before .if1 .left)) (schedule-same n g (c .before .if2 .taken ∙ holds-pieces h .running)) (valid-quiet v) h (c .accepted .ensures)
+returns-2 c n r h v = let g = c .before .before .before .before .before .args .g in acted-quiet (schedule g) (valued 0 n) (schedule-accepted n g (c .before .before .before .if1 .left)) (schedule-same n g (c .before .if2 .taken ∙ holds-pieces h .running)) (valid-quiet v) h (c .accepted .ensures)
 
 slice-write-m : tie.Need-slice-write-m
 slice-write-m c = omega (arith, holds-pieces (c .before .before .before .before .pre .holds) .long)
@@ -48,20 +48,20 @@ slice-write-m c = omega (arith, holds-pieces (c .before .before .before .before 
 slice-write-m-2 : tie.Need-slice-write-m-2
 slice-write-m-2 c = simp length-set (omega (arith, holds-pieces (c .before .before .before .before .pre .holds) .long))
 
-finish-requires : tie.Need-finish-requires
-unfolding word
-finish-requires c κs = let s = (c .before .before .before .before .before) in let p = s .pre in (record { node = _; rest = p .rest; holds = given (p .holds) (s .args .g); fact = schedule-sound (p .node) (s .args .g) (p .fact) (c .before .before .before .if1 .left) (λ e. c .before .if2 .left (e ∙ sym (holds-pieces (p .holds) .running))) }, omega arith)
+unsettled-requires : tie.Need-unsettled-requires
+unsettled-requires c κs = search needs
 
 same-length : tie.Need-same-length
-same-length c = c .before .before .finish .kept .0 ∙ simp length-set
+same-length c = search needs
 
 returns-3 : tie.Need-returns-3
 unfolding word
 returns-3 c n r h v =
-    let g = c .before .before .before .before .before .before .before .before .args .g in
-    let other : g ≢ n .running = λ e. c .before .before .before .before .if2 .left (e ∙ sym (holds-pieces h .running)) in
-    stepping-finished (schedule g) _ (schedule-accepted n g (c .before .before .before .before .before .before .if1 .left)) (schedule-other n g other)
-    (c .before .before .finish .ensures _ r (given h g) (schedule-sound n g v (c .before .before .before .before .before .before .if1 .left) other))
+    let g = c .before .before .before .before .before .args .g in
+    let high = c .before .before .before .if1 .left in
+    let other : g ≢ n .running = λ e. c .before .if2 .left (e ∙ sym (holds-pieces h .running)) in
+    acted-unsettled (schedule g) (withTimer 0 (withRunning g n)) 0 0 (schedule-accepted n g high) (schedule-other n g other) (schedule-sound n g v high other) (omega arith)
+    (given h g) (c .unsettled .ensures)
 
 pub schedule-spec : {M : Type 1} → statement M
 schedule-spec =
@@ -74,6 +74,6 @@ schedule-spec =
     returns-2
     slice-write-m
     slice-write-m-2
-    finish-requires
+    unsettled-requires
     same-length
     returns-3)

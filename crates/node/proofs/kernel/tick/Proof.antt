@@ -2,23 +2,23 @@
 use Prim.Native.Nat.{_+_, _<_, _≤_, ℕ}
 use native.Mathlib.Omega.{arith}
 use mathlib.Core.List.{[], _∷_}
-use mathlib.Core.Path.{_∙_, _≡_, ap, subst}
+use mathlib.Core.Path.{_∙_, _≡_, ap, sym}
 use lib.ListN.{length}
 use borrow.Author.Needs.{needs}
 use borrow.Author.Tests.{not-false, not-true}
 use Rattle.rules.specs.Build.{paper01}
 use Rattle.rules.specs.Memory.{size, timerAt, word}
 use Rattle.rules.specs.Node.{withTimer}
-use Rattle.rules.specs.Operation.{tick}
+use Rattle.rules.specs.Operation.{tick, timeoutTrap}
 use Rattle.rules.specs.Step.{valued}
 use Rattle.rules.proofs.Steps.SoundLaws.{valid-sound}
 use Rattle.node.proofs.QuietLaws.{valid-quiet}
 use Rattle.memory.proofs.PieceLaws.{holds-pieces}
 use Rattle.memory.proofs.PieceWrites.{timer-held}
 use Rattle.memory.proofs.WriteLaws.{wrote-as, wrote-set}
-use Rattle.node.specs.Steps.{Finished, late}
-use Rattle.node.proofs.kernel.KernelLaws.{counted-quiet, tick-accepted, tick-counted, tick-idle, tick-many, tick-none, tick-timeout, valid-ticking}
-use Rattle.node.proofs.StepMap.{stepping-finished, stepping-quiet, stepping-refused}
+use Rattle.node.specs.Steps.{late}
+use Rattle.node.proofs.kernel.KernelLaws.{counted-quiet, late-sound, tick-accepted, tick-counted, tick-idle, tick-many, tick-none, tick-timeout, valid-ticking}
+use Rattle.node.proofs.StepMap.{acted-quiet, acted-refused, acted-unsettled}
 use Rattle.node.proofs.kernel.tick.Statement.{statement}
 use Rattle.node.proofs.kernel.tick.Tie as tie
 
@@ -33,13 +33,13 @@ refused-requires : tie.Need-refused-requires
 refused-requires c κs = search needs
 
 returns : tie.Need-returns
-returns c n r h v = let k = c .before .before .before .args .k in stepping-refused (tick k) 14 (tick-none n k (c .before .if1 .taken)) h (c .refused .ensures)
+returns c n r h v = let k = c .before .before .before .args .k in acted-refused (tick k) 14 (tick-none n k (c .before .if1 .taken)) h (c .refused .ensures)
 
 refused-requires-2 : tie.Need-refused-requires-2
 refused-requires-2 c κs = search needs
 
 returns-2 : tie.Need-returns-2
-returns-2 c n r h v = let k = c .before .before .before .before .args .k in stepping-refused (tick k) 14 (tick-many n k (c .before .before .if1 .left) (c .before .if2 .taken)) h (c .refused2 .ensures)
+returns-2 c n r h v = let k = c .before .before .before .before .args .k in acted-refused (tick k) 14 (tick-many n k (c .before .before .if1 .left) (c .before .if2 .taken)) h (c .refused2 .ensures)
 
 timer-runs-requires : tie.Need-timer-runs-requires
 timer-runs-requires c κs = let p = c .before .before .before .before .pre in record { node = p .node; rest = p .rest; holds = p .holds; fact = valid-sound (p .fact) }
@@ -55,7 +55,7 @@ unfolding valued
 returns-3 c n r h v =
     let k = c .before .before .before .before .before .before .before .args .k in
     let rests = c .before .before .timer-runs .ensures n r h (valid-sound v) ∙ not-true _ (c .before .if3 .taken) in
-    stepping-quiet (tick k) (valued 0 n) (tick-accepted n k (c .before .before .before .before .before .if1 .left) (c .before .before .before .before .if2 .left)) (tick-idle v k rests) (valid-quiet v) h (c .accepted .ensures)
+    acted-quiet (tick k) (valued 0 n) (tick-accepted n k (c .before .before .before .before .before .if1 .left) (c .before .before .before .before .if2 .left)) (tick-idle v k rests) (valid-quiet v) h (c .accepted .ensures)
 
 slice-read-t : tie.Need-slice-read-t
 slice-read-t c = let l = long (c .before .before .before .before .before .before .before) in omega arith
@@ -82,7 +82,7 @@ returns-4 c n r h v =
     let l = holds-pieces h .long in
     let runs = c .before .before .before .before .timer-runs .ensures n r h (valid-sound v) ∙ not-false _ (c .before .before .before .if3 .left) in
     let e : word m timerAt + k ≡ n .timer + k = ap (λ (x : ℕ). x + k) t in
-    stepping-quiet (tick k) (valued 0 (withTimer (n .timer + k) n)) (tick-accepted n k (c .before .before .before .before .before .before .before .if1 .left) (c .before .before .before .before .before .before .if2 .left))
+    acted-quiet (tick k) (valued 0 (withTimer (n .timer + k) n)) (tick-accepted n k (c .before .before .before .before .before .before .before .if1 .left) (c .before .before .before .before .before .before .if2 .left))
     (tick-counted v k runs (omega (arith, c .before .if4 .taken))) (counted-quiet v runs (n .timer + k))
     (timer-held h (n .timer + k) (wrote-as (wrote-set m timerAt (word m timerAt + k) (omega arith)) (ap (λ (x : ℕ). x ∷ []) e))) (c .accepted2 .ensures)
 
@@ -100,11 +100,11 @@ unfolding word
 returns-5 c n r h v =
     let k = c .before .before .before .before .before .before .before .before .before .before .before .before .args .k in
     let m = c .before .before .before .before .before .before .before .before .before .before .before .before .args .m .now in
-    let t = holds-pieces h .timer in
+    let timer = holds-pieces h .timer in
     let runs = c .before .before .before .before .before .before .before .timer-runs .ensures n r h (valid-sound v) ∙ not-false _ (c .before .before .before .before .before .before .if3 .left) in
-    let e : word m timerAt + k ≡ n .timer + k = ap (λ (x : ℕ). x + k) t in
-    stepping-finished (tick k) _ (tick-accepted n k (c .before .before .before .before .before .before .before .before .before .before .if1 .left) (c .before .before .before .before .before .before .before .before .before .if2 .left)) (tick-timeout v k runs (omega (arith, c .before .before .before .before .if4 .left)))
-    (subst (λ (x : ℕ). Finished (c .before .before .timeout .last .0) (late x n) r (c .before .before .timeout .result)) e (c .before .before .timeout .ensures n r h (valid-ticking v runs)))
+    let e : word m timerAt + k ≡ n .timer + k = ap (λ (x : ℕ). x + k) timer in
+    let t = c .before .before .timeout .ensures n r h (valid-ticking v runs) in
+    acted-unsettled (tick k) (late (word m timerAt + k) n .node) timeoutTrap (length (n .queue)) (tick-accepted n k (c .before .before .before .before .before .before .before .before .before .before .if1 .left) (c .before .before .before .before .before .before .before .before .before .if2 .left)) (tick-timeout v k runs (omega (arith, c .before .before .before .before .if4 .left)) ∙ ap (λ (x : ℕ). late x n) (sym e)) (late-sound (valid-ticking v runs) (word m timerAt + k)) (v .queue-length) (t .holds) (t .told)
 
 pub tick-spec : {M : Type 1} → statement M
 tick-spec =

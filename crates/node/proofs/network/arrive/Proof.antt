@@ -1,14 +1,13 @@
 -- `node::network::arrive` meets its contract: a refused arrival reports its number and leaves the memory; an accepted one is good and has a
 -- place in the queue, and the node with it is sound, so it joins and the step is finished. Assumes nothing.
 use Prim.Native.Nat.{ℕ}
-use native.Mathlib.Omega.{arith}
 use mathlib.Core.List.{List}
 use mathlib.Core.Path.{_≡_, sym, _∙_}
 use borrow.Author.Needs.{needs}
 use Rattle.rules.specs.Build.{paper01}
 use Rattle.rules.specs.Node.{Message, Node}
 use Rattle.rules.specs.Operation.{arrive}
-use Rattle.rules.specs.Refusal.{queued, refusal}
+use Rattle.rules.specs.Refusal.{refusal}
 use Rattle.rules.specs.Valid.{Valid}
 use Rattle.memory.specs.Holds.{Holds}
 use Rattle.node.proofs.network.ArriveLaws.{Arriving, arrived, arriving, refusing}
@@ -47,29 +46,18 @@ join-requires c κs =
     let x = a .good in
     ((x .group-low, x .group-high), ((x .some-words, x .few-words), record { node = p .node; rest = p .rest; holds = p .holds; fact = a .room }))
 
-finish-requires : tie.Need-finish-requires
-finish-requires c κs =
-    let p = c .before .before .before .before .before .before .before .before .before .before .pre in
-    let a = arrives (c .before .before .before .before .before) (p .node) (p .rest) (p .holds) (p .fact) in (
-      record {
-        node = queued (message (c .before .before .before .before .before .before .before .before .before .before)) (p .node);
-        rest = p .rest;
-        holds = c .before .before .before .join .ensures (p .node) (p .rest) (p .holds) (a .room);
-        fact = a .sound;
-      },
-      omega arith,
-    )
+unsettled-requires : tie.Need-unsettled-requires
+unsettled-requires c κs = search needs
 
 same-length-2 : tie.Need-same-length-2
 same-length-2 c = search needs
 
 returns-2 : tie.Need-returns-2
 returns-2 c n r h v =
-    let s = c .before .before .before .before .before .before .before .before .before .before .before .before .before .args in
-    let a = arrives (c .before .before .before .before .before .before .before .before) n r h v in
-    arrived (s .g) (s .words .now) (accepts (c .before .before .before .before .before .before .before .before) n r h v)
-    (c .before .before .finish .ensures (queued (message (c .before .before .before .before .before .before .before .before .before .before .before .before .before)) n) r (c .before .before .before .before .before .before .join .ensures n r h (a .room)) (a .sound))
+    let s = c .before .before .before .before .before .before .before .before .before .before .args in
+    let a = arrives (c .before .before .before .before .before) n r h v in
+    arrived (s .g) (s .words .now) (accepts (c .before .before .before .before .before) n r h v) (a .sound) (c .before .before .before .join .ensures n r h (a .room)) (c .unsettled .ensures)
 
 pub arrive-spec : {M : Type 1} → statement M
 arrive-spec =
-    tie.close (tie.spec refusal-requires refused-requires same-length returns join-requires finish-requires same-length-2 returns-2)
+    tie.close (tie.spec refusal-requires refused-requires same-length returns join-requires unsettled-requires same-length-2 returns-2)

@@ -19,7 +19,7 @@ use Rattle.memory.proofs.PieceLaws.{holds-pieces}
 use Rattle.node.specs.Steps.{Running, WithLine, effect}
 use Rattle.node.proofs.RunnerLaws.{runner-atomic, runner-in}
 use Rattle.node.proofs.section.SectionLaws.{disposing, runner-buffered, runner-none, runner-queued, line-missing, line-present}
-use Rattle.node.proofs.ServedLaws.{request-finished, request-refused, request-sound}
+use Rattle.node.proofs.ServedLaws.{acting-refused, acting-unsettled, request-sound}
 use Rattle.node.proofs.section.dispose.Statement.{statement}
 use Rattle.node.proofs.section.dispose.Tie as tie
 
@@ -63,7 +63,7 @@ same-length c = search needs
 
 returns : tie.Need-returns
 unfolding word
-returns c n r h run = request-refused run dispose h 7 (line-missing n (runner-none h run (sym (ap (λ (x : Group·rt). x .count) (c .before .before .before .before .before .read .ensures)) ∙ c .before .before .before .if1 .taken) (c .before .if2 .taken))) (c .refused .ensures)
+returns c n r h run = acting-refused run dispose h 7 (line-missing n (runner-none h run (sym (ap (λ (x : Group·rt). x .count) (c .before .before .before .before .before .read .ensures)) ∙ c .before .before .before .if1 .taken) (c .before .if2 .taken))) (c .refused .ensures)
 
 remove-requires : tie.Need-remove-requires
 unfolding word
@@ -76,24 +76,19 @@ set-flags-requires c κs = let p = c .before .before .before .before .before .be
 slice-write-m : tie.Need-slice-write-m
 slice-write-m c = let p = c .before .before .before .before .before .before .before .before .before .before .before .before .before .before .pre in let l = holds-pieces (p .holds) .long in omega (arith, c .before .before .set-flags .kept .0, c .before .before .before .before .before .before .remove .kept .0)
 
-finish-requires : tie.Need-finish-requires
-unfolding serve extending
-finish-requires c κs =
-    let p = c .before .before .before .before .before .before .before .before .before .before .before .before .before .before .before .pre in
-    (record { node = _; rest = p .rest; holds = gone (c .before .before .before) (p .node) (p .rest) (p .holds) (p .fact); fact = request-sound (p .fact) dispose (line-present _ (line-some (c .before .before .before .before .before .before .before .before .before) (p .node) (p .rest) (p .holds) (p .fact))) }, omega arith)
+unsettled-requires : tie.Need-unsettled-requires
+unsettled-requires c κs = search needs
 
 same-length-2 : tie.Need-same-length-2
-same-length-2 c = c .before .before .finish .kept .0 ∙ simp length-set (c .before .before .before .before .before .before .set-flags .kept .0 ∙ c .before .before .before .before .before .before .before .before .before .before .remove .kept .0)
+same-length-2 c = simp length-set (c .before .before .before .set-flags .kept .0 ∙ c .before .before .before .before .before .before .before .remove .kept .0)
 
 returns-2 : tie.Need-returns-2
 unfolding word serve extending
 returns-2 c n r h run =
-    let q = c .before .before .before .before .before .before .before .before .before .before .remove .result in
-    let ok = line-present _ (line-some (c .before .before .before .before .before .before .before .before .before .before .before .before) n r h run) in
-    let t = c .before .before .before .before .before .before .before .before .before .before .remove .ensures n r h (with-line (c .before .before .before .before .before .before .before .before .before .before .before .before) n r h run) in
-    request-finished run dispose (effect (disposed paper01 n) 0 q 0) ok
-    (λ i. effect (disposed paper01 n) 0 (sym (t .extended) i) 0)
-    (c .before .before .finish .ensures _ r (gone (c .before .before .before .before .before .before) n r h run) (request-sound run dispose ok))
+    let ok = line-present _ (line-some (c .before .before .before .before .before .before .before .before .before) n r h run) in
+    let t = c .before .before .before .before .before .before .before .remove .ensures n r h (with-line (c .before .before .before .before .before .before .before .before .before) n r h run) in
+    acting-unsettled run dispose (disposed paper01 n) (c .before .before .before .before .before .before .before .remove .result) 0 ok (λ i. effect (disposed paper01 n) 0 (sym (t .extended) i) 0)
+    (request-sound run dispose ok) (omega arith) (gone (c .before .before .before) n r h run) (c .unsettled .ensures)
 
 pub dispose-spec : {M : Type 1} → statement M
 dispose-spec =
@@ -108,6 +103,6 @@ dispose-spec =
     remove-requires
     set-flags-requires
     slice-write-m
-    finish-requires
+    unsettled-requires
     same-length-2
     returns-2)

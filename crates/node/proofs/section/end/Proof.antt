@@ -17,7 +17,7 @@ use Rattle.node.specs.Steps.{Running, effect}
 use Rattle.node.proofs.settling.CallLaws.{flag-off, flag-on}
 use Rattle.node.proofs.RunnerLaws.{runner-in, runner-pending, runner-timer-flagged}
 use Rattle.node.proofs.section.SectionLaws.{section-ends, section-pending}
-use Rattle.node.proofs.ServedLaws.{request-finished, request-refused, request-sound}
+use Rattle.node.proofs.ServedLaws.{acting-refused, acting-unsettled, request-sound}
 use Rattle.node.proofs.section.end.Statement.{statement}
 use Rattle.node.proofs.section.end.Tie as tie
 
@@ -55,7 +55,7 @@ same-length c = search needs
 
 returns : tie.Need-returns
 unfolding word
-returns c n r h run = request-refused run endAtomic h 9 (section-pending n (flag-on _ (λ e. c .before .if1 .taken (ap (λ (x : Group·rt). x .pending) (c .before .before .before .read .ensures) ∙ runner-pending h (run .some) (run .valid .running-bound) ∙ e)))) (c .refused .ensures)
+returns c n r h run = acting-refused run endAtomic h 9 (section-pending n (flag-on _ (λ e. c .before .if1 .taken (ap (λ (x : Group·rt). x .pending) (c .before .before .before .read .ensures) ∙ runner-pending h (run .some) (run .valid .running-bound) ∙ e)))) (c .refused .ensures)
 
 buffered-requires : tie.Need-buffered-requires
 unfolding word
@@ -69,24 +69,19 @@ set-flags-requires : tie.Need-set-flags-requires
 unfolding word
 set-flags-requires c κs = let p = c .before .before .before .before .before .before .before .before .before .before .before .before .before .before .pre in runner-in (p .holds) (p .fact .some) (p .fact .valid .running-bound) _ (c .before .before .before .set-timer-flags .kept .0)
 
-finish-requires : tie.Need-finish-requires
-unfolding serve extending
-finish-requires c κs =
-    let p = c .before .before .before .before .before .before .before .before .before .before .before .before .before .before .before .before .before .before .pre in
-    let t = ended-there (c .before .before .before) (p .node) (p .rest) (p .holds) (p .fact) in
-    (record { node = _; rest = p .rest; holds = t .1; fact = request-sound (p .fact) endAtomic (section-ends _ (t .0)) }, omega arith)
+unsettled-requires : tie.Need-unsettled-requires
+unsettled-requires c κs = search needs
 
 same-length-2 : tie.Need-same-length-2
-same-length-2 c = c .before .before .finish .kept .0 ∙ c .before .before .before .before .before .before .set-flags .kept .0 ∙ c .before .before .before .before .before .before .before .before .before .before .set-timer-flags .kept .0
+same-length-2 c = c .before .before .before .set-flags .kept .0 ∙ c .before .before .before .before .before .before .before .set-timer-flags .kept .0
 
 returns-2 : tie.Need-returns-2
 unfolding serve extending
 returns-2 c n r h run =
-    let t = ended-there (c .before .before .before .before .before .before) n r h run in
-    let q = c .before .before .before .before .before .before .before .before .before .before .before .before .if2 .trap in
-    request-finished run endAtomic (effect (ended n) 0 q 0) (section-ends _ (t .0))
-    (λ i. effect (ended n) 0 (sym (trap-read (c .before .before .before .before .before .before .before .before .before .before .before .before) n r h run) i) 0)
-    (c .before .before .finish .ensures _ r (t .1) (request-sound run endAtomic (section-ends _ (t .0))))
+    let t = ended-there (c .before .before .before) n r h run in
+    let ok = section-ends _ (t .0) in
+    acting-unsettled run endAtomic (ended n) (c .before .before .before .before .before .before .before .before .before .if2 .trap) 0 ok (λ i. effect (ended n) 0 (sym (trap-read (c .before .before .before .before .before .before .before .before .before) n r h run) i) 0)
+    (request-sound run endAtomic ok) (omega arith) (t .1) (c .unsettled .ensures)
 
 pub end-spec : {M : Type 1} → statement M
 end-spec =
@@ -100,6 +95,6 @@ end-spec =
     buffered-requires
     set-timer-flags-requires
     set-flags-requires
-    finish-requires
+    unsettled-requires
     same-length-2
     returns-2)

@@ -2,13 +2,13 @@
 use mathlib.Core.Path.{_≡_, refl}
 use mathlib.Core.Bool.{true}
 use mathlib.Core.List.{[], _∷_, _++_}
-use Rattle.rules.specs.Lists.{upFrom}
+use lib.ListN.{take}
 use Rattle.rules.specs.Operation.{schedule, user, dispose}
 use Rattle.rules.specs.MemoryTest.{isMemory}
-use Rattle.rules.specs.Cases.MemoryCases.{fresh, forced, busy, sevenUsed, swapped, firstSwapped}
+use Rattle.rules.specs.Cases.MemoryCases.{cut, fresh, forced, busy, sevenUsed, swapped, firstSwapped}
 use Rattle.rules.specs.Cases.MemoryCases.{MapCases, StepOnMemoryCases, NodeCases, NoNodeCases, HeadCases, CountCases}
 use Rattle.rules.proofs.Cases.Computes.{computes}
-use Rattle.rules.proofs.Cases.TestComputes.{words-fail, node-fails, unused-fail, is-node, same-words, step-report, step-writes, step-refused, head-of, head-reads, head-none, counts-of, counts-none}
+use Rattle.rules.proofs.Cases.TestComputes.{words-fail, node-fails, unused-fail, pages-fail, is-node, same-words, step-report, step-writes, step-refused, head-of, head-reads, head-none, counts-of, counts-none}
 
 pub map-cases : MapCases
 unfolding computes
@@ -26,34 +26,32 @@ map-cases =
 -- memories that the cases below speak of more than once
 fresh-node : isMemory fresh ≡ true
 unfolding computes
-fresh-node = is-node _ (upFrom 0 96) (upFrom 0 32) refl refl refl refl refl refl refl refl refl
+fresh-node = is-node _ refl refl refl refl refl refl refl
 
 -- the busy node, with a word past its size
 busy-node : isMemory (busy ++ (7 ∷ [])) ≡ true
 unfolding computes
-busy-node =
-    is-node _ (upFrom 2 30 ++ (upFrom 32 64 ++ (0 ∷ 1 ∷ []))) (upFrom 2 30 ++ (0 ∷ 1 ∷ [])) refl refl refl refl refl refl refl refl refl
+busy-node = is-node _ refl refl refl refl refl refl refl
 
 -- the one with seven places used up
 seven-used : isMemory sevenUsed ≡ true
 unfolding computes
-seven-used =
-    is-node _ (upFrom 2 30 ++ (upFrom 32 64 ++ (1 ∷ 0 ∷ []))) (upFrom 2 30 ++ (0 ∷ 1 ∷ [])) refl refl refl refl refl refl refl refl refl
+seven-used = is-node _ refl refl refl refl refl refl refl
 
 -- the one with a page in swap
 swapped-node : isMemory swapped ≡ true
 unfolding computes
-swapped-node = is-node _ (upFrom 0 4 ++ (upFrom 5 32 ++ (upFrom 38 58 ++ (4 ∷ 37 ∷ [])))) (upFrom 0 4 ++ (upFrom 5 27 ++ (4 ∷ []))) refl refl refl refl refl refl refl refl refl
+swapped-node = is-node _ refl refl refl refl refl refl refl
 
 -- the one with a first page in swap
 first-swapped : isMemory firstSwapped ≡ true
 unfolding computes
-first-swapped = is-node _ (upFrom 0 4 ++ (upFrom 5 32 ++ (upFrom 38 58 ++ (37 ∷ 4 ∷ [])))) (upFrom 0 4 ++ (upFrom 5 27 ++ (4 ∷ []))) refl refl refl refl refl refl refl refl refl
+first-swapped = is-node _ refl refl refl refl refl refl refl
 
 -- the one whose timer force keeps
 forced-timer : isMemory forced ≡ true
 unfolding computes
-forced-timer = is-node _ (upFrom 0 96) (upFrom 0 32) refl refl refl refl refl refl refl refl refl
+forced-timer = is-node _ refl refl refl refl refl refl refl
 
 pub node-cases : NodeCases
 unfolding computes
@@ -61,9 +59,9 @@ node-cases =
     record {
       fresh-node = fresh-node;
       busy-node = busy-node;
-      full-queue-node = is-node _ (1 ∷ 8 ∷ upFrom 2 6 ++ (0 ∷ upFrom 9 87)) (1 ∷ 8 ∷ upFrom 2 6 ++ (0 ∷ upFrom 9 23)) refl refl refl refl refl refl refl refl refl;
+      full-queue-node = is-node _ refl refl refl refl refl refl refl;
       seven-used = seven-used;
-      edges = is-node _ (upFrom 2 30 ++ (upFrom 32 64 ++ (0 ∷ 1 ∷ []))) (upFrom 2 30 ++ (0 ∷ 1 ∷ [])) refl refl refl refl refl refl refl refl refl;
+      edges = is-node _ refl refl refl refl refl refl refl;
       swapped-node = swapped-node;
       first-swapped = first-swapped;
       forced-timer = forced-timer;
@@ -92,15 +90,15 @@ no-node-cases =
       length-nine-swapped = node-fails _ 5 refl;
       eight-used = node-fails _ 5 refl;
       timer-256 = node-fails _ 1 refl;
-      frame-twice = node-fails _ 8 refl;
-      frame-missing = node-fails _ 8 refl;
-      frame-listed-and-free = node-fails _ 8 refl;
-      frame-listed-twice = node-fails _ 8 refl;
-      swap-twice = node-fails _ 8 refl;
-      swap-missing = node-fails _ 8 refl;
-      swap-listed-and-free = node-fails _ 8 refl;
-      swap-listed-twice = node-fails _ 8 refl;
-      page-96 = node-fails _ 8 refl;
+      frame-twice = pages-fail _ refl;
+      frame-missing = pages-fail _ refl;
+      frame-listed-and-free = pages-fail _ refl;
+      frame-listed-twice = pages-fail _ refl;
+      swap-twice = pages-fail _ refl;
+      swap-missing = pages-fail _ refl;
+      swap-listed-and-free = pages-fail _ refl;
+      swap-listed-twice = pages-fail _ refl;
+      page-96 = pages-fail _ refl;
       page-97th = node-fails _ 9 refl;
       frame-in-swap-line = node-fails _ 10 refl;
       swap-in-free-line = node-fails _ 12 refl;
@@ -173,7 +171,7 @@ step-on-memory-cases =
       power-on-short = refl;
       power-on-none = refl;
       step-report = step-report fresh _ fresh-node;
-      step-words = step-writes _ (schedule 1) 0 1092 _ fresh-node refl;
+      step-words = step-writes _ (schedule 1) (take 1092) _ fresh-node refl;
       step-short = step-refused _ _ (words-fail _ 0 refl);
       step-no-node = step-refused _ _ (node-fails _ 0 refl);
       before-unknown = step-refused _ _ (node-fails _ 0 refl);
@@ -182,9 +180,7 @@ step-on-memory-cases =
       before-ticks = step-refused _ _ (words-fail _ 0 refl);
       unknown-two = step-report fresh _ fresh-node;
       dispose-report = step-report _ _ busy-node;
-      dispose-words = step-writes _ (user dispose) 0 1092 _ busy-node refl;
-      dispose-frames = step-writes _ (user dispose) 1083 162 _ busy-node refl;
-      dispose-rest = step-writes _ (user dispose) 8004 102 _ busy-node refl;
+      dispose-memory = step-writes _ (user dispose) (cut 1245 8004) _ busy-node refl;
     }
 
 pub head-cases : HeadCases

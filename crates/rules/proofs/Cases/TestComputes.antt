@@ -1,5 +1,6 @@
 -- How the cases of memory are computed: the memory test fails where one clause does; it passes where each does, the unused words read at one
--- go and not each from the memory's start; two lists of words are the same where each word is. Assumes nothing.
+-- go and not each from the memory's start, the numbers of pages read once and not for each page again; two lists of words are the same where each
+-- word is. Assumes nothing.
 use Prim.Native.Nat.{ℕ, zero, suc, _+_, _-_, _*_}
 use mathlib.Core.Path.{_≡_, refl, ap, _∙_}
 use mathlib.Core.Bool.{Bool, true, false, _&&_, false≢true}
@@ -224,27 +225,50 @@ otherTests = lacking 10 (lacking 8 (nodeTests paper01))
 abbrev pub allOnce : ℕ → List ℕ → Bool
 allOnce k fs = all (standsOnce fs) (upFrom 0 k)
 
--- a memory that passes each test is a node; ps are the numbers of its pages and es those of its frames, read once and not for each page again
-pub is-node : (m ps es : List ℕ)
+-- the test of a list whose numbers are read first: it looks at each often, and they are not read again each time
+abbrev pub read : List ℕ → (List ℕ → Bool) → Bool
+read [] t = t []
+read (zero ∷ xs) t = read xs (λ ys. t (zero ∷ ys))
+read (suc x ∷ xs) t = read xs (λ ys. t (suc x ∷ ys))
+
+-- it is that test
+pub read-same : (xs : List ℕ) (t : List ℕ → Bool) → t xs ≡ read xs t
+read-same [] t = refl
+read-same (zero ∷ xs) t = read-same xs (λ ys. t (zero ∷ ys))
+read-same (suc x ∷ xs) t = read-same xs (λ ys. t (suc x ∷ ys))
+
+-- "each frame stands once", frames and swap pages
+abbrev pub pagesOnce : List ℕ → Bool
+pagesOnce m = read (frameNumbers (nodeBy m)) (allOnce (pageCount paper01))
+
+-- memory is no node where one does not
+pub pages-fail : (m : List ℕ) → pagesOnce m ≡ false → isMemory m ≡ false
+unfolding nodeTests
+pages-fail m e = node-fails m 8 (read-same (frameNumbers (nodeBy m)) (allOnce (pageCount paper01)) ∙ e)
+
+-- each frame stands once, in the free line or the order of entry
+abbrev pub framesOnce : List ℕ → Bool
+framesOnce m = read (frameOrder (nodeBy m)) (allOnce (paper01 .frames))
+
+-- a memory that passes each test is a node
+pub is-node : (m : List ℕ)
     → leb size (length m) ≡ true
     → countsInBounds m ≡ true
     → flagsAreFlags m ≡ true
     → unusedZeros m ≡ true
-    → same (frameNumbers (nodeBy m)) ps ≡ true
-    → allOnce (pageCount paper01) ps ≡ true
-    → same (frameOrder (nodeBy m)) es ≡ true
-    → allOnce (paper01 .frames) es ≡ true
+    → pagesOnce m ≡ true
+    → framesOnce m ≡ true
     → passes otherTests (nodeBy m) ≡ true
     → isMemory m ≡ true
 unfolding isMemory memoryTests isNode nodeTests
-is-node m ps es long counts flags unused pages once frames ordered others =
+is-node m long counts flags unused pages frames others =
     pass memoryTests m (long, (counts, (flags, (unused-zeros m ∙ unused, (rw (node-by m) holds, tt)))))
   where
     stand : allOnce (pageCount paper01) (frameNumbers (nodeBy m)) ≡ true
-    stand = rw (same-words (frameNumbers (nodeBy m)) ps pages) once
+    stand = read-same (frameNumbers (nodeBy m)) (allOnce (pageCount paper01)) ∙ pages
 
     order : allOnce (paper01 .frames) (frameOrder (nodeBy m)) ≡ true
-    order = rw (same-words (frameOrder (nodeBy m)) es frames) ordered
+    order = read-same (frameOrder (nodeBy m)) (allOnce (paper01 .frames)) ∙ frames
 
     holds : isNode paper01 (nodeBy m) ≡ true
     holds = pass-at (nodeTests paper01) (nodeBy m) 8 stand (pass-at (lacking 8 (nodeTests paper01)) (nodeBy m) 10 order others)
@@ -254,13 +278,13 @@ pub step-report : (m : List ℕ) (op : Operation) → isMemory m ≡ true → st
 unfolding stepMemory
 step-report m op e = rw (e, stepMemory, node-by m)
 
--- the k words that it leaves from address a on
-pub step-writes : (m : List ℕ) (op : Operation) (a k : ℕ) (ws : List ℕ)
+-- the words that it leaves, as far as they are looked at
+pub step-writes : (m : List ℕ) (op : Operation) (look : List ℕ → List ℕ) (ws : List ℕ)
     → isMemory m ≡ true
-    → same (take k (drop a (replaced (step paper01 (nodeBy m) op .node) m))) ws ≡ true
-    → take k (drop a (stepMemory m op .memory)) ≡ ws
+    → same (look (replaced (step paper01 (nodeBy m) op .node) m)) ws ≡ true
+    → look (stepMemory m op .memory) ≡ ws
 unfolding stepMemory
-step-writes m op a k ws e r = rw (e, stepMemory, node-by m) (same-words _ _ r)
+step-writes m op look ws e r = rw (e, stepMemory, node-by m) (same-words _ _ r)
 
 pub step-refused : (m : List ℕ) (op : Operation) → isMemory m ≡ false → stepMemory m op ≡ record { report = refused notNode; memory = m }
 unfolding stepMemory

@@ -62,10 +62,10 @@ pub record ForceCases : Type 0 where
       ∷ "T,256\n" gives "7,0,0,0,0,0\n"
       ∷ [])
   -- its word, and atomic's
-  pub end-words : Stands (bytes "S,3\nB,1\nN\n") 420
+  pub force-ended-words : Stands (bytes "S,3\nB,1\nN\n") 420
       (replicate 112 0)
   -- a refused one leaves it
-  pub refused-end : Lists
+  pub refused-end-force : Lists
       ("S,1\n" gives "1,0,0,0,0,0\n"
       ∷ "A,1,7\n" gives "2,0,0,0,1,0\n"
       ∷ "B,1\n" gives "3,0,0,0,0,0\n"
@@ -287,7 +287,7 @@ pub record RevokedCases : Type 0 where
       ∷ "A,1,8\n" gives "8,0,0,0,0,1\n"
       ∷ [])
   -- nor does a refused N
-  pub refused-end : Lists
+  pub refused-end-revoked : Lists
       ("S,1\n" gives "1,0,0,0,0,0\n"
       ∷ "A,1,7\n" gives "2,0,0,0,1,0\n"
       ∷ "T,256\n" gives "3,0,0,3,0,1\n"
@@ -329,5 +329,5 @@ pub record RevokedCases : Type 0 where
       ∷ "D\n" gives "8,0,0,1,0,0\n"
       ∷ [])
   -- both flags of a group that lost the processor
-  pub flags-kept : Stands (bytes "S,3\nB,1\nT,256\nS,1\nS,0\n") 420
+  pub timer-flags-kept : Stands (bytes "S,3\nB,1\nT,256\nS,1\nS,0\n") 420
       (1 ∷ 0 ∷ 1 ∷ 1 ∷ replicate 108 0)

@@ -15,6 +15,10 @@ use Rattle.rules.specs.Cases.Case.{copies, memoryAfter, Stands, Stretch,
 abbrev pub put : ℕ → List ℕ → List ℕ → List ℕ
 put a ws m = take a m ++ (ws ++ drop (a + length ws) m)
 
+-- memory but for the words from address a on and before address b
+abbrev pub cut : ℕ → ℕ → List ℕ → List ℕ
+cut a b m = take a m ++ drop b m
+
 -- "A refused step reports its number and zeros"; 0 is accepted
 abbrev pub numberAndZeros : ℕ → Report
 numberAndZeros a = record { answer = a; value = 0; trap = 0; upcall = 0; moved = 0; sent = [] }
@@ -159,7 +163,7 @@ pub record StepOnMemoryCases : Type 0 where
   pub power-on-none : powerOnMemory [] ≡ answered 1 []
   -- a step on a node of exactly its size, and on one word less
   pub step-report : stepMemory fresh (schedule 1) .report ≡ numberAndZeros 0
-  pub step-words : take 1092 (drop 0 (stepMemory fresh (schedule 1) .memory)) ≡ take 1092 (put 0 (1 ∷ []) fresh)
+  pub step-words : take 1092 (stepMemory fresh (schedule 1) .memory) ≡ take 1092 (put 0 (1 ∷ []) fresh)
   pub step-short : stepMemory (take 8103 fresh) (schedule 1) ≡ answered 1 (take 8103 fresh)
   -- on memory that is no node; before 2, 7, 14 and 15 too
   pub step-no-node : stepMemory (put 0 (9 ∷ []) fresh) (schedule 1) ≡ answered 1 (put 0 (9 ∷ []) fresh)
@@ -173,22 +177,19 @@ pub record StepOnMemoryCases : Type 0 where
   pub dispose-report :
       stepMemory (busy ++ (7 ∷ [])) (user dispose) .report
       ≡ record { answer = 0; value = 0; trap = 0; upcall = 0; moved = 1; sent = [] }
-  pub dispose-words :
-      take 1092 (drop 0 (stepMemory (busy ++ (7 ∷ [])) (user dispose) .memory))
-      ≡ take 1092
+  -- it is "written straight into the frame's part of the memory", and the used-up places before it stay; frame 2 is the last in "the order of entry
+  -- into frames". "Memory past the node's size is never touched."
+  pub dispose-memory :
+      cut 1245 8004 (stepMemory (busy ++ (7 ∷ [])) (user dispose) .memory)
+      ≡ take 1245
       (put 0 (1 ∷ 0 ∷ 1 ∷ 29 ∷ 1 ∷ 3 ∷ 4 ∷ 4 ∷ 4 ∷ replicate 25 0)
       (put 164 (upFrom 3 29 ++ (0 ∷ 0 ∷ 0 ∷ []))
       (put 197 (0 ∷ [])
       (put 313 (1 ∷ 1 ∷ [])
       (put 324 (2 ∷ [])
-      busy)))))
-  -- "written straight into the frame's part of the memory"; the used-up places before it stay
-  pub dispose-frames :
-      take 162 (drop 1083 (stepMemory (busy ++ (7 ∷ [])) (user dispose) .memory)) ≡ take 162 (drop 1083 (put 1236 (2 ∷ 5 ∷ 6 ∷ []) busy))
-  -- "The memory keeps the order of entry into frames": frame 2 is its last. "Memory past the node's size is never touched."
-  pub dispose-rest :
-      take 102 (drop 8004 (stepMemory (busy ++ (7 ∷ [])) (user dispose) .memory))
-      ≡ 64 ∷ 3 ∷ 0 ∷ 0 ∷ upFrom 32 64 ++ (0 ∷ 1 ∷ 2 ∷ replicate 29 0 ++ (7 ∷ []))
+      (put 1236 (2 ∷ 5 ∷ 6 ∷ [])
+      busy))))))
+      ++ (64 ∷ 3 ∷ 0 ∷ 0 ∷ upFrom 32 64 ++ (0 ∷ 1 ∷ 2 ∷ replicate 29 0 ++ (7 ∷ [])))
 
 -- memories that are nodes, at the edges of the clauses
 pub record NodeCases : Type 0 where

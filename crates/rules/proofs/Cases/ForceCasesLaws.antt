@@ -43,6 +43,7 @@ revoked-cases =
       revoked-ended = refl;
       nothing-moved = refl;
       revoked-empty = refl;
+      pledges-nothing = refl;
       settles-own = refl;
       buffered-already = refl;
       revoked-already = refl;

@@ -4,7 +4,7 @@
 use mathlib.Core.List.{[], _∷_, _++_}
 use lib.ListN.{replicate}
 use Rattle.rules.specs.Text.{bytes}
-use Rattle.rules.specs.Cases.Case.{_gives_, Lists, Stands, _holds_, Leaves}
+use Rattle.rules.specs.Cases.Case.{_gives_, Lists, Stands, _holds_, Leaves, crowded, ListsFrom}
 
 -- force, and the timer that it forces
 pub record ForceCases : Type 0 where
@@ -240,6 +240,14 @@ pub record RevokedCases : Type 0 where
       ∷ "M\n" gives "6,0,0,0,0,0\n"
       ∷ "N\n" gives "7,0,0,2,0,0\n"
       ∷ "N\n" gives "8,0,0,0,0,0\n"
+      ∷ [])
+  -- its pledge is its messages' as before: the last page is still there for another
+  pub pledges-nothing : ListsFrom (crowded 95)
+      ("S,1\n" gives "1,0,0,0,0,0\n"
+      ∷ "B,1\n" gives "2,0,0,0,0,0\n"
+      ∷ "T,256\n" gives "3,0,0,3,0,0\n"
+      ∷ "A,3,7\n" gives "4,0,0,0,0,1\n"
+      ∷ "A,1,7\n" gives "5,6,0,0,0,0\n"
       ∷ [])
   -- it counts as buffered for settling: its own messages move, in their order, and no upcall comes before N
   pub settles-own : Lists

@@ -14,7 +14,7 @@ use Rattle.rules.specs.Lists.{isEmpty}
 use Rattle.rules.specs.Node.{Group, Message, Node, bufferHolds, buffered, forced, groupOf, line, timerRuns, withDescriptor, withFlags, withGroup, withQueue, withTimer, withTimerFlags}
 use Rattle.rules.specs.Operation.{accepted}
 use Rattle.rules.specs.Settling.{Moved, calls, mayStay, pass, restTimer, settle, upcall, upcallGroup}
-use Rattle.rules.specs.Step.{Effect, begun, described, finish, flagged, timerFlagged}
+use Rattle.rules.specs.Step.{Effect, sectionBegun, described, finish, flagged, timerFlagged}
 use Rattle.rules.specs.Valid.{FirstInFrame, Valid}
 use Rattle.rules.proofs.Steps.LineLaws.{neither, timer-rests}
 use Rattle.rules.proofs.Steps.NodeLaws.{group-same, kept, reflagged-line}
@@ -133,8 +133,8 @@ described-quiet {b} {n} v d =
     exchanged-quiet (valid-quiet v) (runner-within v) (withDescriptor d (groupOf n (n .running))) refl refl (λ e. e) (λ e. e)
 
 -- and in an atomic section
-pub begun-quiet : {b : Build} {n : Node} → Valid b n → (force : Bool) → Quiet b (begun force n)
-unfolding begun flagged timerFlagged withGroup withFlags withTimerFlags
+pub begun-quiet : {b : Build} {n : Node} → Valid b n → (force : Bool) → Quiet b (sectionBegun force n)
+unfolding sectionBegun flagged timerFlagged withGroup withFlags withTimerFlags
 begun-quiet {b} {n} v force =
     let r = n .running in
     let G = groupOf n r in

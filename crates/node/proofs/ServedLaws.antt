@@ -60,7 +60,7 @@ module _ {n : Node} (runs : Running n) (q : Request) where
     acting-refused h k e told = acted-refused (user q) k (request-refusal ∙ e) h told
 
     -- accepted, and to settle
-    pub acting-unsettled : (k : Node) (trap moved : ℕ) → refuseRequest n q ≡ accepted → serve paper01 n q ≡ effect k 0 trap moved → Sound paper01 k
+    pub acting-unsettled : (k : Node) (trap moved : ℕ) → refuseRequest n q ≡ accepted → serve paper01 n q ≡ effect k trap moved → Sound paper01 k
         → moved ≤ paper01 .places → Holds m k r → a ≡ unsettled trap moved → Acted m n r (user q) a
     unfolding act
     acting-unsettled k trap moved fine same s few h told = acted-unsettled (user q) k trap moved (request-refusal ∙ fine) same s few h told

@@ -37,7 +37,7 @@ module _ {m : List ℕ} {n : Node} {r : List ℕ} (op : Operation) {rep : Report
       }
 
   -- what has acted and is then finished
-  pub stepping-acted : {m₀ : List ℕ} {told : Report·rt} → (a : Acting m₀ n r op told) → Finished m (effect (a .node) 0 (told .trap) (told .moved)) r rep
+  pub stepping-acted : {m₀ : List ℕ} {told : Report·rt} → (a : Acting m₀ n r op told) → Finished m (effect (a .node) (told .trap) (told .moved)) r rep
       → Stepping m n r op rep
   stepping-acted a f = stepping-finished _ (a .accepts) (a .same) f
 
@@ -67,7 +67,7 @@ module _ {m : List ℕ} {n : Node} {r : List ℕ} (op : Operation) {a : Act·rt}
   acted-quiet e in-order same q h told = acted-done told (stepping-quiet op e in-order same q h refl)
 
   -- one that is to settle
-  pub acted-unsettled : (k : Node) (trap moved : ℕ) → refusal paper01 n op ≡ accepted → act paper01 n op ≡ effect k 0 trap moved → Sound paper01 k
+  pub acted-unsettled : (k : Node) (trap moved : ℕ) → refusal paper01 n op ≡ accepted → act paper01 n op ≡ effect k trap moved → Sound paper01 k
       → moved ≤ paper01 .places → Holds m k r → a ≡ unsettled trap moved → Acted m n r op a
   acted-unsettled k trap moved in-order same s few h e =
       subst (Acted m n r op) (sym e)

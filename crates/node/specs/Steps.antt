@@ -50,15 +50,15 @@ done rep = record { settles = false; report = rep }
 abbrev pub unsettled : ℕ → ℕ → Act·rt
 unsettled trap moved = record { settles = true; report = reportOf (acceptedWith 0 trap 0 moved) }
 
--- an operation that sends nothing
-abbrev pub effect : Node → ℕ → ℕ → ℕ → Effect
-effect n value trap moved = record { node = n; value = value; trap = trap; moved = moved; sent = [] }
+-- an operation without a value, that sends nothing
+abbrev pub effect : Node → ℕ → ℕ → Effect
+effect n trap moved = record { node = n; value = 0; trap = trap; moved = moved; sent = [] }
 
 -- what an accepted operation has done before settling, told by this report
 pub record Acting (m′ : List ℕ) (n : Node) (rest : List ℕ) (op : Operation) (rep : Report·rt) : Type 0 where
   pub accepts : refusal paper01 n op ≡ accepted
   pub node : Node
-  pub same : act paper01 n op ≡ effect node 0 (rep .trap) (rep .moved)
+  pub same : act paper01 n op ≡ effect node (rep .trap) (rep .moved)
   pub sound : Sound paper01 node
   pub holds : Holds m′ node rest
   pub few : rep .moved ≤ paper01 .places
@@ -133,7 +133,7 @@ LeftOver m t x = (n : Node) (r : List ℕ) → Holds m n r → Sound paper01 n �
 
 -- t ticks on the timer reach the timeout
 abbrev pub late : ℕ → Node → Effect
-late t n = effect (withTimer (rest t n) (revoke (drain paper01 (n .queue) n))) 0 timeoutTrap (length (n .queue))
+late t n = effect (withTimer (rest t n) (revoke (drain paper01 (n .queue) n))) timeoutTrap (length (n .queue))
 
 -- what comes after an operation with this effect
 pub record Finished (m′ : List ℕ) (e : Effect) (rest : List ℕ) (rep : Report·rt) : Type 0 where

@@ -87,7 +87,7 @@ pub fn step_node(memory: &mut [u32], op: Operation, words: &[u32]) -> Report
     let a = act(memory, op, words);
     let report = a.report;
     if a.settles {
-        return settling::finish(memory, 0, report.trap, report.moved);
+        return settling::finish(memory, report.trap, report.moved);
     }
     report
 }

@@ -127,13 +127,13 @@ pub fn upcall(m: &mut [u32]) -> u32
 }
 
 // Settling, the running group's first page brought in, and the upcall; and the report of the operation before them.
-pub fn finish(m: &mut [u32], value: u32, trap: u32, moved: u32) -> Report
+pub fn finish(m: &mut [u32], trap: u32, moved: u32) -> Report
     requires { ⌜ Some (now m) (Sound paper01) ⌝ }
     requires { ⌜ moved ≤ 16 ⌝ }
-    ensures { λ rep. ⌜ Finishes (now (m .entry)) (now (m .exit)) (λ n. effect n value trap moved) rep ⌝ }
+    ensures { λ rep. ⌜ Finishes (now (m .entry)) (now (m .exit)) (λ n. effect n trap moved) rep ⌝ }
 {
     let settled = settle(m);
     paging::runner_resident(m);
     let up = upcall(m);
-    Report::accepted(value, trap, up, moved + settled)
+    Report::accepted(0, trap, up, moved + settled)
 }

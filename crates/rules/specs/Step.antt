@@ -100,14 +100,14 @@ unfoldable pub disposed : Build → Node → Node
 disposed b n = withTimer 0 (flagged (groupOf n (n .running) .atomic) false (removed b n))
 
 -- B: "atomic on. Not counted"; "`B,1` turns force on, `B,0` and plain `B` leave it"
-unfoldable pub begun : Bool → Node → Node
-begun force n =
+unfoldable pub sectionBegun : Bool → Node → Node
+sectionBegun force n =
     let G = groupOf n (n .running) in
     timerFlagged (force || G .force) (G .revoked) (flagged true (G .pending) n)
 
 -- N: "atomic off"; "an accepted N turns [force] off", and a group is revoked "until its next accepted N"
-unfoldable pub ended : Node → Node
-ended n = flagged false (groupOf n (n .running) .pending) (timerFlagged false false n)
+unfoldable pub sectionEnded : Node → Node
+sectionEnded n = flagged false (groupOf n (n .running) .pending) (timerFlagged false false n)
 
 -- a trap that is reported where the running group is buffered as the operation begins
 unfoldable pub extending : ℕ → Node → Node → Effect
@@ -128,8 +128,8 @@ unfoldable pub serve : Build → Node → Request → Effect
 serve b n poll = valued (firstLength (line n (n .running))) n
 serve b n (peek i) = valued (firstWord (line n (n .running)) i) n
 serve b n dispose = extending disposeExtend n (disposed b n)
-serve b n (beginAtomic force) = valued 0 (begun force n)
-serve b n endAtomic = extending atomicityExtend n (ended n)
+serve b n (beginAtomic force) = valued 0 (sectionBegun force n)
+serve b n endAtomic = extending atomicityExtend n (sectionEnded n)
 serve b n (describe w) =
     let d = groupOf n (n .running) .descriptor ++ (w ∷ []) in
     valued (length d) (described d n)

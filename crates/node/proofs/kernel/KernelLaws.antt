@@ -41,7 +41,7 @@ module _ (n : Node) (g : ℕ) where
   schedule-same e = rw (eq-eqb g (n .running) e)
 
   -- another gets the processor, and the timer is 0
-  pub schedule-other : g ≢ n .running → act paper01 n (schedule g) ≡ effect (withTimer 0 (withRunning g n)) 0 0 0
+  pub schedule-other : g ≢ n .running → act paper01 n (schedule g) ≡ effect (withTimer 0 (withRunning g n)) 0 0
   unfolding act scheduled valued
   schedule-other d = rw (ne-eqb g (n .running) d)
 
@@ -79,7 +79,7 @@ module _ {n : Node} (v : Valid paper01 n) (k : ℕ) where
   unfolding act timed leftOver rest timedOut valued withTimer
   tick-timeout runs reached =
       ticks-timeout paper01 k n runs (v .timer-bound) reached
-      ∙ ap (effect (withTimer (rest (n .timer + k) n) (revoke (drain paper01 (n .queue) n))) 0 timeoutTrap) (zero-add (length (n .queue)))
+      ∙ ap (effect (withTimer (rest (n .timer + k) n) (revoke (drain paper01 (n .queue) n))) timeoutTrap) (zero-add (length (n .queue)))
 
 -- a timer that goes on makes nothing due
 pub counted-quiet : {n : Node} → Valid paper01 n → timerRuns n ≡ true → (t : ℕ) → Quiet paper01 (withTimer t n)

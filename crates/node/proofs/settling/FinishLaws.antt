@@ -42,11 +42,11 @@ resident-some {n = n} {r = r} s d becomes =
     }
 
 -- the report and the node
-pub finished : {m₁ m₂ : List ℕ} {n : Node} {r : List ℕ} (value trap moved up settled : ℕ) {rep : Report·rt} → Settled m₁ n r settled → Called m₂ (runnerResident paper01 (settle paper01 n .node)) r up
-    → rep ≡ reportOf (acceptedWith value trap up (moved + settled)) → Finished m₂ (effect n value trap moved) r rep
+pub finished : {m₁ m₂ : List ℕ} {n : Node} {r : List ℕ} (trap moved up settled : ℕ) {rep : Report·rt} → Settled m₁ n r settled → Called m₂ (runnerResident paper01 (settle paper01 n .node)) r up
+    → rep ≡ reportOf (acceptedWith 0 trap up (moved + settled)) → Finished m₂ (effect n trap moved) r rep
 unfolding finish
-finished {n = n} value trap moved up settled s c e =
+finished {n = n} trap moved up settled s c e =
     record {
-      report = e ∙ (λ i. reportOf (acceptedWith value trap (c .group i) (moved + s .count i)));
+      report = e ∙ (λ i. reportOf (acceptedWith 0 trap (c .group i) (moved + s .count i)));
       holds = c .holds;
     }

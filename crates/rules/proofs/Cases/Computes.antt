@@ -7,7 +7,7 @@ use Rattle.rules.specs.Frames.{ceilDiv, extended, takeFrame, withRoom, a
 use Rattle.rules.specs.Paging.{framesFrom, framesOf, placesOf, leaving, inFrame, traded, tradedIn, trading, more, standsFirst, spared, victim, sendOut, freed, exchange, bringIn, resident, nextPage, prepared, store, firstResident, runnerResident}
 use Rattle.rules.specs.Refusal.{queued, refuseArrive, refuseSchedule, refuseTick, refusePeek, refuseDispose, refuseEnd, refuseDescribe, refuseLaunch, refuseRequest, refusal}
 use Rattle.rules.specs.Settling.{oneMore, mayStay, pass, restTimer, settle, drain, calls, upcall, upcallGroup}
-use Rattle.rules.specs.Step.{valued, scheduled, timerFlagged, revoke, timedOut, counted, oneTick, ticks, firstLength, firstWord, withoutFirst, removed, flagged, disposed, begun, ended as endedSection, extending, described, launched, serve, act, finish, step}
+use Rattle.rules.specs.Step.{valued, scheduled, timerFlagged, revoke, timedOut, counted, oneTick, ticks, firstLength, firstWord, withoutFirst, removed, flagged, disposed, sectionBegun, sectionEnded, extending, described, launched, serve, act, finish, step}
 use Rattle.rules.specs.Valid.{frameList, frameNumber, idle, frameNumbers, frameOrder, isMessage, isPlace, isWaiting, isFrame, isBuffer, onlyAtomic, isGroup, pendingHasLine, runnerAtomic, headStays, isSwap, firstInFrame, runnerInFrame, standsOnce, nodeTests, isNode}
 use Rattle.rules.specs.Memory.{frameAddress, groupAddress, flagWord, messageWords, queueWords, lineWords, listWords, groupWords, placeWords, allFrames, frameWords, pagingWords, words, word, wordsAt, messageAt, messagesAt, placeAt, placesAt, framePlaces, frameAt, flagAt, listAt, bufferAt, groupAt, groupsFrom, pagingFrom, nodeAt}
 use Rattle.rules.specs.MemoryTest.{zeroAt, lengthInBounds, groupCounts, countsInBounds, groupFlags, flagsAreFlags, queueUnused, freeUnused, swapUnused, enteredUnused, groupUnused, messageUnused, unusedAreZero, memoryTests, replaced, powerOnMemory, firstPlace, bufferPart, queuePart, runnerPart}
@@ -23,7 +23,7 @@ unfolding
     framesFrom framesOf placesOf leaving inFrame traded tradedIn trading more standsFirst spared victim sendOut freed exchange bringIn resident nextPage prepared store firstResident runnerResident
     queued refuseArrive refuseSchedule refuseTick refusePeek refuseDispose refuseEnd refuseDescribe refuseLaunch refuseRequest refusal
     oneMore mayStay pass restTimer settle drain calls upcall upcallGroup
-    valued scheduled timerFlagged revoke timedOut counted oneTick ticks firstLength firstWord withoutFirst removed flagged disposed begun endedSection extending described launched serve act finish step
+    valued scheduled timerFlagged revoke timedOut counted oneTick ticks firstLength firstWord withoutFirst removed flagged disposed sectionBegun sectionEnded extending described launched serve act finish step
     frameList frameNumber idle frameNumbers frameOrder isMessage isPlace isWaiting isFrame isBuffer onlyAtomic isGroup pendingHasLine runnerAtomic headStays isSwap firstInFrame runnerInFrame standsOnce nodeTests isNode
     frameAddress groupAddress flagWord messageWords queueWords lineWords listWords groupWords placeWords allFrames frameWords pagingWords words word wordsAt messageAt messagesAt placeAt placesAt framePlaces frameAt flagAt listAt bufferAt groupAt groupsFrom pagingFrom nodeAt
     zeroAt lengthInBounds groupCounts countsInBounds groupFlags flagsAreFlags queueUnused freeUnused swapUnused enteredUnused groupUnused messageUnused unusedAreZero memoryTests replaced powerOnMemory firstPlace bufferPart queuePart runnerPart

@@ -11,7 +11,7 @@ use Rattle.rules.specs.Build.{Build}
 use Rattle.rules.specs.Node.{Node, groupOf, withGroup, withFlags, withDescriptor, line}
 use Rattle.rules.specs.Operation.{Request, poll, peek, dispose, beginAtomic, endAtomic, describe, launch, user, accepted}
 use Rattle.rules.specs.Refusal.{refuseRequest}
-use Rattle.rules.specs.Step.{valued, timerFlagged, removed, flagged, disposed, begun, ended, extending, described, launched, serve}
+use Rattle.rules.specs.Step.{valued, timerFlagged, removed, flagged, disposed, sectionBegun, sectionEnded, extending, described, launched, serve}
 use Rattle.rules.specs.Private.{PrivateLine, Answer, says, refuses, unchanged, withAtomic, withOwnDescriptor, own}
 use Rattle.rules.specs.Run.{disposedBy}
 use Rattle.rules.specs.Valid.{Valid}
@@ -99,7 +99,7 @@ disposed-other b n run g lo ne =
 
 -- the runner's requests are invisible to the others
 pub serve-other : (b : Build) (n : Node) → 1 ≤ n .running → (g : ℕ) → 1 ≤ g → g ≢ n .running → (q : Request) → view g (serve b n q .node) ≡ view g n
-unfolding serve valued extending launched described begun ended flagged timerFlagged withGroup
+unfolding serve valued extending launched described sectionBegun sectionEnded flagged timerFlagged withGroup
 serve-other b n run g lo ne poll = refl
 serve-other b n run g lo ne (peek i) = refl
 serve-other b n run g lo ne dispose = disposed-other b n run g lo ne

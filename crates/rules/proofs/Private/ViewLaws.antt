@@ -12,7 +12,7 @@ use Rattle.rules.specs.Lists.{isEmpty}
 use Rattle.rules.specs.Build.{Build, groupCount}
 use Rattle.rules.specs.Node.{withTimer, Group, Node, powerOn, groupOf, withGroup, withFlags, withTimerFlags, withDescriptor, waiting, inBuffer, inQueue, line}
 use Rattle.rules.specs.Settling.{settle, calls, upcall, upcallGroup}
-use Rattle.rules.specs.Step.{timerFlagged, flagged, begun, ended}
+use Rattle.rules.specs.Step.{timerFlagged, flagged, sectionBegun, sectionEnded}
 use Rattle.rules.specs.Private.{PrivateLine, atFirst, withAtomic, isCalled, called}
 use Rattle.rules.specs.Valid.{Valid}
 use Rattle.rules.specs.Sound.{Sound}
@@ -161,16 +161,16 @@ timer-flags-view g f r n =
 
 -- so B and N show in atomic alone
 pub begun-own : (n : Node) → length (n .groups) ≡ groupCount → (force : Bool) → 1 ≤ n .running → n .running ≤ groupCount
-    → view (n .running) (begun force n) ≡ withAtomic true (view (n .running) n)
-unfolding begun flagged withAtomic view
+    → view (n .running) (sectionBegun force n) ≡ withAtomic true (view (n .running) n)
+unfolding sectionBegun flagged withAtomic view
 begun-own n len force lo hi =
     let G = groupOf n (n .running) in
     timer-flags-view (n .running) (force || G .force) (G .revoked) (flagged true (G .pending) n)
     ∙ flags-own n len true (G .pending) (n .running) refl lo hi
 
 pub ended-own : (n : Node) → length (n .groups) ≡ groupCount → 1 ≤ n .running → n .running ≤ groupCount
-    → view (n .running) (ended n) ≡ withAtomic false (view (n .running) n)
-unfolding ended flagged withAtomic timerFlagged withGroup view
+    → view (n .running) (sectionEnded n) ≡ withAtomic false (view (n .running) n)
+unfolding sectionEnded flagged withAtomic timerFlagged withGroup view
 ended-own n len lo hi =
     let k = timerFlagged false false n in
     let p = groupOf n (n .running) .pending in

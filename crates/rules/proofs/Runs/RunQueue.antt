@@ -16,7 +16,7 @@ use Rattle.rules.specs.Operation.{Operation, arrive, schedule, tick, use
 use Rattle.rules.specs.Paging.{runnerResident}
 use Rattle.rules.specs.Refusal.{refusal, refuseRequest, queued}
 use Rattle.rules.specs.Settling.{settle, drain, upcall}
-use Rattle.rules.specs.Step.{Effect, Stepped, valued, scheduled, timerFlagged, revoke, timedOut, ticks, removed, flagged, disposed, begun, ended, extending, described, launched, serve, act, finish, step}
+use Rattle.rules.specs.Step.{Effect, Stepped, valued, scheduled, timerFlagged, revoke, timedOut, ticks, removed, flagged, disposed, sectionBegun, sectionEnded, extending, described, launched, serve, act, finish, step}
 use Rattle.rules.specs.Run.{Input, asked, Event, play, wasAccepted, arrivedBy, arrived, arrivals, disposedBy, leftBy, left}
 use Rattle.rules.specs.Valid.{Valid}
 use Rattle.rules.proofs.Steps.PagingLaws.{runner-repaged}
@@ -79,7 +79,7 @@ disposed-queue {b} {n} v some = rw (buffered-holds v some) (go (bufferHolds n (n
 -- an accepted operation
 act-queue : {b : Build} {n : Node} → Valid b n → (op : Operation) → refusal b n op ≡ 0
     → Flow (n .queue) (act b n op .node .queue) (arrivedBy op true) (taken op (act b n op))
-unfolding act arrivedBy refusal valued taken disposedBy serve extending launched described begun ended flagged timerFlagged withGroup queued withQueue refuseRequest
+unfolding act arrivedBy refusal valued taken disposedBy serve extending launched described sectionBegun sectionEnded flagged timerFlagged withGroup queued withQueue refuseRequest
 act-queue {b} {n} v (arrive h ws) e = record { same = refl; enough = omega arith }
 act-queue {b} {n} v (schedule h) e = flow-kept (scheduled-queue h n)
 act-queue {b} {n} v (tick k) e = ticked-queue v k

@@ -17,7 +17,7 @@ use Rattle.rules.specs.Operation.{Operation, arrive, schedule, tick, use
 use Rattle.rules.specs.Paging.{runnerResident}
 use Rattle.rules.specs.Refusal.{refusal, queued}
 use Rattle.rules.specs.Settling.{mayStay, pass, settle, drain, upcall}
-use Rattle.rules.specs.Step.{Effect, Stepped, valued, scheduled, timerFlagged, revoke, timedOut, ticks, flagged, disposed, begun, ended, extending, described, launched, serve, act, finish, step}
+use Rattle.rules.specs.Step.{Effect, Stepped, valued, scheduled, timerFlagged, revoke, timedOut, ticks, flagged, disposed, sectionBegun, sectionEnded, extending, described, launched, serve, act, finish, step}
 use Rattle.rules.specs.Run.{wasAccepted, disposedBy, leftBy, tickedBy}
 use Rattle.rules.specs.Valid.{Valid}
 use Rattle.rules.proofs.Steps.PagingLaws.{runner-repaged}
@@ -107,7 +107,7 @@ module _ {b : Build} {n : Node} (v : Valid b n) (some : isEmpty (n .queue) ≡ f
 
   act-timer : (op : Operation) → refusal b n op ≡ 0 → isEmpty (settle b (act b n op .node) .node .queue) ≡ false
       → tickedBy op true + n .timer ≤ b .timeout * (taken op (act b n op) + settle b (act b n op .node) .moved) + act b n op .node .timer
-  unfolding act tickedBy refusal valued taken disposedBy serve extending launched described begun ended flagged timerFlagged withGroup queued withQueue disposed withTimer
+  unfolding act tickedBy refusal valued taken disposedBy serve extending launched described sectionBegun sectionEnded flagged timerFlagged withGroup queued withQueue disposed withTimer
   act-timer (arrive h ws) z s = omega arith
   act-timer (schedule h) z s = schedule-timer h
   act-timer (tick k) z s = tick-timer k s

@@ -18,7 +18,7 @@ use Rattle.rules.specs.Operation.{Request, poll, peek, dispose, beginAto
 use Rattle.rules.specs.Operation.{Operation, arrive, schedule, tick, user, unknown, accepted, badGroup, badWords, queueFull, noFrames, nobodyRuns, noTrap, disposeExtend, atomicityExtend}
 use Rattle.rules.specs.Refusal.{queued, refuseArrive, refusePeek, refuseDispose, refuseEnd, refuseDescribe, refuseLaunch, refuseRequest, refusal}
 use Rattle.rules.specs.Settling.{settle, drain, calls, upcall}
-use Rattle.rules.specs.Step.{Effect, Stepped, valued, scheduled, timerFlagged, revoke, timedOut, ticks, firstLength, firstWord, withoutFirst, removed, flagged, disposed, begun, ended, extending, described, launched, serve, act, finish, step}
+use Rattle.rules.specs.Step.{Effect, Stepped, valued, scheduled, timerFlagged, revoke, timedOut, ticks, firstLength, firstWord, withoutFirst, removed, flagged, disposed, sectionBegun, sectionEnded, extending, described, launched, serve, act, finish, step}
 use Rattle.rules.specs.Run.{Input, asked, play, run}
 use Rattle.rules.specs.Sound.{Sound}
 use Rattle.rules.specs.Unseen.{SameButFrames, PagingUnseen}
@@ -348,16 +348,16 @@ module _ {b c : Build} (same : SameButFrames b c) {n k : Node} (v : Valid b n) (
       alike-timer (alike-flagged (removed-sound v low) (removed-sound w low′) alike-removed runs _ _ _ _ (mine .flags .atomic) refl) 0
 
   -- B
-  alike-begun : (force : Bool) → Alike (begun force n) (begun force k)
-  unfolding begun flagged withGroup
+  alike-begun : (force : Bool) → Alike (sectionBegun force n) (sectionBegun force k)
+  unfolding sectionBegun flagged withGroup
   alike-begun force =
       alike-timer-flagged (atomic-sound v low) (atomic-sound w (omega (arith, a .running)))
       (alike-flagged (valid-sound v) (valid-sound w) a low true _ true _ refl (mine .flags .pending)) low _ _ _ _
       (ap (λ (t : Bool). force || t) (mine .flags .force)) (mine .flags .revoked)
 
   -- N
-  alike-ended : Alike (ended n) (ended k)
-  unfolding ended timerFlagged withGroup
+  alike-ended : Alike (sectionEnded n) (sectionEnded k)
+  unfolding sectionEnded timerFlagged withGroup
   alike-ended =
       alike-flagged (unforced-sound v low) (unforced-sound w (omega (arith, a .running)))
       (alike-timer-flagged (valid-sound v) (valid-sound w) a low false false false false refl refl) low false _ false _ refl (mine .flags .pending)

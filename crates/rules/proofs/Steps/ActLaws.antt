@@ -18,7 +18,7 @@ use Rattle.rules.specs.Operation.{Request, poll, peek, dispose, beginAto
 use Rattle.rules.specs.Operation.{Operation, arrive, schedule, tick, user, unknown, nobodyRuns}
 use Rattle.rules.specs.Refusal.{queued, refuseArrive, refuseSchedule, refuseEnd, refuseDescribe, refuseRequest, refusal}
 use Rattle.rules.specs.Settling.{drain}
-use Rattle.rules.specs.Step.{valued, scheduled, timerFlagged, revoke, timedOut, ticks, removed, flagged, disposed, begun, ended, extending, described, launched, serve, act}
+use Rattle.rules.specs.Step.{valued, scheduled, timerFlagged, revoke, timedOut, ticks, removed, flagged, disposed, sectionBegun, sectionEnded, extending, described, launched, serve, act}
 use Rattle.rules.specs.Valid.{GoodMessage, GoodGroup, Valid}
 use Rattle.rules.specs.Sound.{Sound}
 use Rattle.rules.proofs.Steps.SoundLaws.{PendingLines, valid-sound}
@@ -187,8 +187,8 @@ module _ {b : Build} {n : Node} (y : Ready b n) (low : 1 ≤ n .running) where
       group-same n (n .running) (withTimerFlags f r (groupOf n (n .running))) (within (y .sound) (n .running) low (y .sound .running-bound))
 
 -- B
-begun-ready : {b : Build} {n : Node} → Ready b n → 1 ≤ n .running → (force : Bool) → Ready b (begun force n)
-unfolding begun flagged withGroup withFlags
+begun-ready : {b : Build} {n : Node} → Ready b n → 1 ≤ n .running → (force : Bool) → Ready b (sectionBegun force n)
+unfolding sectionBegun flagged withGroup withFlags
 begun-ready {b} {n} y low force =
     let G = groupOf n (n .running) in
     let on : groupOf (flagged true (G .pending) n) (n .running) .atomic ≡ true = ap (λ (K : Group). K .atomic) (flagged-runner y low true (G .pending)) in
@@ -196,8 +196,8 @@ begun-ready {b} {n} y low force =
     (force || G .force) (G .revoked) (λ e. on) (λ e. on)
 
 -- N, where the group is not pending
-ended-ready : {b : Build} {n : Node} → Ready b n → 1 ≤ n .running → groupOf n (n .running) .pending ≡ false → Ready b (ended n)
-unfolding ended timerFlagged withGroup withTimerFlags
+ended-ready : {b : Build} {n : Node} → Ready b n → 1 ≤ n .running → groupOf n (n .running) .pending ≡ false → Ready b (sectionEnded n)
+unfolding sectionEnded timerFlagged withGroup withTimerFlags
 ended-ready {b} {n} y low off =
     let k = timerFlagged false false n in
     let G : groupOf k (n .running) ≡ withTimerFlags false false (groupOf n (n .running)) = timer-flagged-runner y low false false in

@@ -10,7 +10,7 @@ use Rattle.rules.specs.Memory.{flagWord, word}
 use Rattle.rules.specs.Node.{Node, groupOf, withGroup}
 use Rattle.rules.specs.Operation.{beginAtomic}
 use Rattle.rules.specs.Refusal.{refuseRequest}
-use Rattle.rules.specs.Step.{begun, flagged, serve, timerFlagged, valued}
+use Rattle.rules.specs.Step.{sectionBegun, flagged, serve, timerFlagged, valued}
 use Rattle.memory.specs.Holds.{Holds, timerFlagging}
 use Rattle.memory.specs.declared.group.Group.{Group as Group·rt}
 use Rattle.memory.proofs.PieceLaws.{holds-pieces}
@@ -33,8 +33,8 @@ force-word c n r h run =
 
 -- atomic on, then force
 begun-there : (c : tie.After-set-timer-flags) (n : Node) (r : List ℕ) → Holds (c .before .before .before .before .before .before .before .before .before .before .before .args .m .now) n r → Running n
-    → Holds (c .set-timer-flags .last .0) (begun (c .before .before .before .before .before .before .before .before .before .before .before .args .force) n) r
-unfolding word flagWord begun flagged timerFlagged timerFlagging withGroup
+    → Holds (c .set-timer-flags .last .0) (sectionBegun (c .before .before .before .before .before .before .before .before .before .before .before .args .force) n) r
+unfolding word flagWord sectionBegun flagged timerFlagged timerFlagging withGroup
 begun-there c n r h run =
     let G = groupOf n (n .running) in
     let read = c .before .before .before .before .before .before .before .read .ensures in

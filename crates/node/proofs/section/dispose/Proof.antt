@@ -87,7 +87,7 @@ unfolding word serve extending
 returns-2 c n r h run =
     let ok = line-present _ (line-some (c .before .before .before .before .before .before .before .before .before) n r h run) in
     let t = c .before .before .before .before .before .before .before .remove .ensures n r h (with-line (c .before .before .before .before .before .before .before .before .before) n r h run) in
-    acting-unsettled run dispose (disposed paper01 n) (c .before .before .before .before .before .before .before .remove .result) 0 ok (λ i. effect (disposed paper01 n) 0 (sym (t .extended) i) 0)
+    acting-unsettled run dispose (disposed paper01 n) (c .before .before .before .before .before .before .before .remove .result) 0 ok (λ i. effect (disposed paper01 n) (sym (t .extended) i) 0)
     (request-sound run dispose ok) (omega arith) (gone (c .before .before .before) n r h run) (c .unsettled .ensures)
 
 pub dispose-spec : {M : Type 1} → statement M

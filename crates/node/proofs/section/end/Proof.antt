@@ -9,7 +9,7 @@ use borrow.Author.Needs.{needs}
 use Rattle.rules.specs.Memory.{flagWord, word}
 use Rattle.rules.specs.Node.{Node, buffered, groupOf, withGroup}
 use Rattle.rules.specs.Operation.{atomicityExtend, endAtomic, noTrap}
-use Rattle.rules.specs.Step.{ended, extending, flagged, serve, timerFlagged}
+use Rattle.rules.specs.Step.{sectionEnded, extending, flagged, serve, timerFlagged}
 use Rattle.memory.specs.Holds.{Holds, flagging}
 use Rattle.memory.specs.declared.group.Group.{Group as Group·rt}
 use Rattle.memory.proofs.PieceLaws.{holds-pieces}
@@ -30,8 +30,8 @@ trap-read c n r h run =
 
 -- pending is off; force and revoked go off, and then atomic
 ended-there : (c : tie.After-set-flags) (n : Node) (r : List ℕ) → Holds (c .before .before .before .before .before .before .before .before .before .before .before .before .before .before .before .args .m .now) n r → Running n
-    → (groupOf n (n .running) .pending ≡ false) × Holds (c .set-flags .last .0) (ended n) r
-unfolding word flagWord ended flagged flagging timerFlagged withGroup groupOf
+    → (groupOf n (n .running) .pending ≡ false) × Holds (c .set-flags .last .0) (sectionEnded n) r
+unfolding word flagWord sectionEnded flagged flagging timerFlagged withGroup groupOf
 ended-there c n r h run =
     let k = timerFlagged false false n in
     let read = ap (λ (x : Group·rt). x .pending) (c .before .before .before .before .before .before .before .before .before .before .before .read .ensures) ∙ runner-pending h (run .some) (run .valid .running-bound) in
@@ -80,7 +80,7 @@ unfolding serve extending
 returns-2 c n r h run =
     let t = ended-there (c .before .before .before) n r h run in
     let ok = section-ends _ (t .0) in
-    acting-unsettled run endAtomic (ended n) (c .before .before .before .before .before .before .before .before .before .if2 .trap) 0 ok (λ i. effect (ended n) 0 (sym (trap-read (c .before .before .before .before .before .before .before .before .before) n r h run) i) 0)
+    acting-unsettled run endAtomic (sectionEnded n) (c .before .before .before .before .before .before .before .before .before .if2 .trap) 0 ok (λ i. effect (sectionEnded n) (sym (trap-read (c .before .before .before .before .before .before .before .before .before) n r h run) i) 0)
     (request-sound run endAtomic ok) (omega arith) (t .1) (c .unsettled .ensures)
 
 pub end-spec : {M : Type 1} → statement M

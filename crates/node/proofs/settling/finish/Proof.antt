@@ -34,7 +34,7 @@ returns c n r h s =
     let a = c .before .before .before .before .before .before .before .before .before .before .before .before .before .before .args in
     let d = c .before .before .before .before .before .before .before .before .before .before .before .settle .ensures n r h s in
     let k = settled-resident s d (c .before .before .before .before .before .before .before .runner-resident .ensures) in
-    finished (a .value) (a .trap) (a .moved) _ _ d (c .before .before .before .upcall .ensures _ r k (settled-settles s)) (c .accepted .ensures)
+    finished (a .trap) (a .moved) _ _ d (c .before .before .before .upcall .ensures _ r k (settled-settles s)) (c .accepted .ensures)
 
 pub finish-spec : {M : Type 1} → statement M
 finish-spec =

@@ -2,14 +2,12 @@
 -- a node to words and one back. docs/MEMORY.md is its prose. Assumes nothing.
 use Prim.Native.Nat.{ℕ, zero, suc, _+_, _-_, _*_}
 use mathlib.Core.Bool.{Bool, true, false}
-use mathlib.Core.List.{List, [], _∷_, _++_, map}
+use mathlib.Core.List.{List, [], _∷_, _++_}
 use lib.Dec.{eqb}
-use lib.ListN.{length, take, getD}
+use lib.ListN.{length, take, drop, getD}
 use Rattle.rules.specs.Lists.{concatMap, upFrom, pad}
-use Rattle.rules.specs.Build.{paper01, pageCount, groupCount, wordLimit}
-use Rattle.rules.specs.Node.{Message, Place, Frame, Buffer, Group, Paging, Node}
-use Rattle.rules.specs.Paging.{framesOf, placesOf}
-use Rattle.rules.specs.Valid.{frameNumber, idle}
+use Rattle.rules.specs.Build.{Build, paper01, pageCount, groupCount, wordLimit}
+use Rattle.rules.specs.Node.{Message, Place, Buffer, Group, Paging, Node, emptyPage}
 
 -- the running group
 abbrev pub runningAt : ℕ
@@ -179,13 +177,32 @@ groupWords G =
 unfoldable pub placeWords : Place → List ℕ
 placeWords p = p .len ∷ p .words
 
--- all frames and swap pages, those that no buffer holds first
-unfoldable pub allFrames : Node → List Frame
-allFrames n = idle n ++ concatMap (framesOf paper01) (n .groups)
+-- a page of a buffer: the number of the frame or swap page that it is in, and its places
+pub record Page : Type 0 where
+  pub number : ℕ
+  pub places : List Place
+
+-- the pages of a buffer, each with its share of the places
+unfoldable pub pagesFrom : Build → List ℕ → List Place → List Page
+pagesFrom b [] ps = []
+pagesFrom b (f ∷ fs) ps = record { number = f; places = take (b .perFrame) ps } ∷ pagesFrom b fs (drop (b .perFrame) ps)
+
+-- the pages of a group
+unfoldable pub pagesOf : Build → Group → List Page
+pagesOf b G = pagesFrom b (G .buffer .frames) (G .buffer .places)
+
+-- the places of the frame or swap page with number f: those of the page that is in it; "left by its page" it is wiped
+unfoldable pub placesOf : Build → ℕ → List Page → List Place
+placesOf b f [] = emptyPage b
+placesOf b f (x ∷ xs) = elim (eqb (x .number) f) [ true ↦ x .places | false ↦ placesOf b f xs ]
+
+-- the pages of all buffers
+unfoldable pub allPages : Node → List Page
+allPages n = concatMap (pagesOf paper01) (n .groups)
 
 -- the words of the frame or swap page with number f
-unfoldable pub frameWords : List Frame → ℕ → List ℕ
-frameWords xs f = concatMap placeWords (placesOf f xs)
+unfoldable pub frameWords : List Page → ℕ → List ℕ
+frameWords xs f = concatMap placeWords (placesOf paper01 f xs)
 
 -- swap space and the order of entry
 unfoldable pub pagingWords : Paging → List ℕ
@@ -194,7 +211,7 @@ pagingWords s =
     ∷ length (s .entered)
     ∷ s .out
     ∷ s .brought
-    ∷ pad (paper01 .swap) (map frameNumber (s .swap)) ++ lineWords (s .entered)
+    ∷ pad (paper01 .swap) (s .swap) ++ lineWords (s .entered)
 
 -- the node's words
 unfoldable pub words : Node → List ℕ
@@ -204,9 +221,9 @@ words n =
     ∷ length (n .queue)
     ∷ length (n .free)
     ∷ queueWords (n .queue)
-    ++ (lineWords (map frameNumber (n .free))
+    ++ (lineWords (n .free)
     ++ (concatMap groupWords (n .groups)
-    ++ (concatMap (frameWords (allFrames n)) (upFrom 0 (pageCount paper01)) ++ pagingWords (n .paging))))
+    ++ (concatMap (frameWords (allPages n)) (upFrom 0 (pageCount paper01)) ++ pagingWords (n .paging))))
 
 -- From words to a node.
 
@@ -240,10 +257,6 @@ placesAt m a (suc k) = placeAt m a ∷ placesAt m (a + placeStride) k
 -- the places of the frame or swap page with number f
 unfoldable pub framePlaces : List ℕ → ℕ → List Place
 framePlaces m f = placesAt m (frameAddress f) (paper01 .perFrame)
-
--- it, with its contents
-unfoldable pub frameAt : List ℕ → ℕ → Frame
-frameAt m f = record { number = f; places = framePlaces m f }
 
 -- the flag at address a
 unfoldable pub flagAt : List ℕ → ℕ → Bool
@@ -286,7 +299,7 @@ groupsFrom m a (suc k) = groupAt m a ∷ groupsFrom m (a + groupStride) k
 unfoldable pub pagingFrom : List ℕ → Paging
 pagingFrom m =
     record {
-      swap = map (frameAt m) (wordsAt m swapAt (word m swapCountAt));
+      swap = wordsAt m swapAt (word m swapCountAt);
       entered = wordsAt m enteredAt (word m enteredCountAt);
       out = word m outAt;
       brought = word m broughtAt;
@@ -299,7 +312,7 @@ nodeAt m =
       running = word m runningAt;
       timer = word m timerAt;
       queue = messagesAt m queueAt (word m queuedAt);
-      free = map (frameAt m) (wordsAt m freeAt (word m freeCountAt));
+      free = wordsAt m freeAt (word m freeCountAt);
       paging = pagingFrom m;
       groups = groupsFrom m groupsAt groupCount;
     }

@@ -8,9 +8,9 @@ use Rattle.rules.specs.Lists.{all, passes, isEmpty, upFrom}
 use Rattle.rules.specs.Build.{paper01, pageCount, groupCount, wordLimit}
 use Rattle.rules.specs.Node.{Node, powerOn, bufferHolds, line}
 use Rattle.rules.specs.Operation.{Operation, Report, allZero, notNode, refused}
-use Rattle.rules.specs.Valid.{isNode}
+use Rattle.rules.specs.Valid.{idle, isNode}
 use Rattle.rules.specs.Step.{step}
-use Rattle.rules.specs.Memory.{queuedAt, freeCountAt, queueAt, queueStride, freeAt, atomicOffset, pendingOffset, forceOffset, revokedOffset, usedOffset, heldOffset, describedOffset, descriptorOffset, listOffset, placeStride, swapCountAt, enteredCountAt, outAt, broughtAt, swapAt, enteredAt, size}
+use Rattle.rules.specs.Memory.{queuedAt, freeCountAt, queueAt, queueStride, freeAt, atomicOffset, pendingOffset, forceOffset, revokedOffset, usedOffset, heldOffset, describedOffset, descriptorOffset, listOffset, placeStride, frameStride, swapCountAt, enteredCountAt, outAt, broughtAt, swapAt, enteredAt, size}
 use Rattle.rules.specs.Memory.{words, word, wordsAt, frameAddress, groupAddress, nodeAt}
 
 -- the k words from address a on are 0
@@ -92,6 +92,15 @@ unusedAreZero m =
     && (swapUnused m
     && (enteredUnused m && (all (groupUnused m) (upFrom 1 groupCount) && all (messageUnused m) (upFrom 0 (word m queuedAt))))))
 
+-- "Memory is no node (1) if a frame or swap page has a word or kept length other than 0 that is no part of a waiting message.": one that no buffer
+-- holds is 0; of a buffer's places it is asked of the node
+unfoldable pub frameWiped : List ℕ → ℕ → Bool
+frameWiped m f = zeroAt m (frameAddress f) frameStride
+
+-- those of the free line and of the swap line
+unfoldable pub idleAreWiped : List ℕ → Bool
+idleAreWiped m = all (frameWiped m) (idle (nodeAt m))
+
 -- the memory test: the size, the clauses on words, then those on the node that the words hold
 unfoldable pub memoryTests : List (List ℕ → Bool)
 memoryTests =
@@ -99,6 +108,7 @@ memoryTests =
     ∷ countsInBounds
     ∷ flagsAreFlags
     ∷ unusedAreZero
+    ∷ idleAreWiped
     ∷ (λ m. isNode paper01 (nodeAt m))
     ∷ []
 

@@ -1,7 +1,7 @@
--- The node as records and lists. A frame carries its contents: taking one moves them from the free line into a buffer, freeing one moves
--- them back, so no two parts of a node name the same storage. Swap pages are numbered behind the frames, so that one number says where a
--- page is. Assumes nothing.
-use Prim.Native.Nat.{ℕ, pred}
+-- The node as records and lists. A buffer carries the contents of its pages, and no two parts of a node name the same storage; the frames and
+-- swap pages that no buffer holds are wiped, so their numbers say all of them. Swap pages are numbered behind the frames, so that one number
+-- says where a page is. Assumes nothing.
+use Prim.Native.Nat.{ℕ, pred, _+_}
 use mathlib.Core.Bool.{Bool, false, not, _&&_, _||_}
 use mathlib.Core.List.{List, [], _++_, map}
 use lib.Dec.{ltb, eqb}
@@ -14,19 +14,14 @@ pub record Message : Type 0 where
   pub group : ℕ
   pub words : List ℕ
 
--- a place of a frame: the length kept with the message last written there, and its eight words, waiting or used up
+-- a place of a frame or swap page: the length kept with the message that waits there, and its eight words; all 0 where none waits
 pub record Place : Type 0 where
   pub len : ℕ
   pub words : List ℕ
 
--- a page frame, or a swap page, which has places as a frame has: its number and its places. Frame f has number f, and swap page s the number of
--- frames and s more
-pub record Frame : Type 0 where
-  pub number : ℕ
-  pub places : List Place
-
 -- "Each group has a virtual buffer: a list of frames, filled in order. Let n be its messages, h the used-up places before the first". A page of
--- it may be in a swap page; where its pages are changes nothing of its places
+-- it may be in a swap page; where its pages are changes nothing of its places. Frame f has number f, and swap page s the number of frames and s
+-- more
 pub record Buffer : Type 0 where
   -- h
   pub used : ℕ
@@ -50,19 +45,20 @@ pub record Group : Type 0 where
 
 -- swap space, "the order of entry into frames" and the "pages sent out and brought in so far"
 pub record Paging : Type 0 where
-  -- the free swap pages: "swap pages are taken and freed in a line, as frames are"
-  pub swap : List Frame
+  -- the numbers of the free swap pages: "swap pages are taken and freed in a line, as frames are"
+  pub swap : List ℕ
   -- the numbers of the frames in use, the one whose page entered first first
   pub entered : List ℕ
   pub out : ℕ
   pub brought : ℕ
 
--- the running group is 0 for nobody; the queue stands in order of arrival; "Free frames stand in a line"; group g is the g-th of the groups
+-- the running group is 0 for nobody; the queue stands in order of arrival; "Free frames stand in a line", by their numbers; group g is the g-th of
+-- the groups
 pub record Node : Type 0 where
   pub running : ℕ
   pub timer : ℕ
   pub queue : List Message
-  pub free : List Frame
+  pub free : List ℕ
   pub paging : Paging
   pub groups : List Group
 
@@ -70,9 +66,9 @@ pub record Node : Type 0 where
 abbrev pub emptyPlace : Place
 emptyPlace = record { len = 0; words = pad wordLimit [] }
 
--- a frame of empty places
-unfoldable pub emptyFrame : Build → ℕ → Frame
-emptyFrame b f = record { number = f; places = replicate (b .perFrame) emptyPlace }
+-- a page of them: a frame or swap page that no buffer holds is wiped
+unfoldable pub emptyPage : Build → List Place
+emptyPage b = replicate (b .perFrame) emptyPlace
 
 -- a buffer with no message and no frame
 abbrev pub emptyBuffer : Buffer
@@ -84,7 +80,7 @@ emptyGroup = record { atomic = false; pending = false; force = false; revoked = 
 
 -- no page is in a frame, none was sent out or brought in, and every swap page is free, the first in front
 unfoldable pub emptyPaging : Build → Paging
-emptyPaging b = record { swap = map (emptyFrame b) (upFrom (b .frames) (b .swap)); entered = []; out = 0; brought = 0 }
+emptyPaging b = record { swap = upFrom (b .frames) (b .swap); entered = []; out = 0; brought = 0 }
 
 -- "At power-on nobody runs"; "Free frames stand in a line, at power-on 0 to 31."
 unfoldable pub powerOn : Build → Node
@@ -93,7 +89,7 @@ powerOn b =
       running = 0;
       timer = 0;
       queue = [];
-      free = map (emptyFrame b) (upFrom 0 (b .frames));
+      free = upFrom 0 (b .frames);
       paging = emptyPaging b;
       groups = replicate groupCount emptyGroup;
     }
@@ -115,7 +111,7 @@ unfoldable pub withQueue : List Message → Node → Node
 withQueue q n = record { running = n .running; timer = n .timer; queue = q; free = n .free; paging = n .paging; groups = n .groups }
 
 -- with this free line
-unfoldable pub withFree : List Frame → Node → Node
+unfoldable pub withFree : List ℕ → Node → Node
 withFree fs n = record { running = n .running; timer = n .timer; queue = n .queue; free = fs; paging = n .paging; groups = n .groups }
 
 -- with this paging
@@ -190,6 +186,10 @@ messageOf g p = record { group = g; words = take (p .len) (p .words) }
 -- the places of a buffer's waiting messages: n of them behind the h used-up ones
 unfoldable pub waiting : Buffer → List Place
 waiting v = take (v .count) (drop (v .used) (v .places))
+
+-- its other places: the used-up ones, and those behind the last message
+unfoldable pub unused : Buffer → List Place
+unused v = take (v .used) (v .places) ++ drop (v .used + v .count) (v .places)
 
 -- the messages of group g in its buffer
 unfoldable pub inBuffer : Node → ℕ → List Message

@@ -1,32 +1,15 @@
 -- Swap space: pages sent out, brought in and exchanged, as order 1 says. Paging changes where a page is and nothing in it, so a buffer's places
--- stay as they are and only the numbers in the lists of pages change. Assumes nothing.
+-- stay as they are and only the numbers in the lists of pages change. What is left by its page joins a line, and is wiped as all that stand
+-- there. Assumes nothing.
 use Prim.Native.Nat.{ℕ, suc, _+_, _/_}
-use mathlib.Core.Bool.{Bool, true, false, cond, not, _&&_}
+use mathlib.Core.Bool.{Bool, false, cond, not, _&&_}
 use mathlib.Core.List.{List, [], _∷_, _++_, map}
 use lib.Dec.{ltb, eqb}
-use lib.ListN.{length, take, drop, getD}
-use Rattle.rules.specs.Lists.{filter, concatMap}
+use lib.ListN.{length, getD}
+use Rattle.rules.specs.Lists.{filter}
 use Rattle.rules.specs.Build.{Build}
-use Rattle.rules.specs.Node.{Message, Place, Frame, Buffer, Group, Node, groupOf, withFree, withPaging, withGroups, withBuffer}
+use Rattle.rules.specs.Node.{Message, Buffer, Group, Node, groupOf, withFree, withPaging, withGroups, withBuffer}
 use Rattle.rules.specs.Frames.{without, put}
-
--- the pages of a buffer, each with its share of the places
-unfoldable pub framesFrom : Build → List ℕ → List Place → List Frame
-framesFrom b [] ps = []
-framesFrom b (f ∷ fs) ps = record { number = f; places = take (b .perFrame) ps } ∷ framesFrom b fs (drop (b .perFrame) ps)
-
--- the pages of a group
-unfoldable pub framesOf : Build → Group → List Frame
-framesOf b G = framesFrom b (G .buffer .frames) (G .buffer .places)
-
--- the places of the page with number p
-unfoldable pub placesOf : ℕ → List Frame → List Place
-placesOf p [] = []
-placesOf p (x ∷ xs) = elim (eqb (x .number) p) [ true ↦ x .places | false ↦ placesOf p xs ]
-
--- the groups' page with number p, as a frame or swap page that keeps its words: "Pages go whole"
-unfoldable pub leaving : Build → ℕ → Node → Frame
-leaving b p n = record { number = p; places = placesOf p (concatMap (framesOf b) (n .groups)) }
 
 -- a page is in a frame: the frames are numbered first
 unfoldable pub inFrame : Build → ℕ → Bool
@@ -68,12 +51,12 @@ spared n p = not (eqb (n .running) 0) && standsFirst p (groupOf n (n .running) .
 unfoldable pub victim : Node → ℕ
 victim n = getD (filter (λ f. not (spared n f)) (n .paging .entered)) 0 0
 
--- the page in frame f goes to the front of the swap line, and its frame joins the free line
-unfoldable pub sendOut : Build → ℕ → List Frame → Node → Node
-sendOut b f [] n = n
-sendOut b f (s ∷ ss) n =
-    trading f (s .number)
-    (withFree (n .free ++ (leaving b f n ∷ []))
+-- the page in frame f goes whole to the front of the swap line, and its frame joins the free line
+unfoldable pub sendOut : ℕ → List ℕ → Node → Node
+sendOut f [] n = n
+sendOut f (s ∷ ss) n =
+    trading f s
+    (withFree (n .free ++ (f ∷ []))
     (withPaging
     (record {
       swap = ss;
@@ -84,9 +67,9 @@ sendOut b f (s ∷ ss) n =
     n))
 
 -- "A page needed when no frame is free sends out" the one so chosen
-unfoldable pub freed : Build → List Frame → Node → Node
-freed b [] n = sendOut b (victim n) (n .paging .swap) n
-freed b (f ∷ fs) n = n
+unfoldable pub freed : List ℕ → Node → Node
+freed [] n = sendOut (victim n) (n .paging .swap) n
+freed (f ∷ fs) n = n
 
 -- "exchanged with the one so chosen if no frame is free": "in an exchange the two trade places"
 unfoldable pub exchange : ℕ → ℕ → Node → Node
@@ -102,15 +85,15 @@ exchange f p n =
     n)
 
 -- the page in swap page p is brought into the front of the free line, and p joins the swap line; or it is exchanged
-unfoldable pub bringIn : Build → ℕ → List Frame → Node → Node
-bringIn b p [] n = exchange (victim n) p n
-bringIn b p (f ∷ fs) n =
-    trading (f .number) p
+unfoldable pub bringIn : ℕ → List ℕ → Node → Node
+bringIn p [] n = exchange (victim n) p n
+bringIn p (f ∷ fs) n =
+    trading f p
     (withFree fs
     (withPaging
     (record {
-      swap = n .paging .swap ++ (leaving b p n ∷ []);
-      entered = n .paging .entered ++ (f .number ∷ []);
+      swap = n .paging .swap ++ (p ∷ []);
+      entered = n .paging .entered ++ (f ∷ []);
       out = n .paging .out;
       brought = more (n .paging .brought);
     })
@@ -118,7 +101,7 @@ bringIn b p (f ∷ fs) n =
 
 -- page p is in a frame, brought in if it was in swap
 unfoldable pub resident : Build → ℕ → Node → Node
-resident b p n = cond (inFrame b p) n (bringIn b p (n .free) n)
+resident b p n = cond (inFrame b p) n (bringIn p (n .free) n)
 
 -- the number of the page that the next message of a buffer is written to
 unfoldable pub nextPage : Build → Buffer → ℕ
@@ -128,11 +111,11 @@ nextPage b v = getD (v .frames) ((v .used + v .count) / b .perFrame) 0
 unfoldable pub prepared : Build → ℕ → Node → Node
 prepared b g n =
     let v = groupOf n g .buffer in
-    cond (ltb (v .used + v .count) (length (v .places))) (resident b (nextPage b v) n) (freed b (n .free) n)
+    cond (ltb (v .used + v .count) (length (v .places))) (resident b (nextPage b v) n) (freed (n .free) n)
 
 -- the message "moves to the end of its group's buffer"
 unfoldable pub store : Build → Message → Node → Node
-store b m n = put m (prepared b (m .group) n)
+store b m n = put b m (prepared b (m .group) n)
 
 -- the first page of a list is in a frame
 unfoldable pub firstResident : Build → List ℕ → Node → Node

@@ -7,7 +7,7 @@ use Rattle.rules.specs.Lists.{Every, concatMap, countOf}
 use Rattle.rules.specs.Build.{Build, Sensible, paper01, pageCount, groupCount, wordLimit}
 use Rattle.rules.specs.Node.{Group, Node}
 use Rattle.rules.specs.Frames.{pledges}
-use Rattle.rules.specs.Valid.{GoodMessage, GoodPlace, GoodFrame, GoodGroup, IsSwap, frameList, frameNumbers, frameOrder}
+use Rattle.rules.specs.Valid.{GoodMessage, GoodPlace, GoodGroup, IsSwap, frameList, frameNumbers, frameOrder}
 
 -- the bounds, the parts and the frames of a node
 pub record Sound (b : Build) (n : Node) : Type 0 where
@@ -18,8 +18,6 @@ pub record Sound (b : Build) (n : Node) : Type 0 where
   pub queue-good : Every GoodMessage (n .queue)
   pub group-count : length (n .groups) ≡ groupCount
   pub groups-good : Every (GoodGroup b) (n .groups)
-  pub free-good : Every (GoodFrame b) (n .free)
-  pub swap-good : Every (GoodFrame b) (n .paging .swap)
   pub frames-once : (f : ℕ) → f < pageCount b → countOf f (frameNumbers n) ≡ 1
   pub frames-all : length (frameNumbers n) ≡ pageCount b
   pub swap-numbers : Every (IsSwap b) (n .paging .swap)
@@ -46,8 +44,6 @@ pub record Mapped (n : Node) : Type 0 where
   pub queue-good : Every GoodMessage (n .queue)
   pub group-count : length (n .groups) ≡ groupCount
   pub groups-whole : Every WholeGroup (n .groups)
-  pub free-good : Every (GoodFrame paper01) (n .free)
-  pub swap-good : Every (GoodFrame paper01) (n .paging .swap)
   pub frames-once : (f : ℕ) → f < pageCount paper01 → countOf f (frameNumbers n) ≡ 1
   pub frames-all : length (frameNumbers n) ≡ pageCount paper01
   pub free-short : length (n .free) ≤ paper01 .frames

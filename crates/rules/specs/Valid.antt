@@ -3,12 +3,12 @@
 use Prim.Native.Nat.{ℕ, _+_, _*_, _≤_, _<_}
 use mathlib.Core.Path.{_≡_}
 use mathlib.Core.Bool.{Bool, true, false, not, _&&_, _||_}
-use mathlib.Core.List.{List, [], _∷_, _++_, map}
+use mathlib.Core.List.{List, [], _∷_, _++_}
 use lib.Dec.{eqb, leb, ltb}
 use lib.ListN.{length, drop}
 use Rattle.rules.specs.Lists.{Every, all, passes, isEmpty, concatMap, countOf, upFrom}
 use Rattle.rules.specs.Build.{Build, Sensible, pageCount, groupCount, wordLimit}
-use Rattle.rules.specs.Node.{Message, Place, Frame, Buffer, Group, Node, groupOf, forced, waiting, line}
+use Rattle.rules.specs.Node.{Message, Place, Buffer, Group, Node, groupOf, forced, waiting, unused, line}
 use Rattle.rules.specs.Frames.{ceilDiv, pledges}
 use Rattle.rules.specs.Paging.{inFrame}
 use Rattle.rules.specs.Settling.{mayStay}
@@ -17,21 +17,17 @@ use Rattle.rules.specs.Settling.{mayStay}
 unfoldable pub frameList : Group → List ℕ
 frameList G = G .buffer .frames
 
--- a frame's number
-unfoldable pub frameNumber : Frame → ℕ
-frameNumber f = f .number
-
 -- the frames and swap pages that no buffer holds: the free line, then the swap line
-unfoldable pub idle : Node → List Frame
+unfoldable pub idle : Node → List ℕ
 idle n = n .free ++ n .paging .swap
 
 -- the numbers of all frames and swap pages: those of the two lines, then each group's list
 unfoldable pub frameNumbers : Node → List ℕ
-frameNumbers n = map frameNumber (idle n) ++ concatMap frameList (n .groups)
+frameNumbers n = idle n ++ concatMap frameList (n .groups)
 
 -- the numbers of the frames, the free ones and then those in use in the order of entry
 unfoldable pub frameOrder : Node → List ℕ
-frameOrder n = map frameNumber (n .free) ++ n .paging .entered
+frameOrder n = n .free ++ n .paging .entered
 
 -- a queued message: "A message has a group and 1 to 8 words", "Groups are 1 to 8."
 pub record GoodMessage (m : Message) : Type 0 where
@@ -54,10 +50,11 @@ pub record GoodWaiting (p : Place) : Type 0 where
   pub few-words : p .len ≤ wordLimit
   pub rest-zero : Every Zero (drop (p .len) (p .words))
 
--- a free frame or swap page has all its places
-pub record GoodFrame (b : Build) (f : Frame) : Type 0 where
-  pub whole : length (f .places) ≡ b .perFrame
-  pub places : Every GoodPlace (f .places)
+-- a place where none waits is 0: "Memory is no node (1) if a frame or swap page has a word or kept length other than 0 that is no part of a
+-- waiting message."
+pub record Wiped (p : Place) : Type 0 where
+  pub len-zero : p .len ≡ 0
+  pub words-zero : Every Zero (p .words)
 
 -- a buffer: "h the used-up places before the first (0 to 7; 0 if n is 0)"; "It holds (h + n) / 8 frames, rounded up."
 pub record GoodBuffer (b : Build) (v : Buffer) : Type 0 where
@@ -67,6 +64,7 @@ pub record GoodBuffer (b : Build) (v : Buffer) : Type 0 where
   pub whole : length (v .places) ≡ length (v .frames) * b .perFrame
   pub places : Every GoodPlace (v .places)
   pub waiting-good : Every GoodWaiting (waiting v)
+  pub unused-wiped : Every Wiped (unused v)
 
 -- a group: its buffer, "a descriptor of 0 to 8 words", "pending only with atomic", and "force and revoked stand only with atomic"
 pub record GoodGroup (b : Build) (G : Group) : Type 0 where
@@ -77,8 +75,8 @@ pub record GoodGroup (b : Build) (G : Group) : Type 0 where
   pub revoked-atomic : G .revoked ≡ true → G .atomic ≡ true
 
 -- a swap page is numbered behind the frames
-abbrev pub IsSwap : Build → Frame → Type 0
-IsSwap b s = b .frames ≤ s .number
+abbrev pub IsSwap : Build → ℕ → Type 0
+IsSwap b s = b .frames ≤ s
 
 -- the first page of a list is in a frame
 abbrev pub FirstInFrame : Build → List ℕ → Type 0
@@ -96,8 +94,6 @@ pub record Valid (b : Build) (n : Node) : Type 0 where
   pub queue-good : Every GoodMessage (n .queue)
   pub group-count : length (n .groups) ≡ groupCount
   pub groups-good : Every (GoodGroup b) (n .groups)
-  pub free-good : Every (GoodFrame b) (n .free)
-  pub swap-good : Every (GoodFrame b) (n .paging .swap)
   -- "each frame stands once, in the free line or in one list"; "swap pages and their line meet what 01 asks of frames and the free line"
   pub frames-once : (f : ℕ) → f < pageCount b → countOf f (frameNumbers n) ≡ 1
   pub frames-all : length (frameNumbers n) ≡ pageCount b
@@ -132,9 +128,9 @@ isPlace p = eqb (length (p .words)) wordLimit
 unfoldable pub isWaiting : Place → Bool
 isWaiting p = leb 1 (p .len) && (leb (p .len) wordLimit && all (eqb 0) (drop (p .len) (p .words)))
 
--- GoodFrame
-unfoldable pub isFrame : Build → Frame → Bool
-isFrame b f = eqb (length (f .places)) (b .perFrame) && all isPlace (f .places)
+-- Wiped
+unfoldable pub isWiped : Place → Bool
+isWiped p = eqb (p .len) 0 && all (eqb 0) (p .words)
 
 -- GoodBuffer
 unfoldable pub isBuffer : Build → Buffer → Bool
@@ -142,7 +138,8 @@ isBuffer b v =
     ltb (v .used) (b .perFrame)
     && ((not (eqb (v .count) 0) || eqb (v .used) 0)
     && (eqb (length (v .frames)) (ceilDiv (v .used + v .count) (b .perFrame))
-    && (eqb (length (v .places)) (length (v .frames) * b .perFrame) && (all isPlace (v .places) && all isWaiting (waiting v)))))
+    && (eqb (length (v .places)) (length (v .frames) * b .perFrame)
+    && (all isPlace (v .places) && (all isWaiting (waiting v) && all isWiped (unused v))))))
 
 -- "pending only with atomic"; "force and revoked stand only with atomic"
 unfoldable pub onlyAtomic : Group → Bool
@@ -166,8 +163,8 @@ headStays [] n = eqb (n .timer) 0 || forced n
 headStays (m ∷ q) n = mayStay n m
 
 -- IsSwap
-unfoldable pub isSwap : Build → Frame → Bool
-isSwap b s = leb (b .frames) (s .number)
+unfoldable pub isSwap : Build → ℕ → Bool
+isSwap b s = leb (b .frames) s
 
 -- FirstInFrame
 unfoldable pub firstInFrame : Build → List ℕ → Bool
@@ -191,8 +188,6 @@ nodeTests b =
     ∷ (λ n. all isMessage (n .queue))
     ∷ (λ n. eqb (length (n .groups)) groupCount)
     ∷ (λ n. all (isGroup b) (n .groups))
-    ∷ (λ n. all (isFrame b) (n .free))
-    ∷ (λ n. all (isFrame b) (n .paging .swap))
     ∷ (λ n. all (standsOnce (frameNumbers n)) (upFrom 0 (pageCount b)))
     ∷ (λ n. eqb (length (frameNumbers n)) (pageCount b))
     ∷ (λ n. all (isSwap b) (n .paging .swap))

@@ -2,15 +2,14 @@
 use Prim.Native.Nat.{ℕ, _+_, _≤_}
 use mathlib.Core.Path.{_≡_, refl, _∙_}
 use mathlib.Core.Bool.{true, false}
-use mathlib.Core.List.{map, map-append}
 use native.Mathlib.Omega.{arith}
-use lib.ListN.{length, length-append, length-map}
+use lib.ListN.{length, length-append}
 use Rattle.rules.specs.Lists.{isEmpty, concatMap}
 use Rattle.rules.specs.Build.{Build, Sensible, paper01, groupCount}
 use Rattle.rules.specs.Node.{Group, Node, groupOf, line}
-use Rattle.rules.specs.Valid.{GoodGroup, IsSwap, Valid, frameNumber, frameList, idle, frameNumbers, frameOrder}
+use Rattle.rules.specs.Valid.{GoodGroup, Valid, frameList, idle, frameNumbers, frameOrder}
 use Rattle.rules.specs.Sound.{Sound, WholeGroup, Mapped}
-use Rattle.rules.proofs.Steps.EveryLaws.{every-mono, every-mapped}
+use Rattle.rules.proofs.Steps.EveryLaws.{every-mono}
 use Rattle.rules.proofs.Steps.ListLaws.{below-once, below-length, below-append, below-none}
 
 -- paper 01's build makes sense
@@ -55,8 +54,6 @@ valid-sound v =
       queue-good = v .queue-good;
       group-count = v .group-count;
       groups-good = v .groups-good;
-      free-good = v .free-good;
-      swap-good = v .swap-good;
       frames-once = v .frames-once;
       frames-all = v .frames-all;
       swap-numbers = v .swap-numbers;
@@ -71,23 +68,20 @@ module _ {b : Build} {n : Node} (s : Sound b n) where
   unfolding frameOrder
   line-lengths =
       let all = s .entered-all in
-      let e = length-append (map frameNumber (n .free)) (n .paging .entered) in
-      let l = length-map (n .free) frameNumber in
+      let e = length-append (n .free) (n .paging .entered) in
       omega arith
 
   -- no more swap pages are free than there are: the numbers below `frames` are as many as that and none of them is in the swap line, so the
   -- free line and the lists have that many at least
   pub swap-short : length (n .paging .swap) ≤ b .swap
-  unfolding idle frameNumbers frameNumber
+  unfolding idle frameNumbers
   swap-short =
-      let free = map frameNumber (n .free) in
-      let swap = map frameNumber (n .paging .swap) in
       let lists = concatMap frameList (n .groups) in
       let once = below-once (b .frames) (frameNumbers n) (λ f l. s .frames-once f (omega arith)) in
-      let parts = simp (map-append, below-append) at once in
-      let none = below-none (b .frames) swap (every-mapped (IsSwap b) (λ f. b .frames ≤ f) frameNumber (λ x h. h) (n .paging .swap) (s .swap-numbers)) in
-      let sizes = simp (map-append, length-append, length-map) at (s .frames-all) in
-      omega (arith, below-length (b .frames) free, length-map (n .free) frameNumber, below-length (b .frames) lists)
+      let parts = simp below-append at once in
+      let none = below-none (b .frames) (n .paging .swap) (s .swap-numbers) in
+      let sizes = simp length-append at (s .frames-all) in
+      omega (arith, below-length (b .frames) (n .free), below-length (b .frames) lists)
 
 -- a sound node can be mapped
 pub sound-mapped : {n : Node} → Sound paper01 n → Mapped n
@@ -99,8 +93,6 @@ sound-mapped {n} s =
       groups-whole =
           every-mono (GoodGroup paper01) WholeGroup
           (λ G g. record { descriptor = g .descriptor; whole = g .buffer .whole; places = g .buffer .places }) (n .groups) (s .groups-good);
-      free-good = s .free-good;
-      swap-good = s .swap-good;
       frames-once = s .frames-once;
       frames-all = s .frames-all;
       free-short = omega (arith, line-lengths s);

@@ -9,7 +9,7 @@ use lib.Dec.{eqb}
 use lib.ListN.{length, take, drop, replicate}
 use Rattle.rules.specs.Lists.{concatMap, upFrom, pad}
 use Rattle.rules.specs.Build.{paper01}
-use Rattle.rules.specs.Node.{Place, Group, Node, emptyPlace, emptyFrame, emptyGroup, withBuffer}
+use Rattle.rules.specs.Node.{Place, Group, Node, emptyPlace, emptyGroup, withBuffer}
 use Rattle.rules.specs.Memory.{words}
 use Rattle.rules.specs.Text.{bytes, decimal}
 use Rattle.rules.specs.Script.{scriptLines, listFrom, listing}
@@ -98,7 +98,7 @@ full k G1 G2 =
       timer = 0;
       queue = [];
       free = [];
-      paging = record { swap = map (emptyFrame paper01) (upFrom k (96 - k)); entered = upFrom 0 32; out = k - 32; brought = 0 };
+      paging = record { swap = upFrom k (96 - k); entered = upFrom 0 32; out = k - 32; brought = 0 };
       groups = G1 ∷ G2 ∷ replicate 6 emptyGroup;
     }
 

@@ -26,32 +26,32 @@ map-cases =
 -- memories that the cases below speak of more than once
 fresh-node : isMemory fresh ≡ true
 unfolding computes
-fresh-node = is-node _ refl refl refl refl refl refl refl
+fresh-node = is-node _ refl refl refl refl refl refl refl refl
 
 -- the busy node, with a word past its size
 busy-node : isMemory (busy ++ (7 ∷ [])) ≡ true
 unfolding computes
-busy-node = is-node _ refl refl refl refl refl refl refl
+busy-node = is-node _ refl refl refl refl refl refl refl refl
 
 -- the one with seven places used up
 seven-used : isMemory sevenUsed ≡ true
 unfolding computes
-seven-used = is-node _ refl refl refl refl refl refl refl
+seven-used = is-node _ refl refl refl refl refl refl refl refl
 
 -- the one with a page in swap
 swapped-node : isMemory swapped ≡ true
 unfolding computes
-swapped-node = is-node _ refl refl refl refl refl refl refl
+swapped-node = is-node _ refl refl refl refl refl refl refl refl
 
 -- the one with a first page in swap
 first-swapped : isMemory firstSwapped ≡ true
 unfolding computes
-first-swapped = is-node _ refl refl refl refl refl refl refl
+first-swapped = is-node _ refl refl refl refl refl refl refl refl
 
 -- the one whose timer force keeps
 forced-timer : isMemory forced ≡ true
 unfolding computes
-forced-timer = is-node _ refl refl refl refl refl refl refl
+forced-timer = is-node _ refl refl refl refl refl refl refl refl
 
 pub node-cases : NodeCases
 unfolding computes
@@ -59,9 +59,9 @@ node-cases =
     record {
       fresh-node = fresh-node;
       busy-node = busy-node;
-      full-queue-node = is-node _ refl refl refl refl refl refl refl;
+      full-queue-node = is-node _ refl refl refl refl refl refl refl refl;
       seven-used = seven-used;
-      edges = is-node _ refl refl refl refl refl refl refl;
+      edges = is-node _ refl refl refl refl refl refl refl refl;
       swapped-node = swapped-node;
       first-swapped = first-swapped;
       forced-timer = forced-timer;
@@ -99,14 +99,14 @@ no-node-cases =
       swap-listed-and-free = pages-fail _ refl;
       swap-listed-twice = pages-fail _ refl;
       page-96 = pages-fail _ refl;
-      page-97th = node-fails _ 9 refl;
-      frame-in-swap-line = node-fails _ 10 refl;
-      swap-in-free-line = node-fails _ 12 refl;
-      entered-missing = node-fails _ 11 refl;
-      entered-another = node-fails _ 11 refl;
-      entered-twice = node-fails _ 11 refl;
-      entered-free = node-fails _ 11 refl;
-      entered-swap = node-fails _ 12 refl;
+      page-97th = node-fails _ 7 refl;
+      frame-in-swap-line = node-fails _ 8 refl;
+      swap-in-free-line = node-fails _ 10 refl;
+      entered-missing = node-fails _ 9 refl;
+      entered-another = node-fails _ 9 refl;
+      entered-twice = node-fails _ 9 refl;
+      entered-free = node-fails _ 9 refl;
+      entered-swap = node-fails _ 10 refl;
       list-too-long = node-fails _ 5 refl;
       list-too-short = node-fails _ 5 refl;
       list-of-none = node-fails _ 5 refl;
@@ -136,7 +136,7 @@ no-node-cases =
       words-past-buffered = node-fails _ 5 refl;
       words-past-buffered-last = node-fails _ 5 refl;
       words-past-swapped = node-fails _ 5 refl;
-      pledges-97 = node-fails _ 13 refl;
+      pledges-97 = node-fails _ 11 refl;
       used-of-none = node-fails _ 5 refl;
       pending-not-atomic = node-fails _ 5 refl;
       pending-not-atomic-queued = node-fails _ 5 refl;
@@ -144,21 +144,21 @@ no-node-cases =
       revoked-not-atomic = node-fails _ 5 refl;
       force-not-atomic-runner = node-fails _ 5 refl;
       revoked-not-atomic-runner = node-fails _ 5 refl;
-      pending-no-line-runner = node-fails _ 14 refl;
-      pending-no-line = node-fails _ 14 refl;
-      pending-no-line-first = node-fails _ 14 refl;
-      pending-no-line-last = node-fails _ 14 refl;
-      runner-not-atomic = node-fails _ 15 refl;
-      runner-not-atomic-buffered = node-fails _ 15 refl;
-      head-of-nobody = node-fails _ 16 refl;
-      head-of-another = node-fails _ 16 refl;
-      head-group-buffered = node-fails _ 16 refl;
-      head-group-revoked = node-fails _ 16 refl;
-      timer-idle = node-fails _ 16 refl;
-      timer-force-off = node-fails _ 16 refl;
-      timer-of-nobody = node-fails _ 16 refl;
-      timer-of-another = node-fails _ 16 refl;
-      runner-swapped = node-fails _ 17 refl;
+      pending-no-line-runner = node-fails _ 12 refl;
+      pending-no-line = node-fails _ 12 refl;
+      pending-no-line-first = node-fails _ 12 refl;
+      pending-no-line-last = node-fails _ 12 refl;
+      runner-not-atomic = node-fails _ 13 refl;
+      runner-not-atomic-buffered = node-fails _ 13 refl;
+      head-of-nobody = node-fails _ 14 refl;
+      head-of-another = node-fails _ 14 refl;
+      head-group-buffered = node-fails _ 14 refl;
+      head-group-revoked = node-fails _ 14 refl;
+      timer-idle = node-fails _ 14 refl;
+      timer-force-off = node-fails _ 14 refl;
+      timer-of-nobody = node-fails _ 14 refl;
+      timer-of-another = node-fails _ 14 refl;
+      runner-swapped = node-fails _ 15 refl;
     }
 
 pub step-on-memory-cases : StepOnMemoryCases
@@ -175,7 +175,7 @@ step-on-memory-cases =
       step-short = step-refused _ _ (words-fail _ 0 refl);
       step-no-node = step-refused _ _ (node-fails _ 0 refl);
       before-unknown = step-refused _ _ (node-fails _ 0 refl);
-      before-nobody = step-refused _ _ (node-fails _ 16 refl);
+      before-nobody = step-refused _ _ (node-fails _ 14 refl);
       before-schedule = step-refused _ _ (node-fails _ 0 refl);
       before-ticks = step-refused _ _ (words-fail _ 0 refl);
       unknown-two = step-report fresh _ fresh-node;
@@ -201,5 +201,5 @@ count-cases =
     record {
       counts-fresh = counts-of _ fresh-node;
       counts-told = counts-of _ swapped-node;
-      counts-no-node = counts-none _ (node-fails _ 16 refl);
+      counts-no-node = counts-none _ (node-fails _ 14 refl);
     }

@@ -4,20 +4,22 @@
 use Prim.Native.Nat.{ℕ, zero, suc, _+_, _-_, _*_}
 use mathlib.Core.Path.{_≡_, refl, ap, _∙_}
 use mathlib.Core.Bool.{Bool, true, false, _&&_, false≢true}
-use mathlib.Core.List.{List, [], _∷_, _++_, map}
+use mathlib.Core.List.{List, [], _∷_, _++_}
 use borrow.Author.Tests.{eqb-true}
 use lib.Dec.{eqb, leb}
 use lib.ListN.{length, take, drop, getD}
+use lib.Seq.{drop-drop}
 use native.Mathlib.Numerals.{add-one}
+use native.Mathlib.Omega.{arith}
 use Rattle.rules.specs.Lists.{Every, passes, pad, all, concatMap, upFrom}
 use Rattle.rules.specs.Build.{paper01, pageCount, groupCount, wordLimit}
 use Rattle.rules.specs.Operation.{Operation, notNode, refused}
 use Rattle.rules.specs.Step.{step}
 use Rattle.rules.specs.Node.{Place, Group, Node}
-use Rattle.rules.specs.Valid.{frameNumbers, frameOrder, standsOnce, nodeTests, isNode}
-use Rattle.rules.specs.Memory.{runningAt, timerAt, queuedAt, freeCountAt, queueAt, queueStride, freeAt, groupsAt, groupStride, atomicOffset, pendingOffset, forceOffset, revokedOffset, usedOffset, countOffset, heldOffset, describedOffset, descriptorOffset, listOffset, placeStride, swapCountAt, enteredCountAt, outAt, broughtAt, swapAt, enteredAt, size}
-use Rattle.rules.specs.Memory.{word, wordsAt, frameAddress, groupAddress, messagesAt, placeAt, placesAt, framePlaces, frameAt, flagAt, listAt, bufferAt, groupAt, groupsFrom, pagingFrom, nodeAt}
-use Rattle.rules.specs.MemoryTest.{zeroAt, countsInBounds, flagsAreFlags, queueUnused, freeUnused, swapUnused, enteredUnused, groupUnused, messageUnused, unusedAreZero, memoryTests, isMemory, replaced, stepMemory, emptyPart, runnerPart, headPart, headWords, pageCounts}
+use Rattle.rules.specs.Valid.{idle, frameNumbers, frameOrder, standsOnce, nodeTests, isNode}
+use Rattle.rules.specs.Memory.{runningAt, timerAt, queuedAt, freeCountAt, queueAt, queueStride, freeAt, groupsAt, groupStride, atomicOffset, pendingOffset, forceOffset, revokedOffset, usedOffset, countOffset, heldOffset, describedOffset, descriptorOffset, listOffset, framesAt, placeStride, frameStride, swapCountAt, enteredCountAt, outAt, broughtAt, swapAt, enteredAt, size}
+use Rattle.rules.specs.Memory.{word, wordsAt, frameAddress, groupAddress, messagesAt, placeAt, placesAt, framePlaces, flagAt, listAt, bufferAt, groupAt, groupsFrom, pagingFrom, nodeAt}
+use Rattle.rules.specs.MemoryTest.{zeroAt, countsInBounds, flagsAreFlags, queueUnused, freeUnused, swapUnused, enteredUnused, groupUnused, messageUnused, unusedAreZero, frameWiped, idleAreWiped, memoryTests, isMemory, replaced, stepMemory, emptyPart, runnerPart, headPart, headWords, pageCounts}
 
 -- a test that always passes
 abbrev pub always : {A : Type 0} → A → Bool
@@ -127,10 +129,10 @@ nodeBy m =
       running = word m runningAt;
       timer = word m timerAt;
       queue = messagesAt m queueAt (word m queuedAt);
-      free = map (frameAt m) (pad (word m freeCountAt) (drop freeAt m));
+      free = pad (word m freeCountAt) (drop freeAt m);
       paging =
           record {
-            swap = map (frameAt m) (pad (word m swapCountAt) (drop swapAt m));
+            swap = pad (word m swapCountAt) (drop swapAt m);
             entered = pad (word m enteredCountAt) (drop enteredAt m);
             out = word m outAt;
             brought = word m broughtAt;
@@ -146,7 +148,7 @@ node-by m = simp (words-at, groups-by m groupsAt groupCount)
 -- memory is no node where the i-th clause on that node fails
 pub node-fails : (m : List ℕ) (i : ℕ) → getD (nodeTests paper01) i always (nodeBy m) ≡ false → isMemory m ≡ false
 unfolding isMemory memoryTests isNode
-node-fails m i e = fails memoryTests m 4 (rw (node-by m) (fails (nodeTests paper01) (nodeBy m) i e))
+node-fails m i e = fails memoryTests m 5 (rw (node-by m) (fails (nodeTests paper01) (nodeBy m) i e))
 
 -- the unused words, each stretch of them read at one go
 abbrev pub zeros : List ℕ → ℕ → ℕ → Bool
@@ -195,6 +197,46 @@ pub unused-fail : (m : List ℕ) → unusedZeros m ≡ false → isMemory m ≡ 
 unfolding memoryTests
 unused-fail m e = words-fail m 3 (unused-zeros m ∙ e)
 
+-- of k frames and swap pages, which stand in these words one behind the other, whether each is 0: they are walked once
+abbrev pub pageZeros : ℕ → List ℕ → List Bool
+pageZeros zero ws = []
+pageZeros (suc k) ws = all (eqb 0) (pad frameStride ws) ∷ pageZeros k (drop frameStride ws)
+
+-- that of number f, looked up there; one behind the k is read by itself
+abbrev pub pageZero : List Bool → List ℕ → ℕ → Bool
+pageZero zs ws f = getD zs f (zeros ws (frameStride * f) frameStride)
+
+-- it is what its words say
+pub page-zero : (k : ℕ) (ws : List ℕ) (f : ℕ) → pageZero (pageZeros k ws) ws f ≡ zeros ws (frameStride * f) frameStride
+page-zero zero ws f = refl
+page-zero (suc k) ws zero = refl
+page-zero (suc k) ws (suc f) =
+    let next : frameStride * suc f ≡ frameStride + frameStride * f = omega arith in
+    rw (next, ← drop-drop (frameStride * f) frameStride ws) (page-zero k (drop frameStride ws) f)
+
+-- the frames and swap pages that no buffer holds are 0, by numbers
+abbrev pub allZero : List ℕ → List ℕ → Bool
+allZero ws fs = all (pageZero (pageZeros (pageCount paper01) ws) ws) fs
+
+-- those of the memory
+abbrev pub idleZeros : List ℕ → Bool
+idleZeros m = allZero (drop framesAt m) (idle (nodeBy m))
+
+-- of one of them
+pub frame-zero : (m : List ℕ) (f : ℕ) → frameWiped m f ≡ pageZero (pageZeros (pageCount paper01) (drop framesAt m)) (drop framesAt m) f
+unfolding frameWiped zeroAt frameAddress
+frame-zero m f = rw (words-at m (framesAt + frameStride * f) frameStride, page-zero (pageCount paper01) (drop framesAt m) f, drop-drop (frameStride * f) framesAt m)
+
+-- of all
+pub idle-zeros : (m : List ℕ) → idleAreWiped m ≡ idleZeros m
+unfolding idleAreWiped
+idle-zeros m = rw (node-by m) (all-same (frameWiped m) (pageZero (pageZeros (pageCount paper01) (drop framesAt m)) (drop framesAt m)) (frame-zero m) (idle (nodeBy m)))
+
+-- memory is no node where one has a word or kept length other than 0
+pub idle-fail : (m : List ℕ) → idleZeros m ≡ false → isMemory m ≡ false
+unfolding memoryTests
+idle-fail m e = words-fail m 4 (idle-zeros m ∙ e)
+
 -- all tests pass where each does
 pub pass : {A : Type 0} (ts : List (A → Bool)) (x : A) → Every (λ t. t x ≡ true) ts → passes ts x ≡ true
 pass [] x u = refl
@@ -219,7 +261,7 @@ pass-at (t ∷ ts) x (suc i) e r = go (t x) refl (pass-at ts x i e)
 
 -- the tests of a node but for those that "each frame stands once", and once in the free line or the order of entry
 abbrev pub otherTests : List (Node → Bool)
-otherTests = lacking 10 (lacking 8 (nodeTests paper01))
+otherTests = lacking 8 (lacking 6 (nodeTests paper01))
 
 -- each of the numbers below k stands once in the list
 abbrev pub allOnce : ℕ → List ℕ → Bool
@@ -244,7 +286,7 @@ pagesOnce m = read (frameNumbers (nodeBy m)) (allOnce (pageCount paper01))
 -- memory is no node where one does not
 pub pages-fail : (m : List ℕ) → pagesOnce m ≡ false → isMemory m ≡ false
 unfolding nodeTests
-pages-fail m e = node-fails m 8 (read-same (frameNumbers (nodeBy m)) (allOnce (pageCount paper01)) ∙ e)
+pages-fail m e = node-fails m 6 (read-same (frameNumbers (nodeBy m)) (allOnce (pageCount paper01)) ∙ e)
 
 -- each frame stands once, in the free line or the order of entry
 abbrev pub framesOnce : List ℕ → Bool
@@ -256,13 +298,14 @@ pub is-node : (m : List ℕ)
     → countsInBounds m ≡ true
     → flagsAreFlags m ≡ true
     → unusedZeros m ≡ true
+    → idleZeros m ≡ true
     → pagesOnce m ≡ true
     → framesOnce m ≡ true
     → passes otherTests (nodeBy m) ≡ true
     → isMemory m ≡ true
 unfolding isMemory memoryTests isNode nodeTests
-is-node m long counts flags unused pages frames others =
-    pass memoryTests m (long, (counts, (flags, (unused-zeros m ∙ unused, (rw (node-by m) holds, tt)))))
+is-node m long counts flags unused idles pages frames others =
+    pass memoryTests m (long, (counts, (flags, (unused-zeros m ∙ unused, (idle-zeros m ∙ idles, (rw (node-by m) holds, tt))))))
   where
     stand : allOnce (pageCount paper01) (frameNumbers (nodeBy m)) ≡ true
     stand = read-same (frameNumbers (nodeBy m)) (allOnce (pageCount paper01)) ∙ pages
@@ -271,7 +314,7 @@ is-node m long counts flags unused pages frames others =
     order = read-same (frameOrder (nodeBy m)) (allOnce (paper01 .frames)) ∙ frames
 
     holds : isNode paper01 (nodeBy m) ≡ true
-    holds = pass-at (nodeTests paper01) (nodeBy m) 8 stand (pass-at (lacking 8 (nodeTests paper01)) (nodeBy m) 10 order others)
+    holds = pass-at (nodeTests paper01) (nodeBy m) 6 stand (pass-at (lacking 6 (nodeTests paper01)) (nodeBy m) 8 order others)
 
 -- a step on memory that is a node, and on one that is none
 pub step-report : (m : List ℕ) (op : Operation) → isMemory m ≡ true → stepMemory m op .report ≡ step paper01 (nodeBy m) op .report

@@ -53,8 +53,6 @@ busy =
     ∷ 196 holds (1 ∷ 1 ∷ 0 ∷ 0 ∷ 0 ∷ 0 ∷ 0 ∷ 2 ∷ 9 ∷ 8 ∷ [])
     ∷ 420 holds (1 ∷ 0 ∷ 1 ∷ 1 ∷ 2 ∷ 8 ∷ 2 ∷ 0 ∷ [])
     ∷ 436 holds (0 ∷ 1 ∷ [])
-    ∷ 1092 holds (2 ∷ 10 ∷ 11 ∷ [])
-    ∷ 1101 holds (2 ∷ 20 ∷ 21 ∷ [])
     ∷ 1110 holds (2 ∷ 30 ∷ 31 ∷ [])
     ∷ 1119 holds concatMap (λ w. 1 ∷ w ∷ replicate 7 0) (40 ∷ 50 ∷ 60 ∷ 70 ∷ 80 ∷ 90 ∷ 100 ∷ [])
     ∷ 8004 holds (64 ∷ 2 ∷ 0 ∷ 0 ∷ upFrom 32 64)
@@ -76,7 +74,7 @@ sixteen =
 
 -- group 3 runs, its list the frames 1 and 0, 7 places of the first used up
 abbrev pub sevenUsed : List ℕ
-sevenUsed = put 0 (3 ∷ []) (put 420 (1 ∷ 0 ∷ 0 ∷ 0 ∷ 7 ∷ 9 ∷ []) (put 436 (1 ∷ 0 ∷ []) sixteen))
+sevenUsed = put 0 (3 ∷ []) (put 420 (1 ∷ 0 ∷ 0 ∷ 0 ∷ 7 ∷ 9 ∷ []) (put 436 (1 ∷ 0 ∷ []) (put 1164 (replicate 63 0) sixteen)))
 
 -- group 1 runs in a section with 16 messages of 8 words in the queue; the free line begins with the frames 1 and 8
 abbrev pub fullQueue : List ℕ
@@ -201,8 +199,7 @@ pub record NodeCases : Type 0 where
   -- "h the used-up places before the first (0 to 7 ..)"; a list in any order
   pub seven-used : isMemory sevenUsed ≡ true
   -- the timer at 255, a queued message of group 8 and one of 8 words, a buffered one of 8 words, a descriptor of 8 words; group 5 atomic, with
-  -- force on and revoked, with no line, group 3 pending with a line in its buffer, group 8 with one in the queue. "Places used up or never used
-  -- may hold anything" (docs/DECISIONS.md), and so may free frames and swap pages
+  -- force on and revoked, with no line, group 3 pending with a line in its buffer, group 8 with one in the queue
   pub edges :
       isMemory
       (put 1 (255 ∷ [])
@@ -212,10 +209,8 @@ pub record NodeCases : Type 0 where
       (put 644 (1 ∷ 0 ∷ 1 ∷ 1 ∷ [])
       (put 980 (1 ∷ 1 ∷ [])
       (put 987 (8 ∷ [])
-      (put 1092 (replicate 18 9)
       (put 1173 (8 ∷ [])
-      (put 1182 (replicate 6822 9)
-      busy))))))))))
+      busy))))))))
       ≡ true
   -- a page in swap, and the first page of the group, which runs, in a frame
   pub swapped-node : isMemory swapped ≡ true
@@ -250,7 +245,7 @@ pub record NoNodeCases : Type 0 where
   pub length-zero-swapped : isMemory (put 3756 (0 ∷ 0 ∷ 0 ∷ []) swapped) ≡ false
   pub length-nine-swapped : isMemory (put 3756 (9 ∷ []) swapped) ≡ false
   -- "h"
-  pub eight-used : isMemory (put 424 (8 ∷ 8 ∷ []) sixteen) ≡ false
+  pub eight-used : isMemory (put 424 (8 ∷ 8 ∷ []) (put 1092 (replicate 72 0) sixteen)) ≡ false
   -- "timer"
   pub timer-256 : isMemory (put 1 (256 ∷ []) busy) ≡ false
   -- "each frame stands once, in the free line or in one list": twice in the line, none, in the line and in a list, in two lists. In the last
@@ -259,7 +254,7 @@ pub record NoNodeCases : Type 0 where
   pub frame-missing : isMemory (put 3 (31 ∷ []) (put 195 (0 ∷ []) (put 8005 (1 ∷ []) (put 8072 (31 ∷ []) fresh)))) ≡ false
   pub frame-listed-and-free : isMemory (put 164 (0 ∷ []) (put 8072 (2 ∷ []) busy)) ≡ false
   pub frame-listed-twice :
-      isMemory (put 3 (29 ∷ []) (put 193 (0 ∷ []) (put 649 (1 ∷ 1 ∷ []) (put 660 (1 ∷ []) (put 8005 (3 ∷ []) (put 8074 (31 ∷ []) sixteen)))))) ≡ false
+      isMemory (put 3 (29 ∷ []) (put 193 (0 ∷ []) (put 649 (8 ∷ 1 ∷ []) (put 660 (1 ∷ []) (put 8005 (3 ∷ []) (put 8074 (31 ∷ []) sixteen)))))) ≡ false
   -- "swap pages and their line meet what 01 asks of frames and the free line": the same of swap pages
   pub swap-twice : isMemory (put 8008 (33 ∷ []) fresh) ≡ false
   pub swap-missing : isMemory (put 8004 (63 ∷ []) (put 8071 (0 ∷ []) fresh)) ≡ false
@@ -272,7 +267,7 @@ pub record NoNodeCases : Type 0 where
   pub page-97th : isMemory (put 8004 (64 ∷ []) (put 8071 (96 ∷ []) swapped)) ≡ false
   -- a frame in the swap line, and in no other: swap page 0 is in its stead in the list of group 3, which has one message
   pub frame-in-swap-line :
-      isMemory (put 0 (0 ∷ []) (put 424 (0 ∷ 1 ∷ 1 ∷ []) (put 436 (32 ∷ 0 ∷ []) (put 3396 (1 ∷ 5 ∷ []) (put 8004 (64 ∷ 1 ∷ 3 ∷ 2 ∷ 4 ∷ upFrom 33 63) swapped)))))
+      isMemory (put 0 (0 ∷ []) (put 424 (0 ∷ 1 ∷ 1 ∷ []) (put 436 (32 ∷ 0 ∷ []) (put 1443 (0 ∷ 0 ∷ []) (put 3396 (1 ∷ 5 ∷ []) (put 3756 (0 ∷ 0 ∷ 0 ∷ []) (put 8004 (64 ∷ 1 ∷ 3 ∷ 2 ∷ 4 ∷ upFrom 33 63) swapped)))))))
       ≡ false
   -- a swap page in the free line, and in no other: it stands for frame 4, which group 3 holds
   pub swap-in-free-line : isMemory (put 3 (32 ∷ []) (put 195 (32 ∷ []) (put 8004 (62 ∷ []) (put 8008 (upFrom 33 4 ++ (upFrom 38 58 ++ (0 ∷ []))) swapped)))) ≡ false
@@ -284,8 +279,8 @@ pub record NoNodeCases : Type 0 where
   pub entered-free : isMemory (put 8005 (2 ∷ []) (put 8073 (5 ∷ []) swapped)) ≡ false
   pub entered-swap : isMemory (put 8005 (2 ∷ []) (put 8073 (37 ∷ []) swapped)) ≡ false
   -- "each list has its rounded-up length": one frame too many, one too few
-  pub list-too-long : isMemory (put 425 (6 ∷ []) busy) ≡ false
-  pub list-too-short : isMemory (put 424 (2 ∷ 15 ∷ []) sixteen) ≡ false
+  pub list-too-long : isMemory (put 425 (6 ∷ []) (put 1164 (replicate 18 0) busy)) ≡ false
+  pub list-too-short : isMemory (put 424 (2 ∷ 15 ∷ []) (put 1092 (replicate 18 0) sixteen)) ≡ false
   pub list-of-none :
       isMemory (put 3 (31 ∷ []) (put 195 (0 ∷ []) (put 650 (1 ∷ []) (put 660 (31 ∷ []) (put 8005 (1 ∷ []) (put 8072 (31 ∷ []) fresh)))))) ≡ false
   -- "flags are 0 or 1": atomic, pending, force, revoked

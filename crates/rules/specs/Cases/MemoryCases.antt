@@ -1,6 +1,6 @@
 -- The memory: where each number stands, what power-on and a step do to words, answer 1, and for each clause of "Memory is a node when" a
 -- memory that differs from a node's in that clause alone. Addresses are docs/MEMORY.md's. Assumes nothing.
-use Prim.Native.Nat.{ℕ, _+_, _-_}
+use Prim.Native.Nat.{ℕ, zero, suc, _+_, _-_}
 use mathlib.Core.Path.{_≡_}
 use mathlib.Core.Bool.{true, false}
 use mathlib.Core.List.{List, [], _∷_, _++_}
@@ -13,7 +13,9 @@ use Rattle.rules.specs.Cases.Case.{copies, memoryAfter, Stands, Stretch,
 
 -- memory with these words from address a on
 abbrev pub put : ℕ → List ℕ → List ℕ → List ℕ
-put a ws m = take a m ++ (ws ++ drop (a + length ws) m)
+put zero ws m = ws ++ drop (length ws) m
+put (suc a) ws [] = ws
+put (suc a) ws (x ∷ m) = x ∷ put a ws m
 
 -- memory but for the words from address a on and before address b
 abbrev pub cut : ℕ → ℕ → List ℕ → List ℕ
@@ -27,10 +29,15 @@ numberAndZeros a = record { answer = a; value = 0; trap = 0; upcall = 0; moved =
 abbrev pub answered : ℕ → List ℕ → MemoryStep
 answered a m = record { report = numberAndZeros a; memory = m }
 
+-- words behind k zeros
+abbrev pub behind : ℕ → List ℕ → List ℕ
+behind zero ws = ws
+behind (suc k) ws = 0 ∷ behind k ws
+
 -- memory with these stretches, in the order of their addresses, and else 0; its words are those from address a on
 abbrev pub laid : ℕ → List Stretch → List ℕ
-laid a [] = replicate (8104 - a) 0
-laid a (p ∷ ps) = replicate (p .start - a) 0 ++ (p .held ++ laid (p .start + length (p .held)) ps)
+laid a [] = behind (8104 - a) []
+laid a (p ∷ ps) = behind (p .start - a) (p .held ++ laid (p .start + length (p .held)) ps)
 
 -- a node at power-on: nothing but the free line and the swap line, and how many are in them
 abbrev pub fresh : List ℕ

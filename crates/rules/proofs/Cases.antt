@@ -11,3 +11,4 @@ pub mod MemoryParts
 pub mod TestComputes
 pub mod MemoryCasesLaws
 pub mod PagingCasesLaws
+pub mod WipedCasesLaws

@@ -182,8 +182,8 @@ pub record StepOnMemoryCases : Type 0 where
   pub dispose-report :
       stepMemory (busy ++ (7 ∷ [])) (user dispose) .report
       ≡ record { answer = 0; value = 0; trap = 0; upcall = 0; moved = 1; sent = [] }
-  -- it is "written straight into the frame's part of the memory", and the used-up places before it stay; frame 2 is the last in "the order of entry
-  -- into frames". "Memory past the node's size is never touched."
+  -- it is "written straight into the frame's part of the memory"; frame 2 is the last in "the order of entry into frames". "Memory past the node's
+  -- size is never touched."
   pub dispose-memory :
       cut 1245 8004 (stepMemory (busy ++ (7 ∷ [])) (user dispose) .memory)
       ≡ take 1245
@@ -199,7 +199,7 @@ pub record StepOnMemoryCases : Type 0 where
 -- memories that are nodes, at the edges of the clauses
 pub record NodeCases : Type 0 where
   pub fresh-node : isMemory fresh ≡ true
-  -- memory longer than a node is a node by its first words
+  -- memory longer than a node is a node by its first words, whatever stands behind them; used-up places that are 0
   pub busy-node : isMemory (busy ++ (7 ∷ [])) ≡ true
   -- 16 messages in the queue, the free line not in order
   pub full-queue-node : isMemory fullQueue ≡ true
@@ -324,6 +324,20 @@ pub record NoNodeCases : Type 0 where
   pub words-past-buffered : isMemory (put 1113 (1 ∷ []) busy) ≡ false
   pub words-past-buffered-last : isMemory (put 1181 (1 ∷ []) busy) ≡ false
   pub words-past-swapped : isMemory (put 3764 (1 ∷ []) swapped) ≡ false
+  -- "Memory is no node (1) if a frame or swap page has a word or kept length other than 0 that is no part of a waiting message.": of a free frame the
+  -- first kept length, and the last word; of a free swap page
+  pub free-frame-length : isMemory (put 1236 (1 ∷ []) busy) ≡ false
+  pub free-frame-word : isMemory (put 3395 (1 ∷ []) busy) ≡ false
+  pub free-swap-length : isMemory (put 3396 (1 ∷ []) busy) ≡ false
+  pub free-swap-word : isMemory (put 8003 (1 ∷ []) busy) ≡ false
+  -- of the used-up places, and of those behind the last message
+  pub used-up-length : isMemory (put 1092 (1 ∷ []) busy) ≡ false
+  pub used-up-word : isMemory (put 1109 (1 ∷ []) busy) ≡ false
+  pub behind-length : isMemory (put 1182 (1 ∷ []) busy) ≡ false
+  pub behind-word : isMemory (put 1235 (1 ∷ []) busy) ≡ false
+  -- in a swap page
+  pub used-up-swapped : isMemory (put 3756 (1 ∷ []) firstSwapped) ≡ false
+  pub behind-swapped : isMemory (put 3827 (1 ∷ []) swapped) ≡ false
   -- "pledges sum to at most 32", which now reads 96: all pages full, and a message of the runner's queued
   pub pledges-97 : isMemory (put 0 (1 ∷ 0 ∷ 1 ∷ 0 ∷ 1 ∷ 1 ∷ 7 ∷ []) (put 196 (1 ∷ []) fullPages)) ≡ false
   -- "h is 0 where n is 0": group 5 with a frame for its one used-up place

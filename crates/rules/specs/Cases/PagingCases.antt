@@ -23,10 +23,10 @@ pub record SendCases : Type 0 where
   pub crowded-words : memoryAfter (copies 256 "A,2,7\n") ≡ words (crowded 32)
   pub packed-words : memoryAfter (bytes "A,2,5\n" ++ copies 248 "A,1,7\n") ≡ words (packed 1 (5 ∷ []))
   -- "sends out the page that has been in a frame longest": the one in frame 0, which the new page has now
-  pub first-out : Leaves (copies 257 "A,1,7\n")
+  pub first-out : LeavesFrom (crowded 32) (bytes "A,2,7\n")
       (3 holds (0 ∷ [])
-      ∷ 200 holds (0 ∷ 257 ∷ 33 ∷ [])
-      ∷ 212 holds (32 ∷ upFrom 1 31 ++ (0 ∷ 0 ∷ []))
+      ∷ 312 holds (0 ∷ 257 ∷ 33 ∷ [])
+      ∷ 324 holds (32 ∷ upFrom 1 31 ++ (0 ∷ 0 ∷ []))
       ∷ 8004 holds (63 ∷ 32 ∷ 1 ∷ 0 ∷ upFrom 33 63 ++ (0 ∷ upFrom 1 31 ++ (0 ∷ [])))
       ∷ [])
   -- "swap pages are taken .. in a line, as frames are"

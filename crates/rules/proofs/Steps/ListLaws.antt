@@ -122,6 +122,20 @@ count-part k f d [] i h = absurd (omega arith)
 count-part k f d (x ∷ xs) zero h = omega (arith, count-append k (f x) (concatMap f xs))
 count-part k f d (x ∷ xs) (suc i) h = omega (arith, count-append k (f x) (concatMap f xs), count-part k f d xs i (omega arith))
 
+-- what holds of every element holds of a number that stands among them
+pub every-counted : (P : ℕ → Type 0) (k : ℕ) (xs : List ℕ) → Every P xs → 1 ≤ countOf k xs → P k
+every-counted P k [] e h = absurd (omega arith)
+every-counted P k (x ∷ xs) e h = go (eqb x k) refl (every-counted P k xs (e .1))
+  where
+    go : (t : Bool) → eqb x k ≡ t → (1 ≤ countOf k xs → P k) → P k
+    go true q r = subst P (eqb-true x k q) (e .0)
+    go false q r = let l = rw q at h in r (omega arith)
+
+-- and a member does
+pub count-member : {k : ℕ} {xs : List ℕ} → List·Memᴰ k xs → 1 ≤ countOf k xs
+count-member {k} (List·Memᴰ·head {x = x} q) = rw (eq-eqb x k (sym q)) (omega arith)
+count-member (List·Memᴰ·tail h) = let r = count-member h in omega arith
+
 -- and so is a length
 abbrev pub unit : {A : Type 0} → A → ℕ
 unit x = 1

@@ -3,7 +3,7 @@
 -- of the free line or the swap line, which no buffer holds; and the pages of a buffer, cut from its places eight by eight, are joined to those
 -- places again. Assumes nothing.
 use Prim.Native.Nat.{ℕ, _+_, _*_, _≤_, _<_}
-use mathlib.Core.Path.{_≡_, refl, ap, _∙_}
+use mathlib.Core.Path.{_≡_, refl, _∙_}
 use mathlib.Core.Bool.{Bool, true, false}
 use mathlib.Core.List.{List, [], _∷_, map, List·Memᴰ, List·Memᴰ·head, List·Memᴰ·tail, Memᴰ·map}
 use native.Mathlib.Omega.{arith}

@@ -5,7 +5,7 @@
 use Prim.Native.Nat.{ℕ, zero, suc, pred, _+_, _-_, _*_, _≤_, _<_}
 use mathlib.Core.Path.{_≡_, refl, sym, ap, _∙_}
 use mathlib.Core.Bool.{Bool, true, false, true≢false, false≢true}
-use mathlib.Core.List.{List, [], _∷_, map}
+use mathlib.Core.List.{List, [], _∷_}
 use native.Mathlib.Omega.{arith}
 use lib.Dec.{eqb}
 use lib.ListN.{length, take, drop, getD, List·getD-append}
@@ -14,7 +14,7 @@ use borrow.Author.Tests.{ltb-true, ne-eqb}
 use Rattle.rules.specs.Lists.{Every, isEmpty, concatMap}
 use Rattle.rules.specs.Build.{paper01, pageCount, groupCount, wordLimit}
 use Rattle.rules.specs.Node.{Message, Place, Buffer, Group, Node, emptyGroup, emptyPlace, groupOf, bufferHolds, messageOf, waiting, inBuffer, isOf, inQueue, line}
-use Rattle.rules.specs.Valid.{GoodBuffer, Valid, frameNumber, frameList, idle, frameNumbers}
+use Rattle.rules.specs.Valid.{GoodBuffer, Valid, frameList, idle, frameNumbers}
 use Rattle.rules.specs.Memory.{queuedAt, queueAt, queueStride, groupsAt, groupStride, placeStride, listOffset, heldOffset, usedOffset}
 use Rattle.rules.specs.Memory.{word, wordsAt, frameAddress, groupAddress, messageAt, messagesAt, placeAt, framePlaces, listAt, bufferAt, groupAt, nodeAt}
 use Rattle.rules.specs.MemoryTest.{isMemory, Part, firstPlace, bufferPart, queuePart, runnerPart, headPart, headWords}
@@ -79,7 +79,7 @@ list-bounded : (n : Node) → Valid paper01 n → (g : ℕ) → 1 ≤ g → g �
 unfolding frameNumbers groupOf
 list-bounded n v g low high =
     let all = once-bounded (pageCount paper01) (frameNumbers n) (v .frames-once) (v .frames-all) in
-    let lists = every-append (λ f. f < pageCount paper01) (map frameNumber (idle n)) (concatMap frameList (n .groups)) .0 all .1 in
+    let lists = every-append (λ f. f < pageCount paper01) (idle n) (concatMap frameList (n .groups)) .0 all .1 in
     every-getD (λ G. Every (λ f. f < pageCount paper01) (frameList G)) (n .groups) (pred g) emptyGroup
     (every-concat (λ f. f < pageCount paper01) frameList (n .groups) .0 lists) (within (valid-sound v) g low high)
 

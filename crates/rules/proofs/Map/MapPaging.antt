@@ -11,7 +11,7 @@ use Rattle.rules.specs.Lists.{pad}
 use Rattle.rules.specs.Build.{paper01}
 use Rattle.rules.specs.Node.{Paging}
 use Rattle.rules.specs.Memory.{pagingAt, swapCountAt, enteredCountAt, outAt, broughtAt, swapAt, enteredAt}
-use Rattle.rules.specs.Memory.{word, wordsAt, lineWords, pagingWords, pagingFrom}
+use Rattle.rules.specs.Memory.{word, lineWords, pagingWords, pagingFrom}
 use Rattle.rules.specs.MemoryTest.{zeroAt}
 use Rattle.rules.proofs.Steps.ListLaws.{length-pad}
 use Rattle.rules.proofs.Map.MapWords.{Stands, stands-cons, stands-append, stands-wordsAt, wordsAt-stands, length-wordsAt, pad-stands}

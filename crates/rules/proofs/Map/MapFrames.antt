@@ -8,17 +8,17 @@ use mathlib.Core.Bool.{Bool, true, false}
 use mathlib.Core.List.{List, [], _∷_, map, List·Memᴰ, List·Memᴰ·head, List·Memᴰ·tail, Memᴰ·map}
 use native.Mathlib.Omega.{arith}
 use lib.Dec.{eqb}
-use lib.ListN.{length, drop, replicate, length-drop, take-append-drop}
+use lib.ListN.{length, drop, getD, replicate, length-drop, take-append-drop}
 use lib.Seq.{take-at, drop-at}
 use Rattle.rules.specs.Lists.{Every, concatMap, countOf}
 use Rattle.rules.specs.Build.{paper01, pageCount}
 use Rattle.rules.specs.Node.{Place, Group, Node, emptyPage}
 use Rattle.rules.specs.Valid.{frameList, idle, frameNumbers}
-use Rattle.rules.specs.Memory.{Page, pagesFrom, pagesOf, placesOf, allPages, framePlaces, frameWords, placeWords, frameAddress, frameStride, placeStride}
+use Rattle.rules.specs.Memory.{Page, pagesFrom, pagesOf, placesOf, allPages, placeAt, framePlaces, frameWords, placeWords, frameAddress, frameStride, placeStride}
 use Rattle.rules.proofs.Steps.EveryLaws.{every-of, every-at, every-mono, every-append, every-concat, every-unmap}
-use Rattle.rules.proofs.Steps.ListLaws.{count-append, count-member, length-parts, once-bounded}
+use Rattle.rules.proofs.Steps.ListLaws.{count-append, count-member, length-parts, getD-parts, once-bounded}
 use Rattle.rules.specs.Sound.{WholeGroup, Mapped}
-use Rattle.rules.proofs.Map.MapWords.{length-records}
+use Rattle.rules.proofs.Map.MapWords.{length-records, record-at}
 use Rattle.rules.proofs.Map.MapParts.{places, length-place}
 use Rattle.rules.proofs.Map.PageLaws.{GoodPage, pageNumber, empty-good, numbers-groups, good-from, places-here, places-there, found-none, found-either}
 
@@ -59,6 +59,14 @@ from-places m [] = tt
 from-places m (f ∷ fs) =
     let l : length (framePlaces m f) ≡ 8 = length-records (places m) (frameAddress f) 8 in
     (take-at (framePlaces m f) (concatMap (framePlaces m) fs) 8 l, rw (drop-at (framePlaces m f) (concatMap (framePlaces m) fs) 8 l) (from-places m fs))
+
+-- place i of the j-th page
+pub page-place : (m fs : List ℕ) (j i : ℕ) (d : Place) → j < length fs → i < paper01 .perFrame
+    → getD (concatMap (framePlaces m) fs) (paper01 .perFrame * j + i) d ≡ placeAt m (frameAddress (getD fs j 0) + placeStride * i)
+unfolding framePlaces
+page-place m fs j i d h l =
+    getD-parts (framePlaces m) 8 (λ f. length-records (places m) (frameAddress f) 8) fs j i 0 d h l
+    ∙ record-at (places m) d (frameAddress (getD fs j 0)) 8 i l
 
 -- A number that is in no list.
 

@@ -6,15 +6,16 @@ use mathlib.Core.Bool.{Bool, true, false}
 use mathlib.Core.List.{List, [], _∷_, map, map-append}
 use native.Mathlib.Omega.{arith}
 use lib.Dec.{eqb}
-use lib.ListN.{length, take, drop, length-drop, length-replicate, take-append-drop}
+use lib.ListN.{length, take, drop, length-drop, take-append-drop}
 use lib.Seq.{length-take-le}
 use borrow.Author.Tests.{eqb-true, eq-eqb}
 use Rattle.rules.specs.Lists.{Every, concatMap, countOf}
 use Rattle.rules.specs.Build.{Build}
-use Rattle.rules.specs.Node.{Place, Group, emptyPlace, emptyPage}
+use Rattle.rules.specs.Node.{Place, Group, emptyPage}
 use Rattle.rules.specs.Valid.{GoodPlace, frameList}
 use Rattle.rules.specs.Memory.{Page, pagesFrom, pagesOf, placesOf}
-use Rattle.rules.proofs.Steps.EveryLaws.{every-append, every-replicate}
+use Rattle.rules.proofs.Steps.EveryLaws.{every-append}
+use Rattle.rules.proofs.Steps.FrameLaws.{length-page, page-good}
 
 -- a page's number
 abbrev pub pageNumber : Page → ℕ
@@ -27,12 +28,7 @@ pub record GoodPage (b : Build) (ps : List Place) : Type 0 where
 
 -- those of an empty page
 pub empty-good : (b : Build) → GoodPage b (emptyPage b)
-unfolding emptyPage
-empty-good b =
-    record {
-      whole = length-replicate (b .perFrame) emptyPlace;
-      places = every-replicate GoodPlace (b .perFrame) emptyPlace (record { eight = refl });
-    }
+empty-good b = record { whole = length-page b; places = page-good b }
 
 -- the numbers of the pages of a buffer: its list
 pub numbers-from : (b : Build) (fs : List ℕ) (ps : List Place) → map pageNumber (pagesFrom b fs ps) ≡ fs

@@ -2,6 +2,7 @@
 pub mod TestLaws
 pub mod MapWords
 pub mod MapParts
+pub mod PageLaws
 pub mod MapFrames
 pub mod MapPaging
 pub mod MapTest

@@ -10,8 +10,8 @@ use native.Mathlib.Decide.{ℕ-discrete, decLt}
 use native.Mathlib.Omega.{arith}
 use lib.Dec.{ltb, eqb}
 use borrow.Author.Tests.{ltb-true, ltb-false, lt-ltb, le-ltb, eqb-true, eqb-false, eq-eqb, ne-eqb}
-use lib.Seq.{take-nil, drop-nil}
-use lib.ListN.{length, take, drop, getD, set, replicate, length-append}
+use lib.Seq.{take-nil, drop-nil, getD-append-add}
+use lib.ListN.{length, take, drop, getD, set, replicate, length-append, List·getD-append}
 use Rattle.rules.specs.Lists.{filter, isEmpty, Every, concatMap, sum, countOf, upFrom, pad}
 
 -- an element that passes is kept, one that fails is not
@@ -122,6 +122,20 @@ count-part k f d [] i h = absurd (omega arith)
 count-part k f d (x ∷ xs) zero h = omega (arith, count-append k (f x) (concatMap f xs))
 count-part k f d (x ∷ xs) (suc i) h = omega (arith, count-append k (f x) (concatMap f xs), count-part k f d xs i (omega arith))
 
+-- what holds of every element holds of a number that stands among them
+pub every-counted : (P : ℕ → Type 0) (k : ℕ) (xs : List ℕ) → Every P xs → 1 ≤ countOf k xs → P k
+every-counted P k [] e h = absurd (omega arith)
+every-counted P k (x ∷ xs) e h = go (eqb x k) refl (every-counted P k xs (e .1))
+  where
+    go : (t : Bool) → eqb x k ≡ t → (1 ≤ countOf k xs → P k) → P k
+    go true q r = subst P (eqb-true x k q) (e .0)
+    go false q r = let l = rw q at h in r (omega arith)
+
+-- and a member does
+pub count-member : {k : ℕ} {xs : List ℕ} → List·Memᴰ k xs → 1 ≤ countOf k xs
+count-member {k} (List·Memᴰ·head {x = x} q) = rw (eq-eqb x k (sym q)) (omega arith)
+count-member (List·Memᴰ·tail h) = let r = count-member h in omega arith
+
 -- and so is a length
 abbrev pub unit : {A : Type 0} → A → ℕ
 unit x = 1
@@ -225,6 +239,17 @@ module _ {A B : Type 0} (f : A → List B) where
   pub part-short : {x : A} {xs : List A} → List·Memᴰ x xs → length (f x) ≤ length (concatMap f xs)
   part-short {x} (List·Memᴰ·head {x = y} {xs = ys} q) = simp length-append (rw q (omega arith))
   part-short {x} (List·Memᴰ·tail {x = y} {xs = ys} h) = let r = part-short h in simp length-append (omega arith)
+
+  -- element i of the j-th, where each has s
+  pub getD-parts : (s : ℕ) → ((x : A) → length (f x) ≡ s) → (xs : List A) (j i : ℕ) (c : A) (d : B) → j < length xs → i < s
+      → getD (concatMap f xs) (s * j + i) d ≡ getD (f (getD xs j c)) i d
+  getD-parts s sized [] j i c d h l = absurd (omega arith)
+  getD-parts s sized (x ∷ xs) zero i c d h l =
+      let z : s * 0 + i ≡ i = omega arith in
+      rw z (List·getD-append (f x) (concatMap f xs) d i (rw (sized x) l))
+  getD-parts s sized (x ∷ xs) (suc j) i c d h l =
+      let z : s * suc j + i ≡ length (f x) + (s * j + i) = omega (arith, sized x, mul-suc s j) in
+      rw z (getD-append-add (f x) (concatMap f xs) (s * j + i) d ∙ getD-parts s sized xs j i c d (omega arith) l)
 
 -- A list padded with 0.
 

@@ -1,4 +1,4 @@
--- `validate::frames::frames_good` meets its contract: a function a clause; the pages are known where those that wait in them are looked at.
+-- `validate::frames::frames_good` meets its contract: a function a clause; the pages are known where what is in them is looked at.
 -- Assumes nothing.
 use mathlib.Core.Path.{_≡_, _∙_}
 use mathlib.Core.Bool.{Bool, _&&_}
@@ -9,9 +9,9 @@ use lib.ListN.{length}
 use Rattle.rules.specs.Lists.{all, upFrom}
 use Rattle.rules.specs.Valid.{frameNumbers, frameOrder}
 use Rattle.rules.specs.Memory.{swapCountAt, word, nodeAt}
-use Rattle.validate.specs.Clauses.{pagesOnce, swapPage, framesGood}
+use Rattle.validate.specs.Clauses.{pagesOnce, swapPage, enteredOnce, framesGood}
 use Rattle.validate.proofs.RangeLaws.{refused, accepted}
-use Rattle.validate.proofs.FactLaws.{framed}
+use Rattle.validate.proofs.FactLaws.{paged, framed}
 use Rattle.validate.proofs.frames.frames_good.Statement.{statement}
 use Rattle.validate.proofs.frames.frames_good.Tie as tie
 
@@ -79,18 +79,37 @@ returns-5 : tie.Need-returns-5
 unfolding framesGood
 returns-5 c = four (c .before .before) _ ∙ rw (refused (c .before .entered-once .ensures) (c .if5 .taken))
 
-waitings-good-requires : tie.Need-waitings-good-requires
-waitings-good-requires c κs =
+-- and the fifth
+five : (c : tie.Else5) (b : Bool)
+    → let m = c .before .before .before .before .before .before .before .before .before .before .before .args .m .now in
+    eqb (length (frameNumbers (nodeAt m))) 96
+    && (pagesOnce m
+    && (all (swapPage m) (upFrom 0 (word m swapCountAt)) && (eqb (length (frameOrder (nodeAt m))) 32 && (enteredOnce m && b)))) ≡ b
+five c b = four (c .before .before) _ ∙ rw (accepted (c .before .entered-once .ensures) (c .if5 .left))
+
+idle-wiped-requires : tie.Need-idle-wiped-requires
+idle-wiped-requires c κs =
     let e = c .before .before .before .before .before .before in
+    let d = e .before .before in
+    let s = d .before .before .before in
+    paged (s .args .m .now) (s .pre .0) (all96 d) (accepted (e .before .pages-once .ensures) (e .if2 .left))
+
+returns-6 : tie.Need-returns-6
+unfolding framesGood
+returns-6 c = five (c .before .before) _ ∙ rw (refused (c .before .idle-wiped .ensures) (c .if6 .taken))
+
+all-places-good-requires : tie.Need-all-places-good-requires
+all-places-good-requires c κs =
+    let e = c .before .before .before .before .before .before .before .before in
     let d = e .before .before in
     let s = d .before .before .before in
     framed (s .args .m .now) (s .pre .0) (s .pre .1) (all96 d) (accepted (e .before .pages-once .ensures) (e .if2 .left))
 
-returns-6 : tie.Need-returns-6
+returns-7 : tie.Need-returns-7
 unfolding framesGood
-returns-6 c =
+returns-7 c =
     let e = c .before in
-    four (e .before .before) _ ∙ rw (accepted (e .before .entered-once .ensures) (e .if5 .left)) (c .waitings-good .ensures)
+    five (e .before .before) _ ∙ rw (accepted (e .before .idle-wiped .ensures) (e .if6 .left)) (c .all-places-good .ensures)
 
 pub frames-good-spec : {M : Type 1} → statement M
 frames-good-spec =
@@ -106,5 +125,7 @@ frames-good-spec =
     returns-4
     entered-once-requires
     returns-5
-    waitings-good-requires
-    returns-6)
+    idle-wiped-requires
+    returns-6
+    all-places-good-requires
+    returns-7)

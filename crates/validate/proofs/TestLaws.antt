@@ -119,17 +119,17 @@ module _ (m : List ℕ) where
       let all8 = range-tells (λ g. isGroup paper01 (groupAt m (groupAddress g))) 1 groupCount in
       let buffers = range-tells (bufferGood m) 1 groupCount in
       let flags = range-tells (flagsAtomic m) 1 groupCount in
-      let waits = range-tells (placesGood m) 1 groupCount in
+      let contents = range-tells (placesGood m) 1 groupCount in
       rw groups-tested (
         λ h.
             let one : ((g : ℕ) → 1 ≤ g → g < 9 → (bufferGood m g ≡ true) × ((flagsAtomic m g ≡ true) × (placesGood m g ≡ true))) =
             λ g low high. group-tested c g low (omega arith) .0 (all8 .0 h g low high) in (
               buffers .1 (λ g low high. one g low high .0),
-              (flags .1 (λ g low high. one g low high .1 .0), waits .1 (λ g low high. one g low high .1 .1)),
+              (flags .1 (λ g low high. one g low high .1 .0), contents .1 (λ g low high. one g low high .1 .1)),
             ),
         λ h.
             let one : ((g : ℕ) → 1 ≤ g → g < 9 → (bufferGood m g ≡ true) × ((flagsAtomic m g ≡ true) × (placesGood m g ≡ true))) =
-            λ g low high. (buffers .0 (h .0) g low high, (flags .0 (h .1 .0) g low high, waits .0 (h .1 .1) g low high)) in
+            λ g low high. (buffers .0 (h .0) g low high, (flags .0 (h .1 .0) g low high, contents .0 (h .1 .1) g low high)) in
             all8 .1 (λ g low high. group-tested c g low (omega arith) .1 (one g low high)),
       )
 

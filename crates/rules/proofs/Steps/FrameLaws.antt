@@ -91,7 +91,7 @@ placeOf-waiting m g =
 pub place-good : GoodPlace emptyPlace
 place-good = record { eight = refl }
 
-place-wiped : Wiped emptyPlace
+pub place-wiped : Wiped emptyPlace
 place-wiped = record { len-zero = refl; words-zero = every-replicate Zero wordLimit 0 refl }
 
 -- and so is every place of an empty page

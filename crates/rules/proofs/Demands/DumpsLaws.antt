@@ -1,8 +1,7 @@
--- What order 3 promises readers of dumps holds. That a node's memory has no old words is MapClean's, and a step leaves a node. For the rest: the
--- places of a good buffer are empty ones up to h, then its messages as they are kept, then empty ones to the end of its last page, so its
--- counts, its list and its messages say all of them; two nodes with the same queue and the same line of a group have the same messages of it in
--- the buffer. So nodes that agree are the same; and a node's dump is its map, which is read back from any memory that begins with it.
--- Assumes nothing.
+-- Order 3's promise to readers holds. That a node's memory has no old words is MapClean's, and a step leaves a node. The places of a good buffer
+-- are h empty ones, then its messages as they are kept, then empty ones to the end of its last page: its counts, its list and its messages say
+-- all of them. Two nodes with the same queue and the same line of a group have the same of its messages in the buffer; so nodes that agree are
+-- the same. A node's dump is its map, and is read back from any memory that begins with it. Assumes nothing.
 use Prim.Native.Nat.{ℕ, suc, _+_, _-_, _*_, _≤_}
 use mathlib.Core.Path.{_≡_, refl, sym, ap, _∙_, subst}
 use mathlib.Core.Bool.{true}
@@ -51,12 +50,12 @@ waiting-kept g p good w =
     let len : length (take (p .len) (p .words)) ≡ p .len = length-take-le (p .len) (p .words) (omega (arith, good .eight, w .few-words)) in
     let zeros : drop (p .len) (p .words) ≡ replicate (wordLimit - p .len) 0 =
     rw (length-drop, good .eight) at (all-same 0 (drop (p .len) (p .words)) (w .rest-zero)) in
-    let fits : length (take (p .len) (p .words)) ≤ wordLimit = omega (arith, w .few-words) in
-    let words : pad wordLimit (take (p .len) (p .words)) ≡ p .words =
-    pad-fits wordLimit (take (p .len) (p .words)) fits ∙ rw (len, ← zeros) (take-append-drop (p .len) (p .words)) in
-    λ i. record { len = len i; words = words i }
+    let short : length (take (p .len) (p .words)) ≤ wordLimit = omega (arith, w .few-words) in
+    let same : pad wordLimit (take (p .len) (p .words)) ≡ p .words =
+    pad-fits wordLimit (take (p .len) (p .words)) short ∙ rw (len, ← zeros) (take-append-drop (p .len) (p .words)) in
+    λ i. record { len = len i; words = same i }
 
--- and so are those of all
+-- and so with all of them
 waitings-kept : (g : ℕ) (ps : List Place) → Every GoodPlace ps → Every GoodWaiting ps → map placeOf (map (messageOf g) ps) ≡ ps
 waitings-kept g [] good w = refl
 waitings-kept g (p ∷ ps) good w =
@@ -86,7 +85,7 @@ places-told {b} v g good =
 
 module _ {b : Build} (n k : Node) (v : Valid b n) (w : Valid b k) (a : Agree n k) where
   module _ (g : ℕ) (low : 1 ≤ g) (high : g ≤ groupCount) where
-    -- have the same messages of each group in its buffer
+    -- they have the same messages of a group in its buffer
     same-messages : inBuffer n g ≡ inBuffer k g
     unfolding line inQueue
     same-messages =
@@ -103,6 +102,7 @@ module _ {b : Build} (n k : Node) (v : Valid b n) (w : Valid b k) (a : Agree n k
         let other = places-told (groupOf k g .buffer) g (group-good (valid-sound w) g low high .buffer) in
         one ∙ rw (its .used, its .count, its .pages, same) (sym other)
 
+    -- the same group
     same-group : groupOf n g ≡ groupOf k g
     same-group =
         let its = a .groups g low high in
@@ -115,6 +115,7 @@ module _ {b : Build} (n k : Node) (v : Valid b n) (w : Valid b k) (a : Agree n k
           descriptor = its .descriptor i;
         }
 
+  -- and all of them
   same-groups : n .groups ≡ k .groups
   unfolding groupOf
   same-groups =
@@ -144,7 +145,7 @@ dump-map m h =
 dump-words : (m m′ : List ℕ) → isMemory m ≡ true → dump m ≡ dump m′ → words (nodeAt m) ++ drop size m′ ≡ m′
 dump-words m m′ h e = rw (← dump-map m h, e) (take-append-drop size m′)
 
--- what order 3 promises
+-- the promise
 pub dumps : Dumps
 dumps =
     record {

@@ -32,7 +32,7 @@ use Rattle.rules.proofs.Map.MapLaws.{test-valid}
 -- Words that are 0.
 
 module _ (m : List ℕ) where
-  -- one of some that all are
+  -- one of words that are all 0
   zero-word : (a k i : ℕ) → Every Zero (wordsAt m a k) → i < k → word m (a + i) ≡ 0
   zero-word a k i e h =
       rw (getD-wordsAt m a k i h) at (every-getD Zero (wordsAt m a k) i 0 e (rw (length-wordsAt m a k) h))
@@ -102,6 +102,7 @@ module _ (m : List ℕ) (h : isMemory m ≡ true) where
   -- place i of the page that the list of group g names at index j
   module _ (g : ℕ) (low : 1 ≤ g) (high : g ≤ groupCount) (j i : ℕ) (listed : j < length (groupOf (nodeAt m) g .buffer .frames))
       (place : i < paper01 .perFrame) where
+    -- the group's buffer
     abbrev its : Buffer
     its = groupOf (nodeAt m) g .buffer
 
@@ -113,15 +114,18 @@ module _ (m : List ℕ) (h : isMemory m ≡ true) where
     abbrev address : ℕ
     address = frameAddress (getD (its .frames) j 0) + placeStride * i
 
+    -- the buffer is good
     its-good : GoodBuffer paper01 its
     its-good = group-good (valid-sound (test-valid m h)) g low high .buffer
 
+    -- the place stands there
     its-place : getD (its .places) at emptyPlace ≡ placeAt m address
     unfolding groupOf
     its-place =
         let read = every-getD _ (nodeAt m .groups) (pred g) emptyGroup places-read (within (valid-sound (test-valid m h)) g low high) in
         rw read (page-place m (its .frames) j i emptyPlace listed place)
 
+    -- and is one of the buffer's
     its-inside : at < length (its .places)
     its-inside = omega (arith, its-good .whole)
 
@@ -137,7 +141,7 @@ module _ (m : List ℕ) (h : isMemory m ≡ true) where
             let waits : WaitsIn its (getD (its .frames) j 0) i = record { index = j; listed = listed; number = refl; behind-used = omega arith; before-end = end } in
             absurd (other (record { waits = record { group = g; group-low = low; group-high = high; waits = waits }; within = omega arith }))
 
-  -- a page's are
+  -- so are those of a page that is found by its number
   page-clean : (p i k : ℕ) → 1 ≤ countOf p (concatMap frameList (nodeAt m .groups)) → i < paper01 .perFrame → k < placeStride
       → ¬ PartOf m p i k → word m (frameAddress p + placeStride * i + k) ≡ 0
   unfolding groupOf frameList
@@ -149,7 +153,7 @@ module _ (m : List ℕ) (h : isMemory m ≡ true) where
       subst (λ (x : ℕ). ¬ PartOf m x i k → word m (frameAddress x + placeStride * i + k) ≡ 0) (at .1 .1)
       (listed-clean (suc (whose .0)) (omega arith) (omega arith) (at .0) i (at .1 .0) place k inside)
 
-  -- and each frame or swap page is a buffer's or none's
+  -- every frame or swap page is one of these
   pub clean : Clean m
   clean = record { others-zero = λ p i k below place inside. go p i k below place inside (countOf p (concatMap frameList (nodeAt m .groups))) refl }
     where

@@ -2,7 +2,7 @@
 -- divides. Storing finds room or takes a frame, and puts the message behind the waiting ones; removing uses up the first place or frees the
 -- first frame. Either way the buffer stays good, its places but the waiting ones wiped, and each frame stands as often as it did, in the free
 -- line and the buffer's list together, which is said for any weight of frames. Assumes nothing.
-use Prim.Native.Nat.{ℕ, _+_, _-_, _*_, _≤_, _<_}
+use Prim.Native.Nat.{ℕ, zero, suc, _+_, _-_, _*_, _≤_, _<_}
 use mathlib.Core.Path.{_≡_, refl, sym, ap, _∙_}
 use mathlib.Core.Logic.{_≢_}
 use mathlib.Core.Bool.{Bool, true, false, cond, not, _||_}
@@ -12,7 +12,7 @@ use native.Mathlib.Numerals.{add-one}
 use native.Mathlib.Decide.{ℕ-discrete}
 use native.Mathlib.Omega.{arith}
 use lib.Dec.{ltb, eqb}
-use lib.ListN.{length, take, drop, getD, set, length-append, length-set, length-drop, length-take, length-replicate}
+use lib.ListN.{length, take, drop, getD, set, replicate, length-append, length-set, length-drop, length-take, length-replicate}
 use lib.Seq.{drop-drop, take-append-le, drop-append-le, take-set-le, drop-set-lt, take-suc-set}
 use borrow.Author.Tests.{ltb-true, ltb-false, eqb-true, eqb-false, eq-eqb, ne-eqb}
 use Rattle.rules.specs.Lists.{Every, countOf}
@@ -106,6 +106,27 @@ page-good b = every-replicate GoodPlace (b .perFrame) emptyPlace place-good
 page-wiped : (b : Build) → Every Wiped (emptyPage b)
 unfolding emptyPage
 page-wiped b = every-replicate Wiped (b .perFrame) emptyPlace place-wiped
+
+-- words that are all 0
+zeros-all : (k : ℕ) (ws : List ℕ) → length ws ≡ k → Every Zero ws → ws ≡ replicate k 0
+zeros-all zero [] l e = refl
+zeros-all zero (w ∷ ws) l e = absurd (omega arith)
+zeros-all (suc k) [] l e = absurd (omega arith)
+zeros-all (suc k) (w ∷ ws) l e = let r = zeros-all k ws (omega arith) (e .1) in cc (e .0, r)
+
+-- a place that is wiped is the empty one
+pub wiped-place : (p : Place) → GoodPlace p → Wiped p → p ≡ emptyPlace
+wiped-place p good wiped =
+    let words = zeros-all wordLimit (p .words) (good .eight) (wiped .words-zero) in
+    λ i. record { len = wiped .len-zero i; words = words i }
+
+-- so are places that all are
+pub wiped-places : (ps : List Place) → Every GoodPlace ps → Every Wiped ps → ps ≡ replicate (length ps) emptyPlace
+wiped-places [] good wiped = refl
+wiped-places (p ∷ ps) good wiped =
+    let first = wiped-place p (good .0) (wiped .0) in
+    let rest = wiped-places ps (good .1) (wiped .1) in
+    cc
 
 -- what holds of the elements from k on holds of those from a later one on
 pub every-later : {A : Type 0} (P : A → Type 0) (k j : ℕ) (xs : List A) → k ≤ j → Every P (drop k xs) → Every P (drop j xs)

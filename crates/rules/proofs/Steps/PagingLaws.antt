@@ -299,12 +299,16 @@ module _ {b : Build} {n : Node} (s : Sound b n) where
   pub swap-none : (k : ℕ) → k < b .frames → countOf k (n .paging .swap) ≡ 0
   swap-none k below = count-out (IsSwap b) k (n .paging .swap) (s .swap-numbers) (λ h. omega arith)
 
-  -- a page that a group has is below all pages, and stands in no line and once in the lists
+  -- a page that a group has is one of all pages
+  pub listed-below : (p : ℕ) → Listed p n → p < pageCount b
+  listed-below p listed =
+      count-in (λ k. k < pageCount b) p (frameNumbers n) (once-bounded (pageCount b) (frameNumbers n) (s .frames-once) (s .frames-all)) (omega (arith, counted p))
+
+  -- it stands in no line, and once in the lists
   pub listed-once : (p : ℕ) → Listed p n
       → (countOf p (n .free) ≡ 0) × ((countOf p (n .paging .swap) ≡ 0) × (countOf p (concatMap frameList (n .groups)) ≡ 1))
   listed-once p listed =
-      let below = count-in (λ k. k < pageCount b) p (frameNumbers n) (once-bounded (pageCount b) (frameNumbers n) (s .frames-once) (s .frames-all)) (omega (arith, counted p)) in
-      let once = s .frames-once p below in
+      let once = s .frames-once p (listed-below p listed) in
       let all = counted p in
       (omega arith, (omega arith, omega arith))
 

@@ -1,18 +1,17 @@
 -- The place of a buffer's first message is wiped, before the message goes: from the words written to the node that the memory then holds, and
 -- from that node to the one in which the message is removed. Assumes nothing.
-use Prim.Native.Nat.{ℕ, suc, pred, _+_, _*_, _≤_}
-use native.Mathlib.Numerals.{add-one}
+use Prim.Native.Nat.{ℕ, suc, pred, _+_, _-_, _*_, _≤_, _<_}
 use native.Mathlib.Omega.{arith}
-use mathlib.Core.List.{List, [], _∷_, _++_}
+use mathlib.Core.List.{List, [], _∷_}
 use mathlib.Core.Logic.{_≢_, _⊎_, inl, inr}
 use mathlib.Core.Path.{_∙_, _≡_, ap, refl}
 use lib.ListN.{drop, getD, length, length-set, replicate, set, take}
 use lib.Seq.{drop-set-lt, getD-set-same, length-take-le, set-set, set-split, take-set-le, take-suc-set}
 use borrow.Author.Tests.{eq-eqb, ne-eqb}
-use Rattle.rules.specs.Build.{groupCount, paper01}
+use Rattle.rules.specs.Build.{groupCount, pageCount, paper01}
 use Rattle.rules.specs.Frames.{Stock, firstFrame, freeFirst, removeFirst, useUp, withStock}
 use Rattle.rules.specs.Lists.{Every}
-use Rattle.rules.specs.Memory.{frameAddress, groupAddress, listOffset, placeStride, placeWords, usedOffset, word}
+use Rattle.rules.specs.Memory.{countOffset, frameAddress, groupAddress, listOffset, placeStride, placeWords, usedOffset, word}
 use Rattle.rules.specs.Node.{Buffer, Group, Node, emptyGroup, emptyPage, emptyPlace, groupOf, unused, withBuffer, withEntered, withFree, withGroup, withPaging}
 use Rattle.rules.specs.Sound.{Mapped}
 use Rattle.rules.specs.Valid.{GoodPlace, Wiped}
@@ -21,6 +20,7 @@ use Rattle.rules.proofs.Steps.FrameLaws.{place-good, place-wiped, wiped-places}
 use Rattle.rules.proofs.Steps.NodeLaws.{group-same}
 use Rattle.memory.specs.Holds.{Emptied, Holds, Waits, freeing, placed, removing, usingUp, wiping, withCounts}
 use Rattle.memory.specs.Writes.{Wrote}
+use Rattle.memory.proofs.CountLaws.{its-bounded}
 use Rattle.memory.proofs.PieceLaws.{holds-pieces, pieces-hold}
 use Rattle.memory.proofs.buffer.PutLaws.{place-put}
 use Rattle.memory.proofs.group.GroupLaws.{group-whole, group-words, list-line, mapped-group}
@@ -31,6 +31,16 @@ use Rattle.memory.proofs.lines.LineLaws.{line-first}
 -- the address of the first message's place, as it is read from memory
 abbrev pub firstAt : List ℕ → ℕ → ℕ
 firstAt m g = frameAddress (word m (groupAddress g + listOffset)) + placeStride * word m (groupAddress g + usedOffset)
+
+-- it is one of a page's
+pub first-place : {m : List ℕ} {n : Node} {r : List ℕ} → Holds m n r → (g : ℕ) → 1 ≤ g → g ≤ groupCount → Waits g n
+    → (word m (groupAddress g + listOffset) < pageCount paper01) × (word m (groupAddress g + usedOffset) < paper01 .perFrame)
+first-place h g low high waits =
+    let p = holds-pieces h in
+    let v = h .mapped in (
+      rw (line-first (list-line p v g low high) (waits .held)) (its-bounded v g low high 0 (waits .held)),
+      rw (group-words p v g low high .used) (waits .used),
+    )
 
 -- its words are written, all of them 0
 pub wiping-held : {m m₁ : List ℕ} {n : Node} {r : List ℕ} → Holds m n r → (g : ℕ) → 1 ≤ g → g ≤ groupCount → Waits g n
@@ -62,6 +72,14 @@ module _ {n : Node} (v : Mapped n) (g : ℕ) (low : 1 ≤ g) (high : g ≤ group
   wiped-group : groupOf (wiping g n) g ≡ placed (groupOf n g .buffer .used) emptyPlace (groupOf n g)
   unfolding wiping
   wiped-group = group-same n g (placed (groupOf n g .buffer .used) emptyPlace (groupOf n g)) (omega (arith, v .group-count))
+
+  -- its counts are read as they were
+  pub wiped-counts : {m r : List ℕ} → Holds m (wiping g n) r
+      → (word m (groupAddress g + countOffset) ≡ groupOf n g .buffer .count) × (word m (groupAddress g + usedOffset) ≡ groupOf n g .buffer .used)
+  unfolding placed withBuffer
+  wiped-counts h =
+      let words = group-words (holds-pieces h) (h .mapped) g low high in
+      (words .count ∙ ap (λ (G : Group). G .buffer .count) wiped-group, words .used ∙ ap (λ (G : Group). G .buffer .used) wiped-group)
 
   module _ (waits : Waits g n) where
     abbrev its : Buffer
@@ -140,11 +158,10 @@ module _ {n : Node} (v : Mapped n) (g : ℕ) (low : 1 ≤ g) (high : g ≤ group
 
     -- nor does a frame freed
     freeing-wiped : freeing g (wiping g n) ≡ freeing g n
-    unfolding freeing freeFirst firstFrame placed withBuffer
+    unfolding freeing freeFirst firstFrame placed withBuffer wiping withGroup
     freeing-wiped =
         let behind = drop-set-lt 8 (its .places) (its .used) emptyPlace (waits .used) in
-        let other : (wiping g n .free ≡ n .free) × (wiping g n .paging ≡ n .paging) = unfold wiping withGroup in (refl, refl) in
-        rw (wiped-group, other .0, other .1, behind) (stock-wiped (freeFirst paper01 (n .free) (n .paging .entered) its))
+        rw (wiped-group, behind) (stock-wiped (freeFirst paper01 (n .free) (n .paging .entered) its))
 
     -- used up, it is what the rules use up
     using-wiped : usingUp g (wiping g n) ≡ withStock g (useUp (n .free) (n .paging .entered) its) n

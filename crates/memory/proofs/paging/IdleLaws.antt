@@ -59,9 +59,9 @@ trading-sym p q n = ap (λ (Gs : List Group). withGroups Gs n) (groups (n .group
         cc
 
 -- the words of a line's pages are kept where those of all pages but p and q are, and neither stands in the line
-line-kept : {m m₁ : List ℕ} (p q : ℕ) → ((x : ℕ) → x ≢ p → x ≢ q → Follows m m₁ x x) → (xs : List ℕ) → countOf p xs ≡ 0 → countOf q xs ≡ 0
+line-kept : (m m₁ : List ℕ) (p q : ℕ) → ((x : ℕ) → x ≢ p → x ≢ q → Follows m m₁ x x) → (xs : List ℕ) → countOf p xs ≡ 0 → countOf q xs ≡ 0
     → Every (λ x. Follows m m₁ x x) xs
-line-kept {m} {m₁} p q kept xs no-p no-q = both xs (count-none p xs no-p) (count-none q xs no-q)
+line-kept m m₁ p q kept xs no-p no-q = both xs (count-none p xs no-p) (count-none q xs no-q)
   where
     both : (xs : List ℕ) → Every (λ x. x ≢ p) xs → Every (λ x. x ≢ q) xs → Every (λ x. Follows m m₁ x x) xs
     both [] a b = tt
@@ -76,8 +76,8 @@ module _ {m m′ : List ℕ} {n : Node} {r : List ℕ} (k : Pieces m n r) (v : L
         let w = moved .copied in
         let z = moved .wiped in
         pages-put k v lp lq (z .same-length ∙ w .same-length) (moved-else p q apart w z lp lq) (moved .lists)
-        (line-kept p q (moved-kept p q apart w z) (n .free) p-free idle-free)
-        (line-kept p q (moved-kept p q apart w z) (n .paging .swap) p-swap idle-swap)
+        (line-kept m (moved .once) p q (moved-kept p q apart w z) (n .free) p-free idle-free)
+        (line-kept m (moved .once) p q (moved-kept p q apart w z) (n .paging .swap) p-swap idle-swap)
         (λ i h.
         every-mono _ _ (λ x other. moved-follows p q apart w z x other) (getD (n .groups) i emptyGroup .buffer .frames)
         (list-others q n (v .group-count) unlisted i h))
@@ -96,8 +96,8 @@ module _ {m m′ : List ℕ} {n : Node} {r : List ℕ} (k : Pieces m n r) (v : L
     swapped-put swapped =
         let s = swapped .swapped in
         pages-put k v lp lq (s .same-length) (swapped-else p q s lp lq) (swapped .lists)
-        (line-kept p q (swapped-kept p q s) (n .free) p-free idle-free)
-        (line-kept p q (swapped-kept p q s) (n .paging .swap) p-swap idle-swap)
+        (line-kept m (swapped .between) p q (swapped-kept p q s) (n .free) p-free idle-free)
+        (line-kept m (swapped .between) p q (swapped-kept p q s) (n .paging .swap) p-swap idle-swap)
         (λ i h. every-all swapped (getD (n .groups) i emptyGroup .buffer .frames))
       where
         every-all : (s : PagesSwapped m m′ p q) (xs : List ℕ) → Every (λ x. Follows m (s .between) x (traded p q x)) xs

@@ -12,14 +12,14 @@ use lib.Seq.{drop-drop, length-take-le, take-at, ext-getD}
 use Rattle.rules.specs.Lists.{Every, pad}
 use Rattle.rules.specs.Build.{Build, groupCount, wordLimit}
 use Rattle.rules.specs.Node.{Message, Place, Buffer, Node, emptyPlace, emptyGroup, groupOf, placeOf, messageOf, waiting, inBuffer, inQueue, line}
-use Rattle.rules.specs.Valid.{GoodPlace, GoodWaiting, Wiped, GoodBuffer, Valid}
+use Rattle.rules.specs.Valid.{GoodPlace, GoodWaiting, GoodBuffer, Valid}
 use Rattle.rules.specs.Memory.{size, words, nodeAt}
 use Rattle.rules.specs.MemoryTest.{isMemory, stepMemory, powerOnMemory}
 use Rattle.rules.specs.Dumps.{dump, Agree, Dumps}
-use Rattle.rules.proofs.Steps.EveryLaws.{every-of, every-at, every-take, every-drop}
+use Rattle.rules.proofs.Steps.EveryLaws.{every-same, every-take, every-drop}
 use Rattle.rules.proofs.Steps.ListLaws.{pad-fits}
 use Rattle.rules.proofs.Steps.SoundLaws.{valid-sound, valid-mapped}
-use Rattle.rules.proofs.Steps.FrameLaws.{fits, both-wiped}
+use Rattle.rules.proofs.Steps.FrameLaws.{fits, wiped-places, both-wiped}
 use Rattle.rules.proofs.Steps.NodeLaws.{group-good}
 use Rattle.rules.proofs.Map.MapRead.{words-length}
 use Rattle.rules.proofs.Map.MapLaws.{read-back, test-written, test-valid, test-words}
@@ -28,28 +28,13 @@ use Rattle.rules.proofs.Demands.DemandOneLaws.{demand-one}
 
 -- Places.
 
--- a list whose elements all are one
-all-same : {A : Type 0} (y : A) (xs : List A) → Every (λ x. x ≡ y) xs → xs ≡ replicate (length xs) y
-all-same y [] e = refl
-all-same y (x ∷ xs) e = let r = all-same y xs (e .1) in let q = e .0 in cc
-
--- a wiped place is empty
-wiped-empty : (p : Place) → GoodPlace p → Wiped p → p ≡ emptyPlace
-wiped-empty p good w =
-    let zeros : p .words ≡ replicate wordLimit 0 = rw (good .eight) at (all-same 0 (p .words) (w .words-zero)) in
-    λ i. record { len = w .len-zero i; words = zeros i }
-
--- so wiped places are as many empty ones
-wiped-empties : (ps : List Place) → Every GoodPlace ps → Every Wiped ps → ps ≡ replicate (length ps) emptyPlace
-wiped-empties ps good w = all-same emptyPlace ps (every-of _ ps (λ p h. wiped-empty p (every-at GoodPlace good h) (every-at Wiped w h)))
-
 -- the place of a waiting message is the message as it is kept
 waiting-kept : (g : ℕ) (p : Place) → GoodPlace p → GoodWaiting p → placeOf (messageOf g p) ≡ p
 unfolding placeOf messageOf
 waiting-kept g p good w =
     let len : length (take (p .len) (p .words)) ≡ p .len = length-take-le (p .len) (p .words) (omega (arith, good .eight, w .few-words)) in
     let zeros : drop (p .len) (p .words) ≡ replicate (wordLimit - p .len) 0 =
-    rw (length-drop, good .eight) at (all-same 0 (drop (p .len) (p .words)) (w .rest-zero)) in
+    rw (length-drop, good .eight) at (every-same 0 (drop (p .len) (p .words)) (w .rest-zero)) in
     let short : length (take (p .len) (p .words)) ≤ wordLimit = omega (arith, w .few-words) in
     let same : pad wordLimit (take (p .len) (p .words)) ≡ p .words =
     pad-fits wordLimit (take (p .len) (p .words)) short ∙ rw (len, ← zeros) (take-append-drop (p .len) (p .words)) in
@@ -73,10 +58,10 @@ places-told {b} v g good =
     let ps = v .places in
     let up : take (v .used) ps ≡ replicate (v .used) emptyPlace =
     rw (length-take-le (v .used) ps (omega (arith, fits good))) at
-    (wiped-empties (take (v .used) ps) (every-take GoodPlace (v .used) ps (good .places)) (both-wiped good .0)) in
+    (wiped-places (take (v .used) ps) (every-take GoodPlace (v .used) ps (good .places)) (both-wiped good .0)) in
     let end : drop (v .used + v .count) ps ≡ replicate (length (v .frames) * b .perFrame - (v .used + v .count)) emptyPlace =
     rw (length-drop, good .whole) at
-    (wiped-empties (drop (v .used + v .count) ps) (every-drop GoodPlace (v .used + v .count) ps (good .places)) (both-wiped good .1)) in
+    (wiped-places (drop (v .used + v .count) ps) (every-drop GoodPlace (v .used + v .count) ps (good .places)) (both-wiped good .1)) in
     let kept : map placeOf (map (messageOf g) (waiting v)) ≡ waiting v =
     waitings-kept g (waiting v) (every-take GoodPlace (v .count) (drop (v .used) ps) (every-drop GoodPlace (v .used) ps (good .places))) (good .waiting-good) in
     rw (← up, ← end, kept, ← drop-drop (v .count) (v .used) ps, take-append-drop (v .count) (drop (v .used) ps)) (sym (take-append-drop (v .used) ps))

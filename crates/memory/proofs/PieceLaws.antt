@@ -12,15 +12,14 @@ use Rattle.rules.specs.Lists.{Every, concatMap, countOf, upFrom}
 use Rattle.rules.specs.Build.{paper01, pageCount, groupCount}
 use Rattle.rules.specs.Node.{Place, Node, emptyGroup, emptyPage}
 use Rattle.rules.specs.Valid.{idle, frameList}
-use Rattle.rules.specs.Memory.{runningAt, timerAt, queuedAt, freeCountAt, queueAt, freeAt, groupsAt, groupStride, framesAt, frameStride, placeStride, pagingAt, size, word, words, queueWords, lineWords, groupWords, placeWords, frameWords, pagingWords, allPages, frameAddress, Page, pagesOf, placesOf}
-use Rattle.rules.proofs.Steps.EveryLaws.{every-of, every-at, every-append, every-concat, every-getD, every-map, every-mapped, every-mono, every-unmap}
-use Rattle.rules.proofs.Steps.ListLaws.{length-parts}
+use Rattle.rules.specs.Memory.{runningAt, timerAt, queuedAt, freeCountAt, queueAt, freeAt, groupsAt, groupStride, framesAt, frameStride, pagingAt, size, word, words, queueWords, lineWords, groupWords, placeWords, frameWords, pagingWords, allPages, frameAddress, Page, pagesOf, placesOf}
+use Rattle.rules.proofs.Steps.EveryLaws.{every-of, every-at, every-append, every-concat, every-getD, every-map, every-mapped, every-unmap}
+use Rattle.rules.proofs.Steps.ListLaws.{every-counted}
 use Rattle.rules.specs.Sound.{Mapped}
 use Rattle.rules.proofs.Map.MapWords.{Stands, stands-append, stands-nil, parts-stand, front-stands, stands-front}
-use Rattle.rules.proofs.Map.MapParts.{length-group, length-place}
+use Rattle.rules.proofs.Map.MapParts.{length-group}
 use Rattle.rules.proofs.Map.PageLaws.{found, GoodPage, pageNumber, empty-good}
-use Rattle.rules.proofs.Map.MapFrames.{all-good, all-numbers, numbers-bounded, each-found, idle-empty, idle-unlisted, unlisted-idle, length-frame}
-use Rattle.rules.proofs.Steps.PagingLaws.{count-in}
+use Rattle.rules.proofs.Map.MapFrames.{page-length, all-good, all-numbers, numbers-bounded, each-found, idle-empty, idle-unlisted, unlisted-idle, length-frame}
 use Rattle.rules.proofs.Map.MapRead.{MapStands, map-stands, words-length}
 use Rattle.memory.specs.Holds.{Holds}
 
@@ -90,16 +89,11 @@ by-number : (m : List ℕ) (j : ℕ) (y : Page) (ps : List Place) → y .number 
     → Stands m (frameAddress j) (concatMap placeWords ps)
 by-number m j y ps e q h = rw (q, ← e) (h .stands)
 
--- the words of a whole page are 72
-pub length-good : (x : Page) → WholePage x → length (concatMap placeWords (x .places)) ≡ frameStride
-length-good x good =
-    length-parts placeWords placeStride (x .places) (every-mono _ _ length-place (x .places) (good .places)) ∙ ap (λ (k : ℕ). placeStride * k) (good .whole)
-
 -- a whole page of one of the 96 numbers stands where its words do
 pub page-stands : (m : List ℕ) (x : Page) → WholePage x → x .number < pageCount paper01
     → Stands m (frameAddress (x .number)) (concatMap placeWords (x .places)) → PageStands m x
 unfolding frameAddress
-page-stands m x good below s = record { stands = s; inside = omega (arith, length-good x good) }
+page-stands m x good below s = record { stands = s; inside = omega (arith, page-length (x .places) good) }
 
 module _ (m : List ℕ) (n : Node) (v : Mapped n) where
   -- the frames' region stands page by page: those that no buffer holds, and those of the buffers
@@ -123,7 +117,7 @@ module _ (m : List ℕ) (n : Node) (v : Mapped n) where
       held-or-idle : Every (PageStands m) (map emptied (idle n)) → Every (PageStands m) (allPages n) → (j : ℕ) → j < pageCount paper01
           → (c : ℕ) → countOf j (concatMap frameList (n .groups)) ≡ c → Stands m (frameAddress j) (concatMap placeWords (placesOf paper01 j (allPages n)))
       held-or-idle idles pages j k zero e =
-          let stands = count-in (λ f. PageStands m (emptied f)) j (idle n) (every-unmap (PageStands m) emptied (idle n) idles) (unlisted-idle n v j k e) in
+          let stands = every-counted (λ f. PageStands m (emptied f)) j (idle n) (every-unmap (PageStands m) emptied (idle n) idles) (unlisted-idle n v j k e) in
           rw (idle-empty n j e) (stands .stands)
       held-or-idle idles pages j k (suc c) e =
           let t = found paper01 j (PageStands m) (allPages n) (rw (all-numbers n) (omega arith)) pages in

@@ -8,5 +8,6 @@ pub mod MapPaging
 pub mod MapTest
 pub mod MapRead
 pub mod MapLaws
+pub mod MapClean
 pub mod MapHead
 pub mod RunMemory

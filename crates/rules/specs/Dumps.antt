@@ -1,5 +1,6 @@
--- What order 3 promises "[r]eaders [who] compare memory dumps": a frame or swap page has no old words, so a dump tells nothing but the node. Two
--- nodes with the same lines, lists, orders, flags and counts have the same dump. Assumes nothing.
+-- Order 3's promise to readers, who "compare memory dumps and stumble over old words in free frames": a frame or swap page has no old words, so
+-- a dump has nothing in it that the node does not tell. Two nodes with the same lines, lists, orders, flags and counts have the same dump.
+-- Assumes nothing.
 use Prim.Native.Nat.{ℕ, _+_, _*_, _≤_, _<_}
 use mathlib.Core.Path.{_≡_}
 use mathlib.Core.Bool.{true}
@@ -14,8 +15,8 @@ use Rattle.rules.specs.MemoryTest.{isMemory, stepMemory, powerOnMemory}
 
 -- No old words.
 
--- a message of this buffer waits at place i of the frame or swap page with number p: its list names p, and of its places this one is behind the
--- h used-up ones and among the n waiting
+-- a message of this buffer waits at place i of the frame or swap page with number p: the list names p, and counted over its pages the place is
+-- one of the n behind the h used-up ones
 pub record WaitsIn (v : Buffer) (p i : ℕ) : Type 0 where
   pub index : ℕ
   pub listed : index < length (v .frames)
@@ -23,7 +24,7 @@ pub record WaitsIn (v : Buffer) (p i : ℕ) : Type 0 where
   pub behind-used : v .used ≤ paper01 .perFrame * index + i
   pub before-end : paper01 .perFrame * index + i < v .used + v .count
 
--- a message waits there
+-- a message of some group waits there
 pub record WaitsAt (n : Node) (p i : ℕ) : Type 0 where
   pub group : ℕ
   pub group-low : 1 ≤ group
@@ -50,8 +51,8 @@ pub record Clean (m : List ℕ) : Type 0 where
 abbrev pub dump : List ℕ → List ℕ
 dump m = take size m
 
--- two nodes have the same of group g: its flags, its counts h and n, where its pages are, its descriptor, its line
-pub record SameGroup (n k : Node) (g : ℕ) : Type 0 where
+-- two nodes agree in group g: its flags, its counts h and n, its list of pages, its descriptor, its line
+pub record AgreeIn (n k : Node) (g : ℕ) : Type 0 where
   pub atomic : groupOf n g .atomic ≡ groupOf k g .atomic
   pub pending : groupOf n g .pending ≡ groupOf k g .pending
   pub force : groupOf n g .force ≡ groupOf k g .force
@@ -62,7 +63,7 @@ pub record SameGroup (n k : Node) (g : ℕ) : Type 0 where
   pub descriptor : groupOf n g .descriptor ≡ groupOf k g .descriptor
   pub messages : line n g ≡ line k g
 
--- and the same of all that a reader can tell of a node
+-- they agree in all that a reader can tell of a node
 pub record Agree (n k : Node) : Type 0 where
   pub running : n .running ≡ k .running
   pub timer : n .timer ≡ k .timer
@@ -72,21 +73,21 @@ pub record Agree (n k : Node) : Type 0 where
   pub entered : n .paging .entered ≡ k .paging .entered
   pub out : n .paging .out ≡ k .paging .out
   pub brought : n .paging .brought ≡ k .paging .brought
-  pub groups : (g : ℕ) → 1 ≤ g → g ≤ groupCount → SameGroup n k g
+  pub groups : (g : ℕ) → 1 ≤ g → g ≤ groupCount → AgreeIn n k g
 
 -- The promise.
 
 pub record Dumps : Type 0 where
-  -- memory that is a node has no old words
+  -- a node's memory has no old words
   pub clean : (m : List ℕ) → isMemory m ≡ true → Clean m
-  -- nor has it after a step, accepted or refused
+  -- nor has it after any step, accepted or refused
   pub step-clean : (m : List ℕ) (op : Operation) → isMemory m ≡ true → Clean (stepMemory m op .memory)
   -- nor after power-on, whatever stood there
   pub power-on-clean : (m : List ℕ) → size ≤ length m → Clean (powerOnMemory m .memory)
-  -- nodes of any build that agree in what a reader can tell are the same node
+  -- nodes that agree are the same node, in every build
   pub same-node : (b : Build) (n k : Node) → Valid b n → Valid b k → Agree n k → n ≡ k
   -- so their dumps are equal
   pub same-dump : (m m′ : List ℕ) → isMemory m ≡ true → isMemory m′ ≡ true → Agree (nodeAt m) (nodeAt m′) → dump m ≡ dump m′
-  -- and memory with an equal dump is a node too, the same one
+  -- and memory with the dump of a node is a node, the same one
   pub node-by-dump : (m m′ : List ℕ) → isMemory m ≡ true → dump m ≡ dump m′ → isMemory m′ ≡ true
   pub same-by-dump : (m m′ : List ℕ) → isMemory m ≡ true → dump m ≡ dump m′ → nodeAt m ≡ nodeAt m′

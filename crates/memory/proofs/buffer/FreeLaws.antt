@@ -1,24 +1,21 @@
--- The first message of a buffer goes: its place is wiped and then used up, or its frame, in which no other message waits, is freed and leaves
--- the order of entry. From writes to the node that the memory then holds. Assumes nothing.
+-- The first message of a buffer, whose place is wiped by then, goes: its place is used up, or its frame is freed and leaves the order of entry.
+-- From writes to the node that the memory then holds. Assumes nothing.
 use Prim.Native.Nat.{_+_, _-_, _<_, _≤_, pred, suc, ℕ}
 use native.Mathlib.Omega.{arith}
 use mathlib.Core.List.{List, [], _++_, _∷_, map, map-append}
-use mathlib.Core.Logic.{_≢_}
 use mathlib.Core.Path.{_∙_, _≡_, ap, refl, sym}
 use lib.ListN.{drop, getD, length, length-append, length-drop, take}
-use lib.Seq.{length-take-le}
-use borrow.Author.Tests.{eq-eqb, ne-eqb}
 use Rattle.rules.specs.Build.{groupCount, pageCount, paper01}
-use Rattle.rules.specs.Frames.{firstFrame, freeFirst, removeFirst, useUp, withStock}
+use Rattle.rules.specs.Frames.{firstFrame, freeFirst, withStock}
 use Rattle.rules.specs.Lists.{Every}
 use Rattle.rules.specs.Memory.{countOffset, freeAt, freeCountAt, groupAddress, groupWords, heldOffset, listOffset, size, usedOffset, word, pagesFrom, pagesOf}
-use Rattle.rules.specs.Node.{Node, groupOf, withBuffer, withEntered, withFree, withGroup, withPaging, emptyPage, emptyPlace, unused}
-use Rattle.rules.specs.Valid.{GoodPlace, Wiped}
-use Rattle.rules.proofs.Steps.EveryLaws.{every-append, every-drop, every-take}
+use Rattle.rules.specs.Node.{Node, groupOf, withBuffer, withEntered, withFree, withGroup, withPaging, emptyPage}
+use Rattle.rules.specs.Valid.{GoodPlace}
+use Rattle.rules.proofs.Steps.EveryLaws.{every-append, every-drop}
 use Rattle.rules.proofs.Steps.FrameLaws.{held}
 use Rattle.rules.proofs.Steps.ListLaws.{weight-append}
 use Rattle.rules.proofs.Map.MapParts.{length-group}
-use Rattle.memory.specs.Holds.{Holds, InOrder, Waits, departing, freeing, releasing, removing, usingUp, withBoth, placed, withCounts, wiping, Emptied}
+use Rattle.memory.specs.Holds.{Holds, InOrder, Waits, departing, freeing, releasing, usingUp, withBoth, withCounts}
 use Rattle.memory.specs.Lines.{InLine, Joined, Left}
 use Rattle.memory.specs.Writes.{Wrote, groupFront, groupRead, recounted}
 use Rattle.memory.proofs.LinePieces.{free-line, free-put}
@@ -30,87 +27,7 @@ use Rattle.memory.proofs.PieceLaws.{PageStands, Pieces, holds-pieces, p
 use Rattle.memory.proofs.PieceWrites.{frames-above, group-put}
 use Rattle.memory.proofs.WriteLaws.{wrote-over, wrote-stands}
 
--- The first place is wiped.
-
--- its address, as it is read from memory
-abbrev pub firstAt : List ℕ → ℕ → ℕ
-firstAt m g = frameAddress (word m (groupAddress g + listOffset)) + placeStride * word m (groupAddress g + usedOffset)
-
-module _ {n : Node} (v : Mapped n) (g : ℕ) (low : 1 ≤ g) (high : g ≤ groupCount) where
-  -- the group that is wiped
-  wiped-group : groupOf (wiping g n) g ≡ placed (groupOf n g .buffer .used) emptyPlace (groupOf n g)
-  unfolding wiping
-  wiped-group = group-same n g (placed (groupOf n g .buffer .used) emptyPlace (groupOf n g)) (omega (arith, v .group-count))
-
-  -- a message waits as it did
-  pub wiping-waits : Waits g n → Waits g (wiping g n)
-  unfolding placed withBuffer unused wiping withGroup
-  wiping-waits w =
-      let B = groupOf n g .buffer in
-      let some = w .some in
-      let both = every-append Wiped (take (B .used) (B .places)) (drop (B .used + B .count) (B .places)) .0 (w .wiped) in
-      let front = take-set-le (B .used) (B .places) (B .used) emptyPlace (omega arith) in
-      let behind = drop-set-lt (B .used + B .count) (B .places) (B .used) emptyPlace (omega arith) in
-      rw wiped-group
-      (record {
-        some = w .some;
-        used = w .used;
-        held = w .held;
-        entered = w .entered;
-        order = w .order;
-        wiped = rw (front, behind) (every-append Wiped (take (B .used) (B .places)) (drop (B .used + B .count) (B .places)) .1 both);
-      })
-
-  -- and where it was the last of its page, the page is empty
-  pub wiping-emptied : Waits g n → (groupOf n g .buffer .count ≡ 1) ⊎ (groupOf n g .buffer .used + 1 ≡ 8) → Emptied g (wiping g n)
-  unfolding placed withBuffer unused
-  wiping-emptied w last =
-      let B = groupOf n g .buffer in
-      let held = w .held in
-      let whole = group-whole v g low high in
-      let long = whole .whole in
-      let ps = set (B .places) (B .used) emptyPlace in
-      let l = length-set (B .places) (B .used) emptyPlace in
-      let both = every-append Wiped (take (B .used) (B .places)) (drop (B .used + B .count) (B .places)) .0 (w .wiped) in
-      let good = every-take GoodPlace 8 ps (every-set GoodPlace (B .places) (B .used) emptyPlace (whole .places) place-good) in
-      record {
-        waits = wiping-waits w;
-        page = rw wiped-group (wiped-page paper01 (take 8 ps) (length-take-le 8 ps (omega arith)) good (go both last));
-      }
-    where
-      go : Every Wiped (take (groupOf n g .buffer .used) (groupOf n g .buffer .places))
-          × Every Wiped (drop (groupOf n g .buffer .used + groupOf n g .buffer .count) (groupOf n g .buffer .places))
-          → (groupOf n g .buffer .count ≡ 1) ⊎ (groupOf n g .buffer .used + 1 ≡ 8)
-          → Every Wiped (take 8 (set (groupOf n g .buffer .places) (groupOf n g .buffer .used) emptyPlace))
-      go both (inl one) = ?
-      go both (inr end) = ?
-
--- its words are written, all of them 0
-pub wiping-held : {m m₁ : List ℕ} {n : Node} {r : List ℕ} → Holds m n r → (g : ℕ) → 1 ≤ g → g ≤ groupCount → Waits g n
-    → Wrote m m₁ (firstAt m g) (replicate placeStride 0) → Holds m₁ (wiping g n) r
-unfolding wiping placed withGroup withFree withBuffer placeWords
-wiping-held {m} {m₁} {n} {r} h g low high waits w =
-    let v = h .mapped in
-    let p = holds-pieces h in
-    let words = group-words p v g low high in
-    let whole = group-whole v g low high in
-    let B = groupOf n g .buffer in
-    let first : word m (groupAddress g + listOffset) ≡ getD (B .frames) 0 0 = line-first (list-line p v g low high) (waits .held) in
-    let G = placed (B .used) emptyPlace (groupOf n g) in
-    let w′ : Wrote m m₁ (frameAddress (getD (B .frames) 0 0) + placeStride * B .used) (placeWords emptyPlace) = rw (first, words .used) at w in
-    let at : 8 * 0 + B .used ≡ B .used = omega arith in
-    let k = place-put p v g low high 0 (B .used) (waits .held) (waits .used) emptyPlace place-good w′ in
-    pieces-hold
-    (mapped-group v g low high G (n .free)
-    (record {
-      descriptor = whole .descriptor;
-      whole = length-set (B .places) (B .used) emptyPlace ∙ whole .whole;
-      places = every-set GoodPlace (B .places) (B .used) emptyPlace (whole .places) place-good;
-    })
-    (v .free-short) (λ w. refl))
-    (rw at at k)
-
--- It is used up.
+-- The first place is used up.
 
 pub using-up-held : {m m₁ : List ℕ} {n : Node} {r : List ℕ} → Holds m n r → (g : ℕ) → 1 ≤ g → g ≤ groupCount
     → Wrote m m₁ (groupAddress g)
@@ -249,16 +166,3 @@ free-room g reads gone w =
     let few = reads .free in
     let l = w .same-length ∙ left-length gone in
     (record { counted = omega arith; inside = omega arith }, (omega arith, omega arith))
-
--- which of the two it is, is read
-pub removing-last : (n : Node) (g : ℕ) → groupOf n g .buffer .count ≡ 1 → freeing g n ≡ removing g n
-unfolding freeing removing removeFirst
-removing-last n g e = rw (eq-eqb (groupOf n g .buffer .count) 1 e)
-
-pub removing-frame : (n : Node) (g : ℕ) → groupOf n g .buffer .count ≢ 1 → groupOf n g .buffer .used + 1 ≡ 8 → freeing g n ≡ removing g n
-unfolding freeing removing removeFirst
-removing-frame n g d e = rw (ne-eqb (groupOf n g .buffer .count) 1 d, eq-eqb (groupOf n g .buffer .used + 1) 8 e)
-
-pub removing-used : (n : Node) (g : ℕ) → groupOf n g .buffer .count ≢ 1 → groupOf n g .buffer .used + 1 ≢ 8 → usingUp g n ≡ removing g n
-unfolding usingUp removing removeFirst useUp
-removing-used n g d e = rw (ne-eqb (groupOf n g .buffer .count) 1 d, ne-eqb (groupOf n g .buffer .used + 1) 8 e)

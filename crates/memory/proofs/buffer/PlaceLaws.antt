@@ -17,11 +17,12 @@ use Rattle.rules.specs.Valid.{GoodPlace}
 use Rattle.rules.proofs.Steps.EveryLaws.{every-at, every-drop, every-mono, every-of, every-set, every-take, every-unmap}
 use Rattle.rules.proofs.Steps.ListLaws.{count-at, length-parts}
 use Rattle.rules.proofs.Map.PageLaws.{good-from, numbers-from, pageNumber}
+use Rattle.rules.proofs.Map.MapFrames.{page-length}
 use Rattle.rules.proofs.Map.MapParts.{length-place}
 use Rattle.rules.proofs.Map.MapWords.{Stands, stands-append}
 use Rattle.memory.specs.Writes.{Wrote}
 use Rattle.memory.proofs.CountLaws.{count-none}
-use Rattle.memory.proofs.PieceLaws.{PageStands, length-good, WholePage}
+use Rattle.memory.proofs.PieceLaws.{PageStands, WholePage}
 use Rattle.memory.proofs.WriteLaws.{kept-above, kept-below, wrote-stands}
 
 -- the words of a good frame are 72
@@ -67,7 +68,7 @@ module _ {m m′ : List ℕ} (f q : ℕ) (below : q < paper01 .perFrame) (x : Pl
       go : Dec (y .number < f) → PageStands m′ y
       go (yes l) =
           record {
-            stands = kept-below w (framesAt + frameStride * y .number) (concatMap placeWords (y .places)) (omega (arith, length-good y good)) (s .stands);
+            stands = kept-below w (framesAt + frameStride * y .number) (concatMap placeWords (y .places)) (omega (arith, page-length (y .places) good)) (s .stands);
             inside = s .inside;
           }
       go (no l) =

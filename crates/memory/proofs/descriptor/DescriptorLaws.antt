@@ -60,5 +60,5 @@ module _ {m : List ℕ} {n : Node} {r : List ℕ} (h : Holds m n r) (g : ℕ) (l
       (recordFront G ++ (length (G .buffer .frames) ∷ []))
       (length (G .descriptor) ∷ pad wordLimit (G .descriptor)) (listWords (G .buffer .frames)) refl (ap suc (length-pad wordLimit (G .descriptor) ∙ sym (length-pad wordLimit d))) (record-stands pieces g low high) in
       pieces-hold
-      (mapped-group v g low high (withDescriptor d G) (n .free) (record { descriptor = few; whole = whole .whole; places = whole .places }) (v .free-good) (v .free-short) (λ x. refl))
+      (mapped-group v g low high (withDescriptor d G) (n .free) (record { descriptor = few; whole = whole .whole; places = whole .places }) (v .free-short) (λ x. refl))
       (group-put pieces g low high (v .group-count) (withDescriptor d G) all (pieces .group-pages (pred g) (omega arith)))

@@ -11,7 +11,8 @@ use Rattle.rules.specs.Memory.{broughtAt, outAt, word}
 use Rattle.rules.specs.Node.{Node, withEntered, withGroups, withPaging}
 use Rattle.rules.specs.Paging.{bringIn, exchange, more, trading, victim}
 use Rattle.rules.specs.Sound.{Listed, Mapped, Sound}
-use Rattle.rules.proofs.Steps.PagingLaws.{bring-sound, count-in, entered-below, listed-below, listed-once, victim-stands}
+use Rattle.rules.proofs.Steps.ListLaws.{every-counted}
+use Rattle.rules.proofs.Steps.PagingLaws.{bring-sound, entered-below, listed-below, listed-once, victim-stands}
 use Rattle.rules.proofs.Steps.SoundLaws.{line-lengths, sound-mapped}
 use Rattle.memory.specs.Holds.{Holds, InOrder, OrderRoom, departing, entering}
 use Rattle.memory.specs.Lines.{indexOf}
@@ -68,7 +69,7 @@ module _ {p : ℕ} {n : Node} (c : Exchanging p n) where
     pub renewed-ready : ((victim n < p) × (p < pageCount paper01)) × Listing m
     unfolding renewed withPaging
     renewed-ready =
-        let frame = count-in (λ k. k < paper01 .frames) (victim n) (n .paging .entered) (entered-below sound) (omega (arith, victim-ordered)) in
+        let frame = every-counted (λ k. k < paper01 .frames) (victim n) (n .paging .entered) (entered-below sound) (omega (arith, victim-ordered)) in
         ((omega (arith, c .away .high), listed-below sound p (c .away .owned .listed)), laid-listing (holds-pieces h) (mapped-laid (h .mapped)))
 
     pub exchanged-held : {m₁ : List ℕ} → PagesSwapped m m₁ (victim n) p → Holds m₁ (bringing p n) r

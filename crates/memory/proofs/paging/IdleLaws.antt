@@ -58,17 +58,17 @@ trading-sym p q n = ap (λ (Gs : List Group). withGroups Gs n) (groups (n .group
         ap (λ (fs : List ℕ). withBuffer (record { used = G .buffer .used; count = G .buffer .count; frames = fs; places = G .buffer .places }) G) (numbers (G .buffer .frames)) in
         cc
 
+-- the words of a line's pages are kept where those of all pages but p and q are, and neither stands in the line
+line-kept : (m m₁ : List ℕ) (p q : ℕ) → ((x : ℕ) → x ≢ p → x ≢ q → Follows m m₁ x x) → (xs : List ℕ) → countOf p xs ≡ 0 → countOf q xs ≡ 0
+    → Every (λ x. Follows m m₁ x x) xs
+line-kept m m₁ p q kept xs no-p no-q = both xs (count-none p xs no-p) (count-none q xs no-q)
+  where
+    both : (xs : List ℕ) → Every (λ x. x ≢ p) xs → Every (λ x. x ≢ q) xs → Every (λ x. Follows m m₁ x x) xs
+    both [] a b = tt
+    both (x ∷ xs) a b = (kept x (a .0) (b .0), both xs (a .1) (b .1))
+
 module _ {m m′ : List ℕ} {n : Node} {r : List ℕ} (k : Pieces m n r) (v : Laid n) (p q : ℕ) (lp : p < pageCount paper01) (lq : q < pageCount paper01)
     (idle-free : countOf q (n .free) ≡ 0) (idle-swap : countOf q (n .paging .swap) ≡ 0) where
-  -- those of a line in which neither p nor q stands are kept where others than these are
-  line-kept : {m₁ : List ℕ} → ((x : ℕ) → x ≢ p → x ≢ q → Follows m m₁ x x) → (xs : List ℕ) → countOf p xs ≡ 0 → countOf q xs ≡ 0
-      → Every (λ x. Follows m m₁ x x) xs
-  line-kept {m₁} kept xs no-p no-q = both xs (count-none p xs no-p) (count-none q xs no-q)
-    where
-      both : (xs : List ℕ) → Every (λ x. x ≢ p) xs → Every (λ x. x ≢ q) xs → Every (λ x. Follows m m₁ x x) xs
-      both [] a b = tt
-      both (x ∷ xs) a b = (kept x (a .0) (b .0), both xs (a .1) (b .1))
-
   module _ (p-free : countOf p (n .free) ≡ 0) (p-swap : countOf p (n .paging .swap) ≡ 0) where
     -- the page in p has gone to q, which is no group's and in no line
     pub moved-put : p ≢ q → countOf q (concatMap frameList (n .groups)) ≡ 0 → PageMoved m m′ p q → Pieces m′ (trading p q n) r
@@ -76,8 +76,8 @@ module _ {m m′ : List ℕ} {n : Node} {r : List ℕ} (k : Pieces m n r) (v : L
         let w = moved .copied in
         let z = moved .wiped in
         pages-put k v lp lq (z .same-length ∙ w .same-length) (moved-else p q apart w z lp lq) (moved .lists)
-        (line-kept (moved-kept p q apart w z) (n .free) p-free idle-free)
-        (line-kept (moved-kept p q apart w z) (n .paging .swap) p-swap idle-swap)
+        (line-kept m (moved .once) p q (moved-kept p q apart w z) (n .free) p-free idle-free)
+        (line-kept m (moved .once) p q (moved-kept p q apart w z) (n .paging .swap) p-swap idle-swap)
         (λ i h.
         every-mono _ _ (λ x other. moved-follows p q apart w z x other) (getD (n .groups) i emptyGroup .buffer .frames)
         (list-others q n (v .group-count) unlisted i h))
@@ -96,8 +96,8 @@ module _ {m m′ : List ℕ} {n : Node} {r : List ℕ} (k : Pieces m n r) (v : L
     swapped-put swapped =
         let s = swapped .swapped in
         pages-put k v lp lq (s .same-length) (swapped-else p q s lp lq) (swapped .lists)
-        (line-kept (swapped-kept p q s) (n .free) p-free idle-free)
-        (line-kept (swapped-kept p q s) (n .paging .swap) p-swap idle-swap)
+        (line-kept m (swapped .between) p q (swapped-kept p q s) (n .free) p-free idle-free)
+        (line-kept m (swapped .between) p q (swapped-kept p q s) (n .paging .swap) p-swap idle-swap)
         (λ i h. every-all swapped (getD (n .groups) i emptyGroup .buffer .frames))
       where
         every-all : (s : PagesSwapped m m′ p q) (xs : List ℕ) → Every (λ x. Follows m (s .between) x (traded p q x)) xs

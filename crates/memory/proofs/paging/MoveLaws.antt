@@ -12,9 +12,10 @@ use Rattle.rules.specs.Node.{Place}
 use Rattle.rules.specs.Memory.{frameAddress, frameStride, framesAt, pagingAt, placeWords, word, wordsAt, Page, pagesFrom}
 use Rattle.rules.specs.Paging.{traded}
 use Rattle.rules.proofs.Steps.PagingLaws.{traded-first, traded-other, traded-second}
+use Rattle.rules.proofs.Map.MapFrames.{page-length}
 use Rattle.rules.proofs.Map.MapWords.{Stands, length-wordsAt, wordsAt-stands}
 use Rattle.memory.specs.Writes.{Wrote, Swapped}
-use Rattle.memory.proofs.PieceLaws.{PageStands, page-stands, length-good, WholePage, emptied}
+use Rattle.memory.proofs.PieceLaws.{PageStands, page-stands, WholePage, emptied}
 use Rattle.memory.proofs.WriteLaws.{same-wordsAt}
 use Rattle.rules.proofs.Map.PageLaws.{empty-good}
 
@@ -46,14 +47,14 @@ pub page-follows : {m m′ : List ℕ} (x : Page) (k : ℕ) → WholePage x → 
     → PageStands m′ (record { number = k; places = x .places })
 unfolding Stands
 page-follows {m} {m′} x k good below same s =
-    let l = length-good x good in
+    let l = page-length (x .places) good in
     page-stands m′ (record { number = k; places = x .places }) (record { whole = good .whole; places = good .places }) below
     (ap (wordsAt m′ (frameAddress k)) l ∙ same ∙ wordsAt-stands m (frameAddress (x .number)) frameStride (concatMap placeWords (x .places)) l (s .stands))
 
 -- a page that stands is one of the 96
 pub stands-below : {m : List ℕ} (x : Page) → WholePage x → PageStands m x → x .number < pageCount paper01
 unfolding frameAddress
-stands-below x good s = omega (arith, length-good x good, s .inside)
+stands-below x good s = omega (arith, page-length (x .places) good, s .inside)
 
 -- empty pages of numbers at which the words stay are empty still
 pub empty-kept : (m m′ : List ℕ) (fs : List ℕ) → Every (λ f. Follows m m′ f f) fs → Every (PageStands m) (map emptied fs) → Every (PageStands m′) (map emptied fs)

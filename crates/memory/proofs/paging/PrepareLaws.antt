@@ -160,6 +160,6 @@ module _ {m : List ℕ} {n : Node} {r : List ℕ} (h : Holds m n r) (s : Sound p
           go (f ∷ fs) q = rw q
 
 -- A message of group g is stored by being put into the prepared node.
-pub prepared-put : (x : Message) (g : ℕ) (n : Node) → x .group ≡ g → put x (prepared paper01 g n) ≡ store paper01 x n
+pub prepared-put : (x : Message) (g : ℕ) (n : Node) → x .group ≡ g → put paper01 x (prepared paper01 g n) ≡ store paper01 x n
 unfolding store
 prepared-put x g n e = rw (sym e)

@@ -15,9 +15,9 @@ use Rattle.rules.specs.Build.{paper01, pageCount}
 use Rattle.rules.specs.Node.{Place, Group, Node, emptyPage}
 use Rattle.rules.specs.Valid.{frameList, idle, frameNumbers}
 use Rattle.rules.specs.Memory.{Page, pagesFrom, pagesOf, placesOf, allPages, placeAt, framePlaces, frameWords, placeWords, frameAddress, frameStride, placeStride}
+use Rattle.rules.specs.Sound.{WholeGroup, Mapped}
 use Rattle.rules.proofs.Steps.EveryLaws.{every-of, every-at, every-mono, every-append, every-concat, every-unmap}
 use Rattle.rules.proofs.Steps.ListLaws.{count-append, count-member, length-parts, getD-parts, once-bounded}
-use Rattle.rules.specs.Sound.{WholeGroup, Mapped}
 use Rattle.rules.proofs.Map.MapWords.{length-records, record-at}
 use Rattle.rules.proofs.Map.MapParts.{places, length-place}
 use Rattle.rules.proofs.Map.PageLaws.{GoodPage, pageNumber, empty-good, numbers-groups, good-from, places-here, places-there, found-none, found-either}
@@ -40,6 +40,10 @@ found-once {x} (List·Memᴰ·tail {x = y} {xs = ys} k) h = go (eqb (y .number) 
     go false q r = let l = rw q at h in places-there paper01 (x .number) y ys q ∙ r (omega arith)
 
 -- The pages of a buffer.
+
+-- one has 72 words
+pub page-length : (ps : List Place) → GoodPage paper01 ps → length (concatMap placeWords ps) ≡ frameStride
+page-length ps g = rw (length-parts placeWords placeStride ps (every-mono _ _ length-place ps (g .places)), g .whole)
 
 -- a buffer's places are those of its pages, one page's after the other's
 pub places-from : (g : ℕ → List Place) (fs : List ℕ) (ps : List Place) → length ps ≡ length fs * paper01 .perFrame
@@ -92,7 +96,7 @@ module _ (n : Node) (v : Mapped n) where
       group-good G g = good-from paper01 (G .buffer .frames) (G .buffer .places) (g .whole) (g .places)
 
   -- the numbers of the two lines and of the lists are below 96
-  both-bounded : Every (λ f. f < pageCount paper01) (idle n) × Every (λ f. f < pageCount paper01) (concatMap frameList (n .groups))
+  pub both-bounded : Every (λ f. f < pageCount paper01) (idle n) × Every (λ f. f < pageCount paper01) (concatMap frameList (n .groups))
   unfolding frameNumbers
   both-bounded =
       every-append (λ f. f < pageCount paper01) (idle n) (concatMap frameList (n .groups)) .0
@@ -132,7 +136,4 @@ module _ (n : Node) (v : Mapped n) where
   -- of 72 words
   pub length-frame : (f : ℕ) → length (frameWords (allPages n) f) ≡ frameStride
   unfolding frameWords
-  length-frame f =
-      let g = found-good f in
-      let e = length-parts placeWords placeStride (placesOf paper01 f (allPages n)) (every-mono _ _ length-place (placesOf paper01 f (allPages n)) (g .places)) in
-      rw (e, g .whole)
+  length-frame f = page-length (placesOf paper01 f (allPages n)) (found-good f)

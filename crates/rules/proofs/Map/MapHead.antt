@@ -12,22 +12,22 @@ use lib.Dec.{eqb}
 use lib.ListN.{length, take, drop, getD}
 use lib.Seq.{drop-cons}
 use borrow.Author.Tests.{ltb-true, ne-eqb}
-use Rattle.rules.specs.Lists.{Every, isEmpty, concatMap}
+use Rattle.rules.specs.Lists.{Every, isEmpty}
 use Rattle.rules.specs.Build.{paper01, pageCount, groupCount, wordLimit}
 use Rattle.rules.specs.Node.{Message, Place, Buffer, Group, Node, emptyGroup, emptyPlace, groupOf, bufferHolds, messageOf, waiting, inBuffer, isOf, inQueue, line}
-use Rattle.rules.specs.Valid.{GoodBuffer, Valid, frameList, idle, frameNumbers}
+use Rattle.rules.specs.Valid.{GoodBuffer, Valid, frameList}
 use Rattle.rules.specs.Memory.{queuedAt, queueAt, queueStride, groupsAt, groupStride, placeStride, listOffset, heldOffset, usedOffset}
 use Rattle.rules.specs.Memory.{word, wordsAt, frameAddress, groupAddress, messageAt, messagesAt, placeAt, listAt, bufferAt, groupAt, nodeAt}
 use Rattle.rules.specs.MemoryTest.{isMemory, Part, firstPlace, bufferPart, queuePart, runnerPart, headPart, headWords}
-use Rattle.rules.proofs.Steps.EveryLaws.{every-getD, every-append, every-concat}
-use Rattle.rules.proofs.Steps.ListLaws.{filter-pass, once-bounded}
-use Rattle.rules.proofs.Steps.SoundLaws.{valid-sound}
+use Rattle.rules.proofs.Steps.EveryLaws.{every-getD, every-concat}
+use Rattle.rules.proofs.Steps.ListLaws.{filter-pass}
+use Rattle.rules.proofs.Steps.SoundLaws.{valid-sound, valid-mapped}
 use Rattle.rules.proofs.Steps.FrameLaws.{fits, held}
 use Rattle.rules.proofs.Steps.NodeLaws.{is-of, within, group-good}
 use Rattle.rules.proofs.Steps.LineLaws.{stays, direct-line}
 use Rattle.rules.proofs.Map.MapWords.{getD-wordsAt, take-wordsAt, wordsAt-part, length-wordsAt, record-at}
 use Rattle.rules.proofs.Map.MapParts.{messages, groups}
-use Rattle.rules.proofs.Map.MapFrames.{page-place}
+use Rattle.rules.proofs.Map.MapFrames.{page-place, both-bounded}
 use Rattle.rules.proofs.Map.MapTest.{memory-fits}
 use Rattle.rules.proofs.Map.MapLaws.{test-size, test-valid}
 
@@ -75,12 +75,10 @@ place-first m a d h l =
 
 -- the numbers of a group's frames are below 96
 list-bounded : (n : Node) → Valid paper01 n → (g : ℕ) → 1 ≤ g → g ≤ groupCount → Every (λ f. f < pageCount paper01) (frameList (groupOf n g))
-unfolding frameNumbers groupOf
+unfolding groupOf
 list-bounded n v g low high =
-    let all = once-bounded (pageCount paper01) (frameNumbers n) (v .frames-once) (v .frames-all) in
-    let lists = every-append (λ f. f < pageCount paper01) (idle n) (concatMap frameList (n .groups)) .0 all .1 in
     every-getD (λ G. Every (λ f. f < pageCount paper01) (frameList G)) (n .groups) (pred g) emptyGroup
-    (every-concat (λ f. f < pageCount paper01) frameList (n .groups) .0 lists) (within (valid-sound v) g low high)
+    (every-concat (λ f. f < pageCount paper01) frameList (n .groups) .0 (both-bounded n (valid-mapped v) .1)) (within (valid-sound v) g low high)
 
 -- the words of a part of the memory
 unfoldable partWords : List ℕ → Part → List ℕ

@@ -2,7 +2,7 @@
 -- divides. Storing finds room or takes a frame, and puts the message behind the waiting ones; removing uses up the first place or frees the
 -- first frame. Either way the buffer stays good, its places but the waiting ones wiped, and each frame stands as often as it did, in the free
 -- line and the buffer's list together, which is said for any weight of frames. Assumes nothing.
-use Prim.Native.Nat.{ℕ, zero, suc, _+_, _-_, _*_, _≤_, _<_}
+use Prim.Native.Nat.{ℕ, _+_, _-_, _*_, _≤_, _<_}
 use mathlib.Core.Path.{_≡_, refl, sym, ap, _∙_}
 use mathlib.Core.Logic.{_≢_}
 use mathlib.Core.Bool.{Bool, true, false, cond, not, _||_}
@@ -20,7 +20,7 @@ use Rattle.rules.specs.Build.{Build, wordLimit}
 use Rattle.rules.specs.Node.{Message, Place, Buffer, emptyPlace, emptyPage, placeOf, waiting, unused}
 use Rattle.rules.specs.Frames.{Stock, ceilDiv, extended, takeFrame, withRoom, appended, firstFrame, without, freeFirst, useUp, removeFirst}
 use Rattle.rules.specs.Valid.{GoodMessage, GoodPlace, GoodWaiting, Wiped, GoodBuffer, Zero}
-use Rattle.rules.proofs.Steps.EveryLaws.{every-append, every-set, every-drop, every-replicate}
+use Rattle.rules.proofs.Steps.EveryLaws.{every-append, every-set, every-drop, every-replicate, every-same}
 use Rattle.rules.proofs.Steps.ListLaws.{filter-pass, filter-fail, take-drop, weight, weight-append, length-pad, drop-pad}
 
 -- a frame count, rounded up, suffices
@@ -91,7 +91,7 @@ placeOf-waiting m g =
 pub place-good : GoodPlace emptyPlace
 place-good = record { eight = refl }
 
-place-wiped : Wiped emptyPlace
+pub place-wiped : Wiped emptyPlace
 place-wiped = record { len-zero = refl; words-zero = every-replicate Zero wordLimit 0 refl }
 
 -- and so is every place of an empty page
@@ -107,17 +107,10 @@ page-wiped : (b : Build) → Every Wiped (emptyPage b)
 unfolding emptyPage
 page-wiped b = every-replicate Wiped (b .perFrame) emptyPlace place-wiped
 
--- words that are all 0
-zeros-all : (k : ℕ) (ws : List ℕ) → length ws ≡ k → Every Zero ws → ws ≡ replicate k 0
-zeros-all zero [] l e = refl
-zeros-all zero (w ∷ ws) l e = absurd (omega arith)
-zeros-all (suc k) [] l e = absurd (omega arith)
-zeros-all (suc k) (w ∷ ws) l e = let r = zeros-all k ws (omega arith) (e .1) in cc (e .0, r)
-
 -- a place that is wiped is the empty one
 pub wiped-place : (p : Place) → GoodPlace p → Wiped p → p ≡ emptyPlace
 wiped-place p good wiped =
-    let words = zeros-all wordLimit (p .words) (good .eight) (wiped .words-zero) in
+    let words : p .words ≡ replicate wordLimit 0 = rw (good .eight) at (every-same 0 (p .words) (wiped .words-zero)) in
     λ i. record { len = wiped .len-zero i; words = words i }
 
 -- so are places that all are

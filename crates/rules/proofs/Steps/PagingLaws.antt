@@ -22,7 +22,7 @@ use Rattle.rules.specs.Valid.{GoodGroup, IsSwap, FirstInFrame, frameList
 use Rattle.rules.specs.Sound.{Sound, Listed}
 use Rattle.rules.proofs.Steps.SoundLaws.{SameFlags, flags-refl}
 use Rattle.rules.proofs.Steps.EveryLaws.{every-append, every-mapped}
-use Rattle.rules.proofs.Steps.ListLaws.{filter-pass, filter-fail, weight, weight-append, hit, count-weight, count-append, count-at, count-part, once-bounded}
+use Rattle.rules.proofs.Steps.ListLaws.{filter-pass, filter-fail, weight, weight-append, hit, count-weight, count-append, count-at, count-part, every-counted, once-bounded}
 use Rattle.rules.proofs.Steps.FrameLaws.{weight-left}
 use Rattle.rules.proofs.Steps.NodeLaws.{filled, group-good, within, numbers-weight, order-weight, weights-count, weights-length}
 use Rattle.rules.proofs.Steps.RoomLaws.{swap-left}
@@ -212,22 +212,13 @@ lists-traded p q (G ∷ Gs) =
 
 -- Counts.
 
--- what is counted has what every element has
-pub count-in : (P : ℕ → Type 0) (k : ℕ) (xs : List ℕ) → Every P xs → 1 ≤ countOf k xs → P k
-count-in P k [] e h = absurd (omega arith)
-count-in P k (x ∷ xs) e h = go (ℕ-discrete x k) (count-in P k xs (e .1))
-  where
-    go : Dec (x ≡ k) → (1 ≤ countOf k xs → P k) → P k
-    go (yes same) later = subst P same (e .0)
-    go (no other) later = later (let l = rw (ne-eqb x k other) at h in omega arith)
-
--- so what none has is not counted
+-- what no element has is not counted
 count-out : (P : ℕ → Type 0) (k : ℕ) (xs : List ℕ) → Every P xs → (P k → ⊥) → countOf k xs ≡ 0
 count-out P k xs e never = go (countOf k xs) refl
   where
     go : (c : ℕ) → countOf k xs ≡ c → countOf k xs ≡ 0
     go zero h = h
-    go (suc c) h = absurd (never (count-in P k xs e (omega arith)))
+    go (suc c) h = absurd (never (every-counted P k xs e (omega arith)))
 
 -- the first that passes a test is one of the numbers, and passes
 first-passes : (t : ℕ → Bool) (xs : List ℕ) → 1 ≤ length (filter t xs)
@@ -302,7 +293,7 @@ module _ {b : Build} {n : Node} (s : Sound b n) where
   -- a page that a group has is one of all pages
   pub listed-below : (p : ℕ) → Listed p n → p < pageCount b
   listed-below p listed =
-      count-in (λ k. k < pageCount b) p (frameNumbers n) (once-bounded (pageCount b) (frameNumbers n) (s .frames-once) (s .frames-all)) (omega (arith, counted p))
+      every-counted (λ k. k < pageCount b) p (frameNumbers n) (once-bounded (pageCount b) (frameNumbers n) (s .frames-once) (s .frames-all)) (omega (arith, counted p))
 
   -- it stands in no line, and once in the lists
   pub listed-once : (p : ℕ) → Listed p n
@@ -315,13 +306,13 @@ module _ {b : Build} {n : Node} (s : Sound b n) where
   -- one that stands in a line is no group's
   pub idle-unlisted : (p : ℕ) → 1 ≤ countOf p (n .free) + countOf p (n .paging .swap) → countOf p (concatMap frameList (n .groups)) ≡ 0
   idle-unlisted p idle =
-      let below = count-in (λ k. k < pageCount b) p (frameNumbers n) (once-bounded (pageCount b) (frameNumbers n) (s .frames-once) (s .frames-all)) (omega (arith, counted p)) in
+      let below = every-counted (λ k. k < pageCount b) p (frameNumbers n) (once-bounded (pageCount b) (frameNumbers n) (s .frames-once) (s .frames-all)) (omega (arith, counted p)) in
       omega (arith, s .frames-once p below, counted p)
 
   -- a frame in the order of entry stands in it once, and is a group's page
   pub entered-once : (f : ℕ) → 1 ≤ countOf f (n .paging .entered) → (countOf f (n .paging .entered) ≡ 1) × Listed f n
   entered-once f some =
-      let below = count-in (λ k. k < b .frames) f (n .paging .entered) entered-below some in
+      let below = every-counted (λ k. k < b .frames) f (n .paging .entered) entered-below some in
       let once = s .entered-once f below in
       let order = ordered f in
       (omega arith, omega (arith, s .frames-once f (omega arith), counted f, swap-none f below))
@@ -421,7 +412,7 @@ list-traded p q g x xs n e = ap (λ (G : Group). G .buffer .frames) (traded-grou
 module _ {b : Build} {n : Node} (s : Sound b n) where
   -- a frame in the order of entry is below the frames' count
   entered-frame : (f : ℕ) → 1 ≤ countOf f (n .paging .entered) → f < b .frames
-  entered-frame f some = count-in (λ k. k < b .frames) f (n .paging .entered) (entered-below s) some
+  entered-frame f some = every-counted (λ k. k < b .frames) f (n .paging .entered) (entered-below s) some
 
   -- and so is the front of the free line
   free-below-first : (x : ℕ) (fs : List ℕ) → n .free ≡ x ∷ fs → x < b .frames

@@ -18,11 +18,12 @@ use Rattle.rules.specs.Valid.{isWaiting}
 use Rattle.rules.specs.Memory.{usedOffset, countOffset, heldOffset, listOffset, groupStride, placeStride, size, word, wordsAt, placeAt, framePlaces, frameAddress, listAt, bufferAt, groupAddress}
 use Rattle.rules.specs.MemoryTest.{zeroAt}
 use Rattle.rules.proofs.Steps.EveryLaws.{every-of}
-use Rattle.rules.proofs.Steps.ListLaws.{length-parts, getD-parts}
-use Rattle.rules.proofs.Map.MapWords.{length-wordsAt, length-records, record-at, getD-wordsAt}
+use Rattle.rules.proofs.Steps.ListLaws.{length-parts}
+use Rattle.rules.proofs.Map.MapWords.{length-wordsAt, length-records, getD-wordsAt}
 use Rattle.rules.proofs.Map.MapParts.{places}
-use Rattle.validate.specs.Clauses.{waitingGood, waitingIn, waitingAt}
+use Rattle.rules.proofs.Map.MapFrames.{page-place}
 use Rattle.rules.proofs.Map.TestLaws.{range-tells}
+use Rattle.validate.specs.Clauses.{waitingGood, waitingIn, waitingAt}
 use Rattle.validate.specs.Known.{Framed}
 use Rattle.validate.proofs.RangeLaws.{Passed, fails}
 
@@ -79,11 +80,6 @@ places-all m a =
     ∙ ap (λ (k : ℕ). 8 * k) (length-wordsAt m (a + listOffset) (word m (a + heldOffset)))
 
 module _ (m : List ℕ) (g : ℕ) (f : Framed m g) where
-  -- place i of page x
-  nth : (x i : ℕ) → i < 8 → getD (framePlaces m x) i emptyPlace ≡ placeAt m (frameAddress x + placeStride * i)
-  unfolding framePlaces
-  nth x i l = record-at (places m) emptyPlace (frameAddress x) 8 i l
-
   -- place p of the buffer
   place-at : (p : ℕ) → p < 8 * word m (groupAddress g + heldOffset)
       → getD (bufferAt m (groupAddress g) .places) p emptyPlace
@@ -96,9 +92,8 @@ module _ (m : List ℕ) (g : ℕ) (f : Framed m g) where
       let q : p / 8 < k = omega arith in
       let r : p % 8 < 8 = omega arith in
       ap (λ (i : ℕ). getD (concatMap (framePlaces m) (wordsAt m a k)) i emptyPlace) e
-      ∙ getD-parts (framePlaces m) 8 (eight-places m) (wordsAt m a k) (p / 8) (p % 8) 0 emptyPlace (rw (length-wordsAt m a k) q) r
-      ∙ ap (λ (x : ℕ). getD (framePlaces m x) (p % 8) emptyPlace) (getD-wordsAt m a k (p / 8) q)
-      ∙ nth (word m (a + p / 8)) (p % 8) r
+      ∙ page-place m (wordsAt m a k) (p / 8) (p % 8) emptyPlace (rw (length-wordsAt m a k) q) r
+      ∙ ap (λ (x : ℕ). placeAt m (frameAddress x + placeStride * (p % 8))) (getD-wordsAt m a k (p / 8) q)
 
   -- the list is long enough for the waiting messages
   pub room : word m (groupAddress g + usedOffset) + word m (groupAddress g + countOffset) ≤ 8 * word m (groupAddress g + heldOffset)

@@ -9,7 +9,7 @@ use lib.ListN.{length}
 use Rattle.rules.specs.Lists.{all, upFrom}
 use Rattle.rules.specs.Valid.{frameNumbers, frameOrder}
 use Rattle.rules.specs.Memory.{swapCountAt, word, nodeAt}
-use Rattle.validate.specs.Clauses.{pagesOnce, swapPage, enteredOnce, framesGood}
+use Rattle.validate.specs.Clauses.{pagesOnce, swapPage, framesGood}
 use Rattle.validate.proofs.RangeLaws.{refused, accepted}
 use Rattle.validate.proofs.FactLaws.{paged, framed}
 use Rattle.validate.proofs.frames.frames_good.Statement.{statement}
@@ -79,14 +79,6 @@ returns-5 : tie.Need-returns-5
 unfolding framesGood
 returns-5 c = four (c .before .before) _ ∙ rw (refused (c .before .entered-once .ensures) (c .if5 .taken))
 
--- and the fifth
-five : (c : tie.Else5) (b : Bool)
-    → let m = c .before .before .before .before .before .before .before .before .before .before .before .args .m .now in
-    eqb (length (frameNumbers (nodeAt m))) 96
-    && (pagesOnce m
-    && (all (swapPage m) (upFrom 0 (word m swapCountAt)) && (eqb (length (frameOrder (nodeAt m))) 32 && (enteredOnce m && b)))) ≡ b
-five c b = four (c .before .before) _ ∙ rw (accepted (c .before .entered-once .ensures) (c .if5 .left))
-
 idle-wiped-requires : tie.Need-idle-wiped-requires
 idle-wiped-requires c κs =
     let e = c .before .before .before .before .before .before in
@@ -96,7 +88,10 @@ idle-wiped-requires c κs =
 
 returns-6 : tie.Need-returns-6
 unfolding framesGood
-returns-6 c = five (c .before .before) _ ∙ rw (refused (c .before .idle-wiped .ensures) (c .if6 .taken))
+returns-6 c =
+    let d = c .before .before in
+    four (d .before .before) _
+    ∙ rw (accepted (d .before .entered-once .ensures) (d .if5 .left), refused (c .before .idle-wiped .ensures) (c .if6 .taken))
 
 all-places-good-requires : tie.Need-all-places-good-requires
 all-places-good-requires c κs =
@@ -109,7 +104,10 @@ returns-7 : tie.Need-returns-7
 unfolding framesGood
 returns-7 c =
     let e = c .before in
-    five (e .before .before) _ ∙ rw (accepted (e .before .idle-wiped .ensures) (e .if6 .left)) (c .all-places-good .ensures)
+    let d = e .before .before in
+    four (d .before .before) _
+    ∙ rw (accepted (d .before .entered-once .ensures) (d .if5 .left), accepted (e .before .idle-wiped .ensures) (e .if6 .left))
+    (c .all-places-good .ensures)
 
 pub frames-good-spec : {M : Type 1} → statement M
 frames-good-spec =

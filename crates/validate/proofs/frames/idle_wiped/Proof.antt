@@ -7,13 +7,13 @@ use Rattle.validate.proofs.frames.idle_wiped.Statement.{statement}
 use Rattle.validate.proofs.frames.idle_wiped.Tie as tie
 
 list-wiped-requires : tie.Need-list-wiped-requires
-list-wiped-requires c κs = c .before .pre 1 (omega arith) (omega arith)
+list-wiped-requires c κs = c .before .pre _ (omega arith) (omega arith)
 
 returns : tie.Need-returns
 returns c = idle-tested (c .before .before .before .args .m .now) ∙ rw (refused (c .before .list-wiped .ensures) (c .if1 .taken))
 
 list-wiped-requires-2 : tie.Need-list-wiped-requires-2
-list-wiped-requires-2 c κs = c .before .before .before .pre 2 (omega arith) (omega arith)
+list-wiped-requires-2 c κs = c .before .before .before .pre _ (omega arith) (omega arith)
 
 returns-2 : tie.Need-returns-2
 returns-2 c =

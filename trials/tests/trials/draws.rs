@@ -106,7 +106,7 @@ fn an_operation_is_asked_for_by_its_letter() {
 #[test]
 fn a_table_knows_what_it_has_not_met() {
     let mut table = Table::default();
-    let all = 29 + 3 + 3 + 23 + 16 + 4 + 5 + 7;
+    let all = 33 + 8 + 3 + 3 + 23 + 16 + 4 + 3 + 5 + 7;
     assert_eq!(table.not_met().len(), all);
     let trial = Trial {
         memory: vec![],

@@ -7,6 +7,8 @@ pub mod ScriptCasesLaws
 pub mod BufferCasesLaws
 pub mod StepCasesLaws
 pub mod ForceCasesLaws
+pub mod MemoryParts
 pub mod TestComputes
 pub mod MemoryCasesLaws
 pub mod PagingCasesLaws
+pub mod WipedCasesLaws

@@ -8,4 +8,5 @@ pub mod StepCases
 pub mod ForceCases
 pub mod MemoryCases
 pub mod PagingCases
+pub mod WipedCases
 pub mod TypeCases

@@ -31,7 +31,6 @@ dispose-cases =
       dispose-only-own = refl;
       dispose-last-buffered = refl;
       used-up-place = refl;
-      used-up-words = refl;
       used-up-frame = refl;
       used-up-frame-freed = refl;
       not-yet-freed = refl;
@@ -40,7 +39,4 @@ dispose-cases =
       eighth-disposed-free = refl;
       freed-to-the-end = refl;
       freed-count = refl;
-      freed-words = refl;
-      taken-again = refl;
-      taken-again-list = refl;
     }

@@ -2,15 +2,15 @@
 -- memory test are made of. isMemory, stepMemory, the head's part and the counts of pages stay shut: TestComputes has the laws of them. Assumes nothing.
 use Rattle.rules.specs.Text.{extendFirst, split, isDigit, valueFrom, decimalBefore, decimal, row}
 use Rattle.rules.specs.Script.{isNumber, number, andNumber, numbers, groupAndWords, oneField, noField, yesOrNo, forceField, letters, lettered, onlyByte, operationOf, readFields, readLine, ended, scriptLines, reportLine, listFrom, header, listing}
-use Rattle.rules.specs.Node.{emptyFrame, emptyPaging, powerOn, groupOf, withRunning, withTimer, withQueue, withFree, withPaging, withGroups, withGroup, withEntered, withFlags, withTimerFlags, withBuffer, withDescriptor, bufferHolds, buffered, forced, timerRuns, placeOf, messageOf, waiting, inBuffer, isOf, inQueue, line}
+use Rattle.rules.specs.Node.{emptyPage, emptyPaging, powerOn, groupOf, withRunning, withTimer, withQueue, withFree, withPaging, withGroups, withGroup, withEntered, withFlags, withTimerFlags, withBuffer, withDescriptor, bufferHolds, buffered, forced, timerRuns, placeOf, messageOf, waiting, unused, inBuffer, isOf, inQueue, line}
 use Rattle.rules.specs.Frames.{ceilDiv, extended, takeFrame, withRoom, appended, withStock, put, firstFrame, without, freeFirst, useUp, removeFirst, pledge, pledges}
-use Rattle.rules.specs.Paging.{framesFrom, framesOf, placesOf, leaving, inFrame, traded, tradedIn, trading, more, standsFirst, spared, victim, sendOut, freed, exchange, bringIn, resident, nextPage, prepared, store, firstResident, runnerResident}
+use Rattle.rules.specs.Paging.{inFrame, traded, tradedIn, trading, more, standsFirst, spared, victim, sendOut, freed, exchange, bringIn, resident, nextPage, prepared, store, firstResident, runnerResident}
 use Rattle.rules.specs.Refusal.{queued, refuseArrive, refuseSchedule, refuseTick, refusePeek, refuseDispose, refuseEnd, refuseDescribe, refuseLaunch, refuseRequest, refusal}
 use Rattle.rules.specs.Settling.{oneMore, mayStay, pass, restTimer, settle, drain, calls, upcall, upcallGroup}
 use Rattle.rules.specs.Step.{valued, scheduled, timerFlagged, revoke, timedOut, counted, oneTick, ticks, firstLength, firstWord, withoutFirst, removed, flagged, disposed, sectionBegun, sectionEnded, extending, described, launched, serve, act, finish, step}
-use Rattle.rules.specs.Valid.{frameList, frameNumber, idle, frameNumbers, frameOrder, isMessage, isPlace, isWaiting, isFrame, isBuffer, onlyAtomic, isGroup, pendingHasLine, runnerAtomic, headStays, isSwap, firstInFrame, runnerInFrame, standsOnce, nodeTests, isNode}
-use Rattle.rules.specs.Memory.{frameAddress, groupAddress, flagWord, messageWords, queueWords, lineWords, listWords, groupWords, placeWords, allFrames, frameWords, pagingWords, words, word, wordsAt, messageAt, messagesAt, placeAt, placesAt, framePlaces, frameAt, flagAt, listAt, bufferAt, groupAt, groupsFrom, pagingFrom, nodeAt}
-use Rattle.rules.specs.MemoryTest.{zeroAt, lengthInBounds, groupCounts, countsInBounds, groupFlags, flagsAreFlags, queueUnused, freeUnused, swapUnused, enteredUnused, groupUnused, messageUnused, unusedAreZero, memoryTests, replaced, powerOnMemory, firstPlace, bufferPart, queuePart, runnerPart}
+use Rattle.rules.specs.Valid.{frameList, idle, frameNumbers, frameOrder, isMessage, isPlace, isWaiting, isWiped, isBuffer, onlyAtomic, isGroup, pendingHasLine, runnerAtomic, headStays, isSwap, firstInFrame, runnerInFrame, standsOnce, nodeTests, isNode}
+use Rattle.rules.specs.Memory.{frameAddress, groupAddress, flagWord, messageWords, queueWords, lineWords, listWords, groupWords, placeWords, pagesFrom, pagesOf, placesOf, allPages, frameWords, pagingWords, words, word, wordsAt, messageAt, messagesAt, placeAt, placesAt, framePlaces, flagAt, listAt, bufferAt, groupAt, groupsFrom, pagingFrom, nodeAt}
+use Rattle.rules.specs.MemoryTest.{zeroAt, lengthInBounds, groupCounts, countsInBounds, groupFlags, flagsAreFlags, queueUnused, freeUnused, swapUnused, enteredUnused, groupUnused, messageUnused, unusedAreZero, frameWiped, idleAreWiped, memoryTests, replaced, powerOnMemory, firstPlace, bufferPart, queuePart, runnerPart}
 use Rattle.rules.specs.Run.{asked, play, run, playMemory, runMemory}
 
 -- all of them
@@ -18,14 +18,14 @@ unfoldable pub computes : Unit {0}
 unfolding
     extendFirst split isDigit valueFrom decimalBefore decimal row
     isNumber number andNumber numbers groupAndWords oneField noField yesOrNo forceField letters lettered onlyByte operationOf readFields readLine ended scriptLines reportLine listFrom header listing
-    emptyFrame emptyPaging powerOn groupOf withRunning withTimer withQueue withFree withPaging withGroups withGroup withEntered withFlags withTimerFlags withBuffer withDescriptor bufferHolds buffered forced timerRuns placeOf messageOf waiting inBuffer isOf inQueue line
+    emptyPage emptyPaging powerOn groupOf withRunning withTimer withQueue withFree withPaging withGroups withGroup withEntered withFlags withTimerFlags withBuffer withDescriptor bufferHolds buffered forced timerRuns placeOf messageOf waiting unused inBuffer isOf inQueue line
     ceilDiv extended takeFrame withRoom appended withStock put firstFrame without freeFirst useUp removeFirst pledge pledges
-    framesFrom framesOf placesOf leaving inFrame traded tradedIn trading more standsFirst spared victim sendOut freed exchange bringIn resident nextPage prepared store firstResident runnerResident
+    inFrame traded tradedIn trading more standsFirst spared victim sendOut freed exchange bringIn resident nextPage prepared store firstResident runnerResident
     queued refuseArrive refuseSchedule refuseTick refusePeek refuseDispose refuseEnd refuseDescribe refuseLaunch refuseRequest refusal
     oneMore mayStay pass restTimer settle drain calls upcall upcallGroup
     valued scheduled timerFlagged revoke timedOut counted oneTick ticks firstLength firstWord withoutFirst removed flagged disposed sectionBegun sectionEnded extending described launched serve act finish step
-    frameList frameNumber idle frameNumbers frameOrder isMessage isPlace isWaiting isFrame isBuffer onlyAtomic isGroup pendingHasLine runnerAtomic headStays isSwap firstInFrame runnerInFrame standsOnce nodeTests isNode
-    frameAddress groupAddress flagWord messageWords queueWords lineWords listWords groupWords placeWords allFrames frameWords pagingWords words word wordsAt messageAt messagesAt placeAt placesAt framePlaces frameAt flagAt listAt bufferAt groupAt groupsFrom pagingFrom nodeAt
-    zeroAt lengthInBounds groupCounts countsInBounds groupFlags flagsAreFlags queueUnused freeUnused swapUnused enteredUnused groupUnused messageUnused unusedAreZero memoryTests replaced powerOnMemory firstPlace bufferPart queuePart runnerPart
+    frameList idle frameNumbers frameOrder isMessage isPlace isWaiting isWiped isBuffer onlyAtomic isGroup pendingHasLine runnerAtomic headStays isSwap firstInFrame runnerInFrame standsOnce nodeTests isNode
+    frameAddress groupAddress flagWord messageWords queueWords lineWords listWords groupWords placeWords pagesFrom pagesOf placesOf allPages frameWords pagingWords words word wordsAt messageAt messagesAt placeAt placesAt framePlaces flagAt listAt bufferAt groupAt groupsFrom pagingFrom nodeAt
+    zeroAt lengthInBounds groupCounts countsInBounds groupFlags flagsAreFlags queueUnused freeUnused swapUnused enteredUnused groupUnused messageUnused unusedAreZero frameWiped idleAreWiped memoryTests replaced powerOnMemory firstPlace bufferPart queuePart runnerPart
     asked play run playMemory runMemory
 computes = tt

@@ -8,7 +8,7 @@ use Rattle.rules.specs.MemoryTest.{isMemory}
 use Rattle.rules.specs.Cases.MemoryCases.{cut, fresh, forced, busy, sevenUsed, swapped, firstSwapped}
 use Rattle.rules.specs.Cases.MemoryCases.{MapCases, StepOnMemoryCases, NodeCases, NoNodeCases, HeadCases, CountCases}
 use Rattle.rules.proofs.Cases.Computes.{computes}
-use Rattle.rules.proofs.Cases.TestComputes.{words-fail, node-fails, unused-fail, pages-fail, is-node, same-words, step-report, step-writes, step-refused, head-of, head-reads, head-none, counts-of, counts-none}
+use Rattle.rules.proofs.Cases.TestComputes.{words-fail, node-fails, page-fails, is-node, same-words, step-report, step-writes, step-refused, head-of, head-reads, head-none, counts-of, counts-none}
 
 pub map-cases : MapCases
 unfolding computes
@@ -26,32 +26,32 @@ map-cases =
 -- memories that the cases below speak of more than once
 fresh-node : isMemory fresh ≡ true
 unfolding computes
-fresh-node = is-node _ refl refl refl refl refl refl refl
+fresh-node = is-node _ refl
 
 -- the busy node, with a word past its size
 busy-node : isMemory (busy ++ (7 ∷ [])) ≡ true
 unfolding computes
-busy-node = is-node _ refl refl refl refl refl refl refl
+busy-node = is-node _ refl
 
 -- the one with seven places used up
 seven-used : isMemory sevenUsed ≡ true
 unfolding computes
-seven-used = is-node _ refl refl refl refl refl refl refl
+seven-used = is-node _ refl
 
 -- the one with a page in swap
 swapped-node : isMemory swapped ≡ true
 unfolding computes
-swapped-node = is-node _ refl refl refl refl refl refl refl
+swapped-node = is-node _ refl
 
 -- the one with a first page in swap
 first-swapped : isMemory firstSwapped ≡ true
 unfolding computes
-first-swapped = is-node _ refl refl refl refl refl refl refl
+first-swapped = is-node _ refl
 
 -- the one whose timer force keeps
 forced-timer : isMemory forced ≡ true
 unfolding computes
-forced-timer = is-node _ refl refl refl refl refl refl refl
+forced-timer = is-node _ refl
 
 pub node-cases : NodeCases
 unfolding computes
@@ -59,9 +59,9 @@ node-cases =
     record {
       fresh-node = fresh-node;
       busy-node = busy-node;
-      full-queue-node = is-node _ refl refl refl refl refl refl refl;
+      full-queue-node = is-node _ refl;
       seven-used = seven-used;
-      edges = is-node _ refl refl refl refl refl refl refl;
+      edges = is-node _ refl;
       swapped-node = swapped-node;
       first-swapped = first-swapped;
       forced-timer = forced-timer;
@@ -90,23 +90,23 @@ no-node-cases =
       length-nine-swapped = node-fails _ 5 refl;
       eight-used = node-fails _ 5 refl;
       timer-256 = node-fails _ 1 refl;
-      frame-twice = pages-fail _ refl;
-      frame-missing = pages-fail _ refl;
-      frame-listed-and-free = pages-fail _ refl;
-      frame-listed-twice = pages-fail _ refl;
-      swap-twice = pages-fail _ refl;
-      swap-missing = pages-fail _ refl;
-      swap-listed-and-free = pages-fail _ refl;
-      swap-listed-twice = pages-fail _ refl;
-      page-96 = pages-fail _ refl;
-      page-97th = node-fails _ 9 refl;
-      frame-in-swap-line = node-fails _ 10 refl;
-      swap-in-free-line = node-fails _ 12 refl;
-      entered-missing = node-fails _ 11 refl;
-      entered-another = node-fails _ 11 refl;
-      entered-twice = node-fails _ 11 refl;
-      entered-free = node-fails _ 11 refl;
-      entered-swap = node-fails _ 12 refl;
+      frame-twice = page-fails _ 1 refl;
+      frame-missing = page-fails _ 31 refl;
+      frame-listed-and-free = page-fails _ 0 refl;
+      frame-listed-twice = page-fails _ 1 refl;
+      swap-twice = page-fails _ 33 refl;
+      swap-missing = page-fails _ 95 refl;
+      swap-listed-and-free = page-fails _ 37 refl;
+      swap-listed-twice = page-fails _ 37 refl;
+      page-96 = page-fails _ 95 refl;
+      page-97th = node-fails _ 7 refl;
+      frame-in-swap-line = node-fails _ 8 refl;
+      swap-in-free-line = node-fails _ 10 refl;
+      entered-missing = node-fails _ 9 refl;
+      entered-another = node-fails _ 9 refl;
+      entered-twice = node-fails _ 9 refl;
+      entered-free = node-fails _ 9 refl;
+      entered-swap = node-fails _ 10 refl;
       list-too-long = node-fails _ 5 refl;
       list-too-short = node-fails _ 5 refl;
       list-of-none = node-fails _ 5 refl;
@@ -116,27 +116,37 @@ no-node-cases =
       revoked-two = words-fail _ 2 refl;
       atomic-two-first = words-fail _ 2 refl;
       pending-two-last = words-fail _ 2 refl;
-      queue-unused = unused-fail _ refl;
-      queue-unused-length = unused-fail _ refl;
-      queue-unused-last = unused-fail _ refl;
-      free-unused = unused-fail _ refl;
-      free-unused-last = unused-fail _ refl;
-      swap-unused = unused-fail _ refl;
-      swap-unused-last = unused-fail _ refl;
-      entered-unused = unused-fail _ refl;
-      entered-unused-last = unused-fail _ refl;
-      list-unused = unused-fail _ refl;
-      list-unused-first = unused-fail _ refl;
-      list-unused-last = unused-fail _ refl;
-      descriptor-unused = unused-fail _ refl;
-      descriptor-unused-first = unused-fail _ refl;
-      descriptor-unused-last = unused-fail _ refl;
-      words-past = unused-fail _ refl;
-      words-past-last = unused-fail _ refl;
+      queue-unused = words-fail _ 3 refl;
+      queue-unused-length = words-fail _ 3 refl;
+      queue-unused-last = words-fail _ 3 refl;
+      free-unused = words-fail _ 3 refl;
+      free-unused-last = words-fail _ 3 refl;
+      swap-unused = words-fail _ 3 refl;
+      swap-unused-last = words-fail _ 3 refl;
+      entered-unused = words-fail _ 3 refl;
+      entered-unused-last = words-fail _ 3 refl;
+      list-unused = words-fail _ 3 refl;
+      list-unused-first = words-fail _ 3 refl;
+      list-unused-last = words-fail _ 3 refl;
+      descriptor-unused = words-fail _ 3 refl;
+      descriptor-unused-first = words-fail _ 3 refl;
+      descriptor-unused-last = words-fail _ 3 refl;
+      words-past = words-fail _ 3 refl;
+      words-past-last = words-fail _ 3 refl;
       words-past-buffered = node-fails _ 5 refl;
       words-past-buffered-last = node-fails _ 5 refl;
       words-past-swapped = node-fails _ 5 refl;
-      pledges-97 = node-fails _ 13 refl;
+      free-frame-length = words-fail _ 4 refl;
+      free-frame-word = words-fail _ 4 refl;
+      free-swap-length = words-fail _ 4 refl;
+      free-swap-word = words-fail _ 4 refl;
+      used-up-length = node-fails _ 5 refl;
+      used-up-word = node-fails _ 5 refl;
+      behind-length = node-fails _ 5 refl;
+      behind-word = node-fails _ 5 refl;
+      used-up-swapped = node-fails _ 5 refl;
+      behind-swapped = node-fails _ 5 refl;
+      pledges-97 = node-fails _ 11 refl;
       used-of-none = node-fails _ 5 refl;
       pending-not-atomic = node-fails _ 5 refl;
       pending-not-atomic-queued = node-fails _ 5 refl;
@@ -144,21 +154,21 @@ no-node-cases =
       revoked-not-atomic = node-fails _ 5 refl;
       force-not-atomic-runner = node-fails _ 5 refl;
       revoked-not-atomic-runner = node-fails _ 5 refl;
-      pending-no-line-runner = node-fails _ 14 refl;
-      pending-no-line = node-fails _ 14 refl;
-      pending-no-line-first = node-fails _ 14 refl;
-      pending-no-line-last = node-fails _ 14 refl;
-      runner-not-atomic = node-fails _ 15 refl;
-      runner-not-atomic-buffered = node-fails _ 15 refl;
-      head-of-nobody = node-fails _ 16 refl;
-      head-of-another = node-fails _ 16 refl;
-      head-group-buffered = node-fails _ 16 refl;
-      head-group-revoked = node-fails _ 16 refl;
-      timer-idle = node-fails _ 16 refl;
-      timer-force-off = node-fails _ 16 refl;
-      timer-of-nobody = node-fails _ 16 refl;
-      timer-of-another = node-fails _ 16 refl;
-      runner-swapped = node-fails _ 17 refl;
+      pending-no-line-runner = node-fails _ 12 refl;
+      pending-no-line = node-fails _ 12 refl;
+      pending-no-line-first = node-fails _ 12 refl;
+      pending-no-line-last = node-fails _ 12 refl;
+      runner-not-atomic = node-fails _ 13 refl;
+      runner-not-atomic-buffered = node-fails _ 13 refl;
+      head-of-nobody = node-fails _ 14 refl;
+      head-of-another = node-fails _ 14 refl;
+      head-group-buffered = node-fails _ 14 refl;
+      head-group-revoked = node-fails _ 14 refl;
+      timer-idle = node-fails _ 14 refl;
+      timer-force-off = node-fails _ 14 refl;
+      timer-of-nobody = node-fails _ 14 refl;
+      timer-of-another = node-fails _ 14 refl;
+      runner-swapped = node-fails _ 15 refl;
     }
 
 pub step-on-memory-cases : StepOnMemoryCases
@@ -175,7 +185,7 @@ step-on-memory-cases =
       step-short = step-refused _ _ (words-fail _ 0 refl);
       step-no-node = step-refused _ _ (node-fails _ 0 refl);
       before-unknown = step-refused _ _ (node-fails _ 0 refl);
-      before-nobody = step-refused _ _ (node-fails _ 16 refl);
+      before-nobody = step-refused _ _ (node-fails _ 14 refl);
       before-schedule = step-refused _ _ (node-fails _ 0 refl);
       before-ticks = step-refused _ _ (words-fail _ 0 refl);
       unknown-two = step-report fresh _ fresh-node;
@@ -201,5 +211,5 @@ count-cases =
     record {
       counts-fresh = counts-of _ fresh-node;
       counts-told = counts-of _ swapped-node;
-      counts-no-node = counts-none _ (node-fails _ 16 refl);
+      counts-no-node = counts-none _ (node-fails _ 14 refl);
     }

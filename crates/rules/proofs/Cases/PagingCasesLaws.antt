@@ -19,7 +19,6 @@ send-cases =
       new-runner-spared = refl;
       timeout-sends = refl;
       whole = refl;
-      whole-old = refl;
     }
 
 pub bring-cases : BringCases

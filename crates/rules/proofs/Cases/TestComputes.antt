@@ -1,23 +1,23 @@
--- How the cases of memory are computed: the memory test fails where one clause does; it passes where each does, the unused words read at one
--- go and not each from the memory's start, the numbers of pages read once and not for each page again; two lists of words are the same where each
--- word is. Assumes nothing.
-use Prim.Native.Nat.{ℕ, zero, suc, _+_, _-_, _*_}
-use mathlib.Core.Path.{_≡_, refl, ap, _∙_}
-use mathlib.Core.Bool.{Bool, true, false, _&&_, false≢true}
-use mathlib.Core.List.{List, [], _∷_, _++_, map}
+-- How the cases of memory are computed: the memory test fails where one clause does, and passes where each does; that numbers stand once each is
+-- computed by drawing them one after the other; two lists of words are the same where each word is. Assumes nothing.
+use Prim.Native.Nat.{ℕ, zero, suc, _+_, _-_}
+use mathlib.Core.Path.{_≡_, refl, sym, ap, _∙_}
+use mathlib.Core.Bool.{Bool, true, false, cond, _&&_, false≢true}
+use mathlib.Core.List.{List, [], _∷_, _++_}
 use borrow.Author.Tests.{eqb-true}
 use lib.Dec.{eqb, leb}
 use lib.ListN.{length, take, drop, getD}
-use native.Mathlib.Numerals.{add-one}
-use Rattle.rules.specs.Lists.{Every, passes, pad, all, concatMap, upFrom}
-use Rattle.rules.specs.Build.{paper01, pageCount, groupCount, wordLimit}
+use native.Mathlib.Omega.{arith}
+use Rattle.rules.specs.Lists.{passes, all, isEmpty, countOf, upFrom}
+use Rattle.rules.specs.Build.{paper01, pageCount}
 use Rattle.rules.specs.Operation.{Operation, notNode, refused}
 use Rattle.rules.specs.Step.{step}
-use Rattle.rules.specs.Node.{Place, Group, Node}
+use Rattle.rules.specs.Node.{Node}
 use Rattle.rules.specs.Valid.{frameNumbers, frameOrder, standsOnce, nodeTests, isNode}
-use Rattle.rules.specs.Memory.{runningAt, timerAt, queuedAt, freeCountAt, queueAt, queueStride, freeAt, groupsAt, groupStride, atomicOffset, pendingOffset, forceOffset, revokedOffset, usedOffset, countOffset, heldOffset, describedOffset, descriptorOffset, listOffset, placeStride, swapCountAt, enteredCountAt, outAt, broughtAt, swapAt, enteredAt, size}
-use Rattle.rules.specs.Memory.{word, wordsAt, frameAddress, groupAddress, messagesAt, placeAt, placesAt, framePlaces, frameAt, flagAt, listAt, bufferAt, groupAt, groupsFrom, pagingFrom, nodeAt}
-use Rattle.rules.specs.MemoryTest.{zeroAt, countsInBounds, flagsAreFlags, queueUnused, freeUnused, swapUnused, enteredUnused, groupUnused, messageUnused, unusedAreZero, memoryTests, isMemory, replaced, stepMemory, emptyPart, runnerPart, headPart, headWords, pageCounts}
+use Rattle.rules.specs.Memory.{outAt, broughtAt, size}
+use Rattle.rules.specs.Memory.{word}
+use Rattle.rules.specs.MemoryTest.{memoryTests, isMemory, replaced, stepMemory, emptyPart, runnerPart, headPart, headWords, pageCounts}
+use Rattle.rules.proofs.Cases.MemoryParts.{Parts, partsOf, nodeIn, node-in, countsIn, counts-in, flagsIn, flags-in, unusedIn, unused-in, all-same, idleIn, idle-in}
 
 -- a test that always passes
 abbrev pub always : {A : Type 0} → A → Bool
@@ -32,11 +32,6 @@ fails (t ∷ ts) x (suc i) e = go (t x) refl (fails ts x i e)
     go : (b : Bool) → t x ≡ b → passes ts x ≡ false → passes (t ∷ ts) x ≡ false
     go true q r = rw q r
     go false q r = rw q
-
--- memory is no node where the i-th clause on its words fails
-pub words-fail : (m : List ℕ) (i : ℕ) → getD memoryTests i always m ≡ false → isMemory m ≡ false
-unfolding isMemory
-words-fail m i e = fails memoryTests m i e
 
 -- word by word
 abbrev pub same : List ℕ → List ℕ → Bool
@@ -56,149 +51,106 @@ same-words (x ∷ xs) (y ∷ ys) e = go (eqb x y) refl (same-words xs ys)
     go true q r = let h : x ≡ y = eqb-true x y q in let t : xs ≡ ys = r (rw (q, same) at e) in cc
     go false q r = absurd (false≢true (rw (q, same) at e))
 
--- a word in front of those behind it
-pub pad-drop : (m : List ℕ) (a k : ℕ) → pad (suc k) (drop a m) ≡ getD m a 0 ∷ pad k (drop (suc a) m)
-pad-drop [] zero k = refl
-pad-drop [] (suc a) k = refl
-pad-drop (x ∷ m) zero k = refl
-pad-drop (x ∷ m) (suc a) k = pad-drop m a k
+-- its clauses on words
+abbrev pub wordTests : List (Parts → Bool)
+wordTests = (λ p. leb size (length (p .start))) ∷ countsIn ∷ flagsIn ∷ unusedIn ∷ idleIn ∷ []
 
--- the words from an address on, read at one go
-pub words-at : (m : List ℕ) (a k : ℕ) → wordsAt m a k ≡ pad k (drop a m)
-unfolding wordsAt word
-words-at m a zero = refl
-words-at m a (suc k) = rw (add-one, pad-drop) (ap (λ (ws : List ℕ). getD m a 0 ∷ ws) (words-at m (suc a) k))
+-- all of them, with this test of the node
+abbrev pub tests : (Node → Bool) → List (Parts → Bool)
+tests t = wordTests ++ ((λ p. t (nodeIn p)) ∷ [])
 
--- the places of a frame or swap page, the words of each read at one go
-abbrev pub placesBy : List ℕ → ℕ → ℕ → List Place
-placesBy m a zero = []
-placesBy m a (suc k) = record { len = word m a; words = pad wordLimit (drop (a + 1) m) } ∷ placesBy m (a + placeStride) k
+-- tests that agree one by one, each list at its own argument
+abbrev pub Agree : {A B : Type 0} → List (A → Bool) → List (B → Bool) → A → B → Type 0
+Agree [] [] x y = Unit {0}
+Agree [] (u ∷ us) x y = ⊥
+Agree (t ∷ ts) [] x y = ⊥
+Agree (t ∷ ts) (u ∷ us) x y = (t x ≡ u y) × Agree ts us x y
 
--- they are those
-pub places-by : (m : List ℕ) (a k : ℕ) → placesAt m a k ≡ placesBy m a k
-unfolding placesAt placeAt
-places-by m a zero = refl
-places-by m a (suc k) = rw (words-at, places-by m (a + placeStride) k)
+-- agree as lists
+pub passes-same : {A B : Type 0} (ts : List (A → Bool)) (us : List (B → Bool)) (x : A) (y : B) → Agree ts us x y → passes ts x ≡ passes us y
+passes-same [] [] x y a = refl
+passes-same [] (u ∷ us) x y a = absurd a
+passes-same (t ∷ ts) [] x y a = absurd a
+passes-same (t ∷ ts) (u ∷ us) x y a = go (u y) refl (passes-same ts us x y (a .1))
+  where
+    go : (b : Bool) → u y ≡ b → passes ts x ≡ passes us y → passes (t ∷ ts) x ≡ passes (u ∷ us) y
+    go true q r = rw (a .0, q) r
+    go false q r = rw (a .0, q)
 
--- two functions that agree on each number give the same lists
-pub concat-same : {A : Type 0} (f g : ℕ → List A) → ((i : ℕ) → f i ≡ g i) → (xs : List ℕ) → concatMap f xs ≡ concatMap g xs
-concat-same f g e [] = refl
-concat-same f g e (x ∷ xs) = rw (e x, concat-same f g e xs)
+-- they are the memory test's
+pub tests-in : (m : List ℕ) → isMemory m ≡ passes (tests (isNode paper01)) (partsOf m)
+unfolding isMemory memoryTests
+tests-in m =
+    passes-same memoryTests (tests (isNode paper01)) m (partsOf m)
+    (refl, (counts-in m, (flags-in m, (unused-in m, (idle-in m, (ap (isNode paper01) (node-in m), tt))))))
 
--- the group whose record is at address a, each stretch of it read at one go
-abbrev pub groupBy : List ℕ → ℕ → Group
-groupBy m a =
-    let list = pad (word m (a + heldOffset)) (drop (a + listOffset) m) in
-    record {
-      atomic = flagAt m (a + atomicOffset);
-      pending = flagAt m (a + pendingOffset);
-      force = flagAt m (a + forceOffset);
-      revoked = flagAt m (a + revokedOffset);
-      buffer =
-          record {
-            used = word m (a + usedOffset);
-            count = word m (a + countOffset);
-            frames = list;
-            places = concatMap (λ f. placesBy m (frameAddress f) (paper01 .perFrame)) list;
-          };
-      descriptor = pad (word m (a + describedOffset)) (drop (a + descriptorOffset) m);
-    }
+-- memory is no node where the i-th clause on words fails
+pub words-fail : (m : List ℕ) (i : ℕ) → getD (tests (isNode paper01)) i always (partsOf m) ≡ false → isMemory m ≡ false
+words-fail m i e = tests-in m ∙ fails (tests (isNode paper01)) (partsOf m) i e
 
--- it is that group
-pub group-by : (m : List ℕ) (a : ℕ) → groupAt m a ≡ groupBy m a
-unfolding groupAt bufferAt listAt framePlaces
-group-by m a = simp (words-at, concat-same (framePlaces m) (λ f. placesBy m (frameAddress f) (paper01 .perFrame)) (λ f. places-by m (frameAddress f) (paper01 .perFrame)))
+-- and where the i-th on the node does
+pub node-fails : (m : List ℕ) (i : ℕ) → getD (nodeTests paper01) i always (nodeIn (partsOf m)) ≡ false → isMemory m ≡ false
+unfolding isNode
+node-fails m i e = words-fail m 5 (fails (nodeTests paper01) (nodeIn (partsOf m)) i e)
 
--- k groups from address a on
-abbrev pub groupsBy : List ℕ → ℕ → ℕ → List Group
-groupsBy m a zero = []
-groupsBy m a (suc k) = groupBy m a ∷ groupsBy m (a + groupStride) k
+-- a test fails on a list of numbers where it does on the i-th
+pub all-fails : (t : ℕ → Bool) (xs : List ℕ) (i : ℕ) → all t (take 1 (drop i xs)) ≡ false → all t xs ≡ false
+all-fails t [] zero e = e
+all-fails t [] (suc i) e = e
+all-fails t (x ∷ xs) zero e = go (t x) e
+  where
+    go : (b : Bool) → b && true ≡ false → b && all t xs ≡ false
+    go true f = absurd (false≢true (sym f))
+    go false f = refl
+all-fails t (x ∷ xs) (suc i) e = go (t x) (all-fails t xs i e)
+  where
+    go : (b : Bool) → all t xs ≡ false → b && all t xs ≡ false
+    go true f = f
+    go false f = refl
 
--- they are those
-pub groups-by : (m : List ℕ) (a k : ℕ) → groupsFrom m a k ≡ groupsBy m a k
-unfolding groupsFrom
-groups-by m a zero = refl
-groups-by m a (suc k) = rw (group-by m a, groups-by m (a + groupStride) k)
+-- "each frame stands once", frames and swap pages: memory is no node where number f does not
+pub page-fails : (m : List ℕ) (f : ℕ) → all (standsOnce (frameNumbers (nodeIn (partsOf m)))) (take 1 (drop f (upFrom 0 (pageCount paper01)))) ≡ false → isMemory m ≡ false
+unfolding nodeTests
+page-fails m f e = node-fails m 6 (all-fails (standsOnce (frameNumbers (nodeIn (partsOf m)))) (upFrom 0 (pageCount paper01)) f e)
 
--- the node that the words hold, each line of numbers read at one go
-abbrev pub nodeBy : List ℕ → Node
-nodeBy m =
-    record {
-      running = word m runningAt;
-      timer = word m timerAt;
-      queue = messagesAt m queueAt (word m queuedAt);
-      free = map (frameAt m) (pad (word m freeCountAt) (drop freeAt m));
-      paging =
-          record {
-            swap = map (frameAt m) (pad (word m swapCountAt) (drop swapAt m));
-            entered = pad (word m enteredCountAt) (drop enteredAt m);
-            out = word m outAt;
-            brought = word m broughtAt;
-          };
-      groups = groupsBy m groupsAt groupCount;
-    }
+-- the list without its first x
+abbrev pub drawn : ℕ → List ℕ → List ℕ
+drawn x [] = []
+drawn x (y ∷ ys) = elim (eqb y x) [ true ↦ ys | false ↦ y ∷ drawn x ys ]
 
--- it is that node
-pub node-by : (m : List ℕ) → nodeAt m ≡ nodeBy m
-unfolding nodeAt pagingFrom
-node-by m = simp (words-at, groups-by m groupsAt groupCount)
+-- x stands in the list
+abbrev pub has : ℕ → List ℕ → Bool
+has x [] = false
+has x (y ∷ ys) = elim (eqb y x) [ true ↦ true | false ↦ has x ys ]
 
--- memory is no node where the i-th clause on that node fails
-pub node-fails : (m : List ℕ) (i : ℕ) → getD (nodeTests paper01) i always (nodeBy m) ≡ false → isMemory m ≡ false
-unfolding isMemory memoryTests isNode
-node-fails m i e = fails memoryTests m 4 (rw (node-by m) (fails (nodeTests paper01) (nodeBy m) i e))
+-- the numbers, drawn from the list one after the other, are all that it has
+abbrev pub draws : List ℕ → List ℕ → Bool
+draws [] ys = isEmpty ys
+draws (x ∷ xs) ys = elim (has x ys) [ true ↦ draws xs (drawn x ys) | false ↦ false ]
 
--- the unused words, each stretch of them read at one go
-abbrev pub zeros : List ℕ → ℕ → ℕ → Bool
-zeros m a k = all (eqb 0) (pad k (drop a m))
+-- what is drawn stands in the list once more than in what is left
+pub drawn-count : (x k : ℕ) (ys : List ℕ) → has x ys ≡ true → countOf k ys ≡ cond (eqb x k) 1 0 + countOf k (drawn x ys)
+drawn-count x k [] e = absurd (false≢true e)
+drawn-count x k (y ∷ ys) e = go (eqb y x) refl (drawn-count x k ys)
+  where
+    go : (b : Bool) → eqb y x ≡ b → (has x ys ≡ true → countOf k ys ≡ cond (eqb x k) 1 0 + countOf k (drawn x ys)) → countOf k (y ∷ ys) ≡ cond (eqb x k) 1 0 + countOf k (drawn x (y ∷ ys))
+    go true q r = let h : y ≡ x = eqb-true y x q in rw (q, drawn, h)
+    go false q r = let left = r (rw (q, has) at e) in rw (q, drawn) (omega (arith, left))
 
--- those of one group
-abbrev pub groupZeros : List ℕ → ℕ → Bool
-groupZeros m g =
-    let a = groupAddress g in
-    let held = word m (a + heldOffset) in
-    let described = word m (a + describedOffset) in
-    zeros m (a + listOffset + held) (pageCount paper01 - held) && zeros m (a + descriptorOffset + described) (wordLimit - described)
+-- so each number stands as often in both
+pub draws-count : (xs ys : List ℕ) (k : ℕ) → draws xs ys ≡ true → countOf k ys ≡ countOf k xs
+draws-count [] [] k e = refl
+draws-count [] (y ∷ ys) k e = absurd (false≢true e)
+draws-count (x ∷ xs) ys k e = go (has x ys) refl (draws-count xs (drawn x ys) k)
+  where
+    go : (b : Bool) → has x ys ≡ b → (draws xs (drawn x ys) ≡ true → countOf k (drawn x ys) ≡ countOf k xs) → countOf k ys ≡ countOf k (x ∷ xs)
+    go true q r = drawn-count x k ys q ∙ ap (λ (n : ℕ). cond (eqb x k) 1 0 + n) (r (rw (q, draws) at e))
+    go false q r = absurd (false≢true (rw (q, draws) at e))
 
--- those of one message in the queue
-abbrev pub messageZeros : List ℕ → ℕ → Bool
-messageZeros m i =
-    let len = word m (queueAt + queueStride * i + 1) in
-    zeros m (queueAt + queueStride * i + 2 + len) (wordLimit - len)
-
--- all of them
-abbrev pub unusedZeros : List ℕ → Bool
-unusedZeros m =
-    zeros m (queueAt + queueStride * word m queuedAt) (queueStride * (paper01 .places - word m queuedAt))
-    && (zeros m (freeAt + word m freeCountAt) (paper01 .frames - word m freeCountAt)
-    && (zeros m (swapAt + word m swapCountAt) (paper01 .swap - word m swapCountAt)
-    && (zeros m (enteredAt + word m enteredCountAt) (paper01 .frames - word m enteredCountAt)
-    && (all (groupZeros m) (upFrom 1 groupCount) && all (messageZeros m) (upFrom 0 (word m queuedAt))))))
-
--- two tests that agree on each number agree on a list of them
-pub all-same : (f g : ℕ → Bool) → ((i : ℕ) → f i ≡ g i) → (xs : List ℕ) → all f xs ≡ all g xs
-all-same f g e [] = refl
-all-same f g e (x ∷ xs) = rw (e x, all-same f g e xs)
-
--- the same of one message in the queue
-pub message-zeros : (m : List ℕ) (i : ℕ) → messageUnused m i ≡ messageZeros m i
-unfolding zeroAt messageUnused
-message-zeros m i = simp words-at
-
--- and of all
-pub unused-zeros : (m : List ℕ) → unusedAreZero m ≡ unusedZeros m
-unfolding zeroAt queueUnused freeUnused swapUnused enteredUnused groupUnused unusedAreZero
-unused-zeros m = simp (words-at, all-same (messageUnused m) (messageZeros m) (message-zeros m))
-
--- memory is no node where an unused word is not 0
-pub unused-fail : (m : List ℕ) → unusedZeros m ≡ false → isMemory m ≡ false
-unfolding memoryTests
-unused-fail m e = words-fail m 3 (unused-zeros m ∙ e)
-
--- all tests pass where each does
-pub pass : {A : Type 0} (ts : List (A → Bool)) (x : A) → Every (λ t. t x ≡ true) ts → passes ts x ≡ true
-pass [] x u = refl
-pass (t ∷ ts) x u = rw (u .0) (pass ts x (u .1))
+-- each of the numbers below k stands once in a list where they are all that it has
+pub once : (k : ℕ) (ys : List ℕ) → draws (upFrom 0 k) ys ≡ true → all (standsOnce ys) (upFrom 0 k) ≡ all (standsOnce (upFrom 0 k)) (upFrom 0 k)
+unfolding standsOnce
+once k ys e = all-same (standsOnce ys) (standsOnce (upFrom 0 k)) (λ i. ap (λ (n : ℕ). eqb n 1) (draws-count (upFrom 0 k) ys i e)) (upFrom 0 k)
 
 -- the list without its i-th element
 abbrev pub lacking : {A : Type 0} → ℕ → List A → List A
@@ -217,87 +169,70 @@ pass-at (t ∷ ts) x (suc i) e r = go (t x) refl (pass-at ts x i e)
     go true q f = rw q (f (rw (q, passes) at r))
     go false q f = absurd (false≢true (rw (q, passes) at r))
 
--- the tests of a node but for those that "each frame stands once", and once in the free line or the order of entry
-abbrev pub otherTests : List (Node → Bool)
-otherTests = lacking 10 (lacking 8 (nodeTests paper01))
+-- where all pass, the first does and the others do
+pub pass-both : {A : Type 0} (t : A → Bool) (ts : List (A → Bool)) (x : A) → passes (t ∷ ts) x ≡ true → (t x ≡ true) × (passes ts x ≡ true)
+pass-both t ts x e = go (t x) refl
+  where
+    go : (b : Bool) → t x ≡ b → (t x ≡ true) × (passes ts x ≡ true)
+    go true q = (q, rw (q, passes) at e)
+    go false q = absurd (false≢true (rw (q, passes) at e))
 
--- each of the numbers below k stands once in the list
-abbrev pub allOnce : ℕ → List ℕ → Bool
-allOnce k fs = all (standsOnce fs) (upFrom 0 k)
+-- the tests of a node, where those that "each frame stands once", and once in the free line or the order of entry, are: the numbers are all that the
+-- lists have
+abbrev pub drawnTests : List (Node → Bool)
+drawnTests =
+    (λ n. draws (upFrom 0 (pageCount paper01)) (frameNumbers n))
+    ∷ (λ n. draws (upFrom 0 (paper01 .frames)) (frameOrder n))
+    ∷ lacking 8 (lacking 6 (nodeTests paper01))
 
--- the test of a list whose numbers are read first: it looks at each often, and they are not read again each time
-abbrev pub read : List ℕ → (List ℕ → Bool) → Bool
-read [] t = t []
-read (zero ∷ xs) t = read xs (λ ys. t (zero ∷ ys))
-read (suc x ∷ xs) t = read xs (λ ys. t (suc x ∷ ys))
+-- a node that passes them is one
+pub drawn-node : (n : Node) → passes drawnTests n ≡ true → isNode paper01 n ≡ true
+unfolding isNode nodeTests standsOnce
+drawn-node n e =
+    let pages = pass-both (λ n. draws (upFrom 0 (pageCount paper01)) (frameNumbers n)) (drop 1 drawnTests) n e in
+    let frames = pass-both (λ n. draws (upFrom 0 (paper01 .frames)) (frameOrder n)) (drop 2 drawnTests) n (pages .1) in
+    pass-at (nodeTests paper01) n 6 (once (pageCount paper01) (frameNumbers n) (pages .0))
+    (pass-at (lacking 6 (nodeTests paper01)) n 8 (once (paper01 .frames) (frameOrder n) (frames .0)) (frames .1))
 
--- it is that test
-pub read-same : (xs : List ℕ) (t : List ℕ → Bool) → t xs ≡ read xs t
-read-same [] t = refl
-read-same (zero ∷ xs) t = read-same xs (λ ys. t (zero ∷ ys))
-read-same (suc x ∷ xs) t = read-same xs (λ ys. t (suc x ∷ ys))
-
--- "each frame stands once", frames and swap pages
-abbrev pub pagesOnce : List ℕ → Bool
-pagesOnce m = read (frameNumbers (nodeBy m)) (allOnce (pageCount paper01))
-
--- memory is no node where one does not
-pub pages-fail : (m : List ℕ) → pagesOnce m ≡ false → isMemory m ≡ false
-unfolding nodeTests
-pages-fail m e = node-fails m 8 (read-same (frameNumbers (nodeBy m)) (allOnce (pageCount paper01)) ∙ e)
-
--- each frame stands once, in the free line or the order of entry
-abbrev pub framesOnce : List ℕ → Bool
-framesOnce m = read (frameOrder (nodeBy m)) (allOnce (paper01 .frames))
+-- a last test may give way to one that passes where it does
+pub pass-last : {A : Type 0} (ts : List (A → Bool)) (t u : A → Bool) (x : A)
+    → (t x ≡ true → u x ≡ true)
+    → passes (ts ++ (t ∷ [])) x ≡ true
+    → passes (ts ++ (u ∷ [])) x ≡ true
+pass-last [] t u x f e = rw (f (pass-both t [] x e .0))
+pass-last (s ∷ ts) t u x f e =
+    let both = pass-both s (ts ++ (t ∷ [])) x e in
+    rw (both .0) (pass-last ts t u x f (both .1))
 
 -- a memory that passes each test is a node
-pub is-node : (m : List ℕ)
-    → leb size (length m) ≡ true
-    → countsInBounds m ≡ true
-    → flagsAreFlags m ≡ true
-    → unusedZeros m ≡ true
-    → pagesOnce m ≡ true
-    → framesOnce m ≡ true
-    → passes otherTests (nodeBy m) ≡ true
-    → isMemory m ≡ true
-unfolding isMemory memoryTests isNode nodeTests
-is-node m long counts flags unused pages frames others =
-    pass memoryTests m (long, (counts, (flags, (unused-zeros m ∙ unused, (rw (node-by m) holds, tt)))))
-  where
-    stand : allOnce (pageCount paper01) (frameNumbers (nodeBy m)) ≡ true
-    stand = read-same (frameNumbers (nodeBy m)) (allOnce (pageCount paper01)) ∙ pages
-
-    order : allOnce (paper01 .frames) (frameOrder (nodeBy m)) ≡ true
-    order = read-same (frameOrder (nodeBy m)) (allOnce (paper01 .frames)) ∙ frames
-
-    holds : isNode paper01 (nodeBy m) ≡ true
-    holds = pass-at (nodeTests paper01) (nodeBy m) 8 stand (pass-at (lacking 8 (nodeTests paper01)) (nodeBy m) 10 order others)
+pub is-node : (m : List ℕ) → passes (tests (passes drawnTests)) (partsOf m) ≡ true → isMemory m ≡ true
+is-node m e = tests-in m ∙ pass-last wordTests (λ p. passes drawnTests (nodeIn p)) (λ p. isNode paper01 (nodeIn p)) (partsOf m) (drawn-node (nodeIn (partsOf m))) e
 
 -- a step on memory that is a node, and on one that is none
-pub step-report : (m : List ℕ) (op : Operation) → isMemory m ≡ true → stepMemory m op .report ≡ step paper01 (nodeBy m) op .report
+pub step-report : (m : List ℕ) (op : Operation) → isMemory m ≡ true → stepMemory m op .report ≡ step paper01 (nodeIn (partsOf m)) op .report
 unfolding stepMemory
-step-report m op e = rw (e, stepMemory, node-by m)
+step-report m op e = rw (e, stepMemory, node-in m)
 
 -- the words that it leaves, as far as they are looked at
 pub step-writes : (m : List ℕ) (op : Operation) (look : List ℕ → List ℕ) (ws : List ℕ)
     → isMemory m ≡ true
-    → same (look (replaced (step paper01 (nodeBy m) op .node) m)) ws ≡ true
+    → same (look (replaced (step paper01 (nodeIn (partsOf m)) op .node) m)) ws ≡ true
     → look (stepMemory m op .memory) ≡ ws
 unfolding stepMemory
-step-writes m op look ws e r = rw (e, stepMemory, node-by m) (same-words _ _ r)
+step-writes m op look ws e r = rw (e, stepMemory, node-in m) (same-words _ _ r)
 
 pub step-refused : (m : List ℕ) (op : Operation) → isMemory m ≡ false → stepMemory m op ≡ record { report = refused notNode; memory = m }
 unfolding stepMemory
 step-refused m op e = rw (e, stepMemory)
 
 -- the head message's part, of both
-pub head-of : (m : List ℕ) → isMemory m ≡ true → headPart m ≡ runnerPart m (nodeBy m)
+pub head-of : (m : List ℕ) → isMemory m ≡ true → headPart m ≡ runnerPart m (nodeIn (partsOf m))
 unfolding headPart
-head-of m e = rw (e, headPart, node-by m)
+head-of m e = rw (e, headPart, node-in m)
 
 pub head-reads : (m ws : List ℕ)
     → isMemory m ≡ true
-    → same (take (runnerPart m (nodeBy m) .len) (drop (runnerPart m (nodeBy m) .start) m)) ws ≡ true
+    → same (take (runnerPart m (nodeIn (partsOf m)) .len) (drop (runnerPart m (nodeIn (partsOf m)) .start) m)) ws ≡ true
     → headWords m ≡ ws
 unfolding headWords
 head-reads m ws e r = rw (head-of m e) (same-words _ _ r)

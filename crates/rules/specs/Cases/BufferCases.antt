@@ -134,9 +134,6 @@ pub record DisposeCases : Type 0 where
   -- a used-up place: h and n, the frame still held
   pub used-up-place : Stands (bytes "A,3,5,6\nA,3,7\nS,3\nD\n") 420
       (1 ∷ 0 ∷ 0 ∷ 0 ∷ 1 ∷ 1 ∷ 1 ∷ 0 ∷ replicate 8 0 ++ (0 ∷ replicate 95 0))
-  -- its words and its kept length stay
-  pub used-up-words : Stands (bytes "A,3,5,6\nA,3,7\nS,3\nD\n") 1092
-      (2 ∷ 5 ∷ 6 ∷ replicate 6 0 ++ (1 ∷ 7 ∷ replicate 61 0))
   -- "A frame whose places are all used up is freed": after 8 of 9, h is 0, the list is frame 1 alone
   pub used-up-frame : Stands (copies 9 "A,3,5\n" ++ (bytes "S,3\n" ++ copies 8 "D\n")) 420
       (1 ∷ 0 ∷ 0 ∷ 0 ∷ 0 ∷ 1 ∷ 1 ∷ 0 ∷ replicate 8 0 ++ (1 ∷ replicate 95 0))
@@ -161,12 +158,3 @@ pub record DisposeCases : Type 0 where
   -- and the line has all 32
   pub freed-count : Stands (bytes "A,2,5\nA,3,6\nS,2\nD\nS,3\nD\n") 3
       (32 ∷ [])
-  -- "Freed words, and the length kept with each message, stay unchanged."
-  pub freed-words : Stands (bytes "A,3,5,6\nA,3,7\nS,3\nD\nD\n") 1092
-      (2 ∷ 5 ∷ 6 ∷ replicate 6 0 ++ (1 ∷ 7 ∷ replicate 61 0))
-  -- frame 0, freed and alone in the line, is taken again: "a written message's words past its length are 0", the next place keeps its own
-  pub taken-again : Stands (bytes "A,1,7,8,9\nA,1,4,5\n" ++ (copies 248 "A,2,6\n" ++ bytes "S,1\nD\nD\nS,0\nA,1,3\n")) 1092
-      (1 ∷ 3 ∷ replicate 7 0 ++ (2 ∷ 4 ∷ 5 ∷ replicate 60 0))
-  -- group 1 holds it
-  pub taken-again-list : Stands (bytes "A,1,7,8,9\nA,1,4,5\n" ++ (copies 248 "A,2,6\n" ++ bytes "S,1\nD\nD\nS,0\nA,1,3\n")) 196
-      (1 ∷ 0 ∷ 0 ∷ 0 ∷ 0 ∷ 1 ∷ 1 ∷ 0 ∷ replicate 8 0 ++ replicate 96 0)

@@ -73,7 +73,11 @@ allStand a (p ∷ ps) m = begins (p .held) (allStand (p .start + length (p .held
 abbrev pub Leaves : List ℕ → List Stretch → Type 0
 Leaves s ps = allStand 0 ps (memoryAfter s) ≡ true
 
--- a place with a message of one word
+-- the words of a place with a message of one word
+abbrev pub kept : ℕ → List ℕ
+kept w = 1 ∷ w ∷ replicate 7 0
+
+-- such a place
 abbrev pub oneWord : ℕ → Place
 oneWord w = record { len = 1; words = pad 8 (w ∷ []) }
 

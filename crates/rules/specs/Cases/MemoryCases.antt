@@ -1,6 +1,6 @@
 -- The memory: where each number stands, what power-on and a step do to words, answer 1, and for each clause of "Memory is a node when" a
 -- memory that differs from a node's in that clause alone. Addresses are docs/MEMORY.md's. Assumes nothing.
-use Prim.Native.Nat.{ℕ, _+_, _-_}
+use Prim.Native.Nat.{ℕ, zero, suc, _+_, _-_}
 use mathlib.Core.Path.{_≡_}
 use mathlib.Core.Bool.{true, false}
 use mathlib.Core.List.{List, [], _∷_, _++_}
@@ -13,7 +13,9 @@ use Rattle.rules.specs.Cases.Case.{copies, memoryAfter, Stands, Stretch,
 
 -- memory with these words from address a on
 abbrev pub put : ℕ → List ℕ → List ℕ → List ℕ
-put a ws m = take a m ++ (ws ++ drop (a + length ws) m)
+put zero ws m = ws ++ drop (length ws) m
+put (suc a) ws [] = ws
+put (suc a) ws (x ∷ m) = x ∷ put a ws m
 
 -- memory but for the words from address a on and before address b
 abbrev pub cut : ℕ → ℕ → List ℕ → List ℕ
@@ -27,10 +29,15 @@ numberAndZeros a = record { answer = a; value = 0; trap = 0; upcall = 0; moved =
 abbrev pub answered : ℕ → List ℕ → MemoryStep
 answered a m = record { report = numberAndZeros a; memory = m }
 
+-- words behind k zeros
+abbrev pub behind : ℕ → List ℕ → List ℕ
+behind zero ws = ws
+behind (suc k) ws = 0 ∷ behind k ws
+
 -- memory with these stretches, in the order of their addresses, and else 0; its words are those from address a on
 abbrev pub laid : ℕ → List Stretch → List ℕ
-laid a [] = replicate (8104 - a) 0
-laid a (p ∷ ps) = replicate (p .start - a) 0 ++ (p .held ++ laid (p .start + length (p .held)) ps)
+laid a [] = behind (8104 - a) []
+laid a (p ∷ ps) = behind (p .start - a) (p .held ++ laid (p .start + length (p .held)) ps)
 
 -- a node at power-on: nothing but the free line and the swap line, and how many are in them
 abbrev pub fresh : List ℕ
@@ -53,8 +60,6 @@ busy =
     ∷ 196 holds (1 ∷ 1 ∷ 0 ∷ 0 ∷ 0 ∷ 0 ∷ 0 ∷ 2 ∷ 9 ∷ 8 ∷ [])
     ∷ 420 holds (1 ∷ 0 ∷ 1 ∷ 1 ∷ 2 ∷ 8 ∷ 2 ∷ 0 ∷ [])
     ∷ 436 holds (0 ∷ 1 ∷ [])
-    ∷ 1092 holds (2 ∷ 10 ∷ 11 ∷ [])
-    ∷ 1101 holds (2 ∷ 20 ∷ 21 ∷ [])
     ∷ 1110 holds (2 ∷ 30 ∷ 31 ∷ [])
     ∷ 1119 holds concatMap (λ w. 1 ∷ w ∷ replicate 7 0) (40 ∷ 50 ∷ 60 ∷ 70 ∷ 80 ∷ 90 ∷ 100 ∷ [])
     ∷ 8004 holds (64 ∷ 2 ∷ 0 ∷ 0 ∷ upFrom 32 64)
@@ -76,7 +81,7 @@ sixteen =
 
 -- group 3 runs, its list the frames 1 and 0, 7 places of the first used up
 abbrev pub sevenUsed : List ℕ
-sevenUsed = put 0 (3 ∷ []) (put 420 (1 ∷ 0 ∷ 0 ∷ 0 ∷ 7 ∷ 9 ∷ []) (put 436 (1 ∷ 0 ∷ []) sixteen))
+sevenUsed = put 0 (3 ∷ []) (put 420 (1 ∷ 0 ∷ 0 ∷ 0 ∷ 7 ∷ 9 ∷ []) (put 436 (1 ∷ 0 ∷ []) (put 1164 (replicate 63 0) sixteen)))
 
 -- group 1 runs in a section with 16 messages of 8 words in the queue; the free line begins with the frames 1 and 8
 abbrev pub fullQueue : List ℕ
@@ -177,8 +182,8 @@ pub record StepOnMemoryCases : Type 0 where
   pub dispose-report :
       stepMemory (busy ++ (7 ∷ [])) (user dispose) .report
       ≡ record { answer = 0; value = 0; trap = 0; upcall = 0; moved = 1; sent = [] }
-  -- it is "written straight into the frame's part of the memory", and the used-up places before it stay; frame 2 is the last in "the order of entry
-  -- into frames". "Memory past the node's size is never touched."
+  -- it is "written straight into the frame's part of the memory"; frame 2 is the last in "the order of entry into frames". "Memory past the node's
+  -- size is never touched."
   pub dispose-memory :
       cut 1245 8004 (stepMemory (busy ++ (7 ∷ [])) (user dispose) .memory)
       ≡ take 1245
@@ -194,15 +199,14 @@ pub record StepOnMemoryCases : Type 0 where
 -- memories that are nodes, at the edges of the clauses
 pub record NodeCases : Type 0 where
   pub fresh-node : isMemory fresh ≡ true
-  -- memory longer than a node is a node by its first words
+  -- memory longer than a node is a node by its first words, whatever stands behind them; used-up places that are 0
   pub busy-node : isMemory (busy ++ (7 ∷ [])) ≡ true
   -- 16 messages in the queue, the free line not in order
   pub full-queue-node : isMemory fullQueue ≡ true
   -- "h the used-up places before the first (0 to 7 ..)"; a list in any order
   pub seven-used : isMemory sevenUsed ≡ true
   -- the timer at 255, a queued message of group 8 and one of 8 words, a buffered one of 8 words, a descriptor of 8 words; group 5 atomic, with
-  -- force on and revoked, with no line, group 3 pending with a line in its buffer, group 8 with one in the queue. "Places used up or never used
-  -- may hold anything" (docs/DECISIONS.md), and so may free frames and swap pages
+  -- force on and revoked, with no line, group 3 pending with a line in its buffer, group 8 with one in the queue
   pub edges :
       isMemory
       (put 1 (255 ∷ [])
@@ -212,10 +216,8 @@ pub record NodeCases : Type 0 where
       (put 644 (1 ∷ 0 ∷ 1 ∷ 1 ∷ [])
       (put 980 (1 ∷ 1 ∷ [])
       (put 987 (8 ∷ [])
-      (put 1092 (replicate 18 9)
       (put 1173 (8 ∷ [])
-      (put 1182 (replicate 6822 9)
-      busy))))))))))
+      busy))))))))
       ≡ true
   -- a page in swap, and the first page of the group, which runs, in a frame
   pub swapped-node : isMemory swapped ≡ true
@@ -250,7 +252,7 @@ pub record NoNodeCases : Type 0 where
   pub length-zero-swapped : isMemory (put 3756 (0 ∷ 0 ∷ 0 ∷ []) swapped) ≡ false
   pub length-nine-swapped : isMemory (put 3756 (9 ∷ []) swapped) ≡ false
   -- "h"
-  pub eight-used : isMemory (put 424 (8 ∷ 8 ∷ []) sixteen) ≡ false
+  pub eight-used : isMemory (put 424 (8 ∷ 8 ∷ []) (put 1092 (replicate 72 0) sixteen)) ≡ false
   -- "timer"
   pub timer-256 : isMemory (put 1 (256 ∷ []) busy) ≡ false
   -- "each frame stands once, in the free line or in one list": twice in the line, none, in the line and in a list, in two lists. In the last
@@ -259,7 +261,7 @@ pub record NoNodeCases : Type 0 where
   pub frame-missing : isMemory (put 3 (31 ∷ []) (put 195 (0 ∷ []) (put 8005 (1 ∷ []) (put 8072 (31 ∷ []) fresh)))) ≡ false
   pub frame-listed-and-free : isMemory (put 164 (0 ∷ []) (put 8072 (2 ∷ []) busy)) ≡ false
   pub frame-listed-twice :
-      isMemory (put 3 (29 ∷ []) (put 193 (0 ∷ []) (put 649 (1 ∷ 1 ∷ []) (put 660 (1 ∷ []) (put 8005 (3 ∷ []) (put 8074 (31 ∷ []) sixteen)))))) ≡ false
+      isMemory (put 3 (29 ∷ []) (put 193 (0 ∷ []) (put 649 (8 ∷ 1 ∷ []) (put 660 (1 ∷ []) (put 8005 (3 ∷ []) (put 8074 (31 ∷ []) sixteen)))))) ≡ false
   -- "swap pages and their line meet what 01 asks of frames and the free line": the same of swap pages
   pub swap-twice : isMemory (put 8008 (33 ∷ []) fresh) ≡ false
   pub swap-missing : isMemory (put 8004 (63 ∷ []) (put 8071 (0 ∷ []) fresh)) ≡ false
@@ -272,7 +274,7 @@ pub record NoNodeCases : Type 0 where
   pub page-97th : isMemory (put 8004 (64 ∷ []) (put 8071 (96 ∷ []) swapped)) ≡ false
   -- a frame in the swap line, and in no other: swap page 0 is in its stead in the list of group 3, which has one message
   pub frame-in-swap-line :
-      isMemory (put 0 (0 ∷ []) (put 424 (0 ∷ 1 ∷ 1 ∷ []) (put 436 (32 ∷ 0 ∷ []) (put 3396 (1 ∷ 5 ∷ []) (put 8004 (64 ∷ 1 ∷ 3 ∷ 2 ∷ 4 ∷ upFrom 33 63) swapped)))))
+      isMemory (put 0 (0 ∷ []) (put 424 (0 ∷ 1 ∷ 1 ∷ []) (put 436 (32 ∷ 0 ∷ []) (put 1443 (0 ∷ 0 ∷ []) (put 3396 (1 ∷ 5 ∷ []) (put 3756 (0 ∷ 0 ∷ 0 ∷ []) (put 8004 (64 ∷ 1 ∷ 3 ∷ 2 ∷ 4 ∷ upFrom 33 63) swapped)))))))
       ≡ false
   -- a swap page in the free line, and in no other: it stands for frame 4, which group 3 holds
   pub swap-in-free-line : isMemory (put 3 (32 ∷ []) (put 195 (32 ∷ []) (put 8004 (62 ∷ []) (put 8008 (upFrom 33 4 ++ (upFrom 38 58 ++ (0 ∷ []))) swapped)))) ≡ false
@@ -284,8 +286,8 @@ pub record NoNodeCases : Type 0 where
   pub entered-free : isMemory (put 8005 (2 ∷ []) (put 8073 (5 ∷ []) swapped)) ≡ false
   pub entered-swap : isMemory (put 8005 (2 ∷ []) (put 8073 (37 ∷ []) swapped)) ≡ false
   -- "each list has its rounded-up length": one frame too many, one too few
-  pub list-too-long : isMemory (put 425 (6 ∷ []) busy) ≡ false
-  pub list-too-short : isMemory (put 424 (2 ∷ 15 ∷ []) sixteen) ≡ false
+  pub list-too-long : isMemory (put 425 (6 ∷ []) (put 1164 (replicate 18 0) busy)) ≡ false
+  pub list-too-short : isMemory (put 424 (2 ∷ 15 ∷ []) (put 1092 (replicate 18 0) sixteen)) ≡ false
   pub list-of-none :
       isMemory (put 3 (31 ∷ []) (put 195 (0 ∷ []) (put 650 (1 ∷ []) (put 660 (31 ∷ []) (put 8005 (1 ∷ []) (put 8072 (31 ∷ []) fresh)))))) ≡ false
   -- "flags are 0 or 1": atomic, pending, force, revoked
@@ -322,6 +324,20 @@ pub record NoNodeCases : Type 0 where
   pub words-past-buffered : isMemory (put 1113 (1 ∷ []) busy) ≡ false
   pub words-past-buffered-last : isMemory (put 1181 (1 ∷ []) busy) ≡ false
   pub words-past-swapped : isMemory (put 3764 (1 ∷ []) swapped) ≡ false
+  -- "Memory is no node (1) if a frame or swap page has a word or kept length other than 0 that is no part of a waiting message.": of a free frame the
+  -- first kept length, and the last word; of a free swap page
+  pub free-frame-length : isMemory (put 1236 (1 ∷ []) busy) ≡ false
+  pub free-frame-word : isMemory (put 3395 (1 ∷ []) busy) ≡ false
+  pub free-swap-length : isMemory (put 3396 (1 ∷ []) busy) ≡ false
+  pub free-swap-word : isMemory (put 8003 (1 ∷ []) busy) ≡ false
+  -- of the used-up places, and of those behind the last message
+  pub used-up-length : isMemory (put 1092 (1 ∷ []) busy) ≡ false
+  pub used-up-word : isMemory (put 1109 (1 ∷ []) busy) ≡ false
+  pub behind-length : isMemory (put 1182 (1 ∷ []) busy) ≡ false
+  pub behind-word : isMemory (put 1235 (1 ∷ []) busy) ≡ false
+  -- in a swap page
+  pub used-up-swapped : isMemory (put 3756 (1 ∷ []) firstSwapped) ≡ false
+  pub behind-swapped : isMemory (put 3827 (1 ∷ []) swapped) ≡ false
   -- "pledges sum to at most 32", which now reads 96: all pages full, and a message of the runner's queued
   pub pledges-97 : isMemory (put 0 (1 ∷ 0 ∷ 1 ∷ 0 ∷ 1 ∷ 1 ∷ 7 ∷ []) (put 196 (1 ∷ []) fullPages)) ≡ false
   -- "h is 0 where n is 0": group 5 with a frame for its one used-up place

@@ -5,38 +5,13 @@
 -- the swap line, from 8072 on the order of entry. Assumes nothing.
 use Prim.Native.Nat.{ℕ}
 use mathlib.Core.Path.{_≡_}
-use mathlib.Core.List.{List, [], _∷_, _++_, map}
+use mathlib.Core.List.{[], _∷_, _++_}
 use lib.ListN.{replicate}
 use Rattle.rules.specs.Lists.{concatMap, upFrom}
-use Rattle.rules.specs.Node.{Place, Node, emptyGroup, withPaging, withBuffer}
+use Rattle.rules.specs.Node.{Node, withPaging}
 use Rattle.rules.specs.Memory.{words}
 use Rattle.rules.specs.Text.{bytes}
-use Rattle.rules.specs.Cases.Case.{copies, memoryAfter, _holds_, Leaves, oneWord, withPages, full, crowded, packed, LeavesFrom}
-
--- the words of a place with a message of one word
-abbrev pub kept : ℕ → List ℕ
-kept w = 1 ∷ w ∷ replicate 7 0
-
--- the words of a place with this length and eight times this word
-abbrev pub older : ℕ → ℕ → List ℕ
-older l w = l ∷ replicate 8 w
-
--- such a place
-abbrev pub olderPlace : ℕ → ℕ → Place
-olderPlace l w = record { len = l; words = replicate 8 w }
-
--- group 2 has frame 0, in which its one message is behind 2 used-up places and before 5 that keep words of old; group 1 has the others
-abbrev pub oldWords : Node
-oldWords =
-    full 32 (withPages (upFrom 1 31) (replicate 248 7))
-    (withBuffer
-    (record {
-      used = 2;
-      count = 1;
-      frames = 0 ∷ [];
-      places = olderPlace 2 8 ∷ olderPlace 3 9 ∷ oneWord 5 ∷ map (olderPlace 99) (upFrom 11 5);
-    })
-    emptyGroup)
+use Rattle.rules.specs.Cases.Case.{copies, memoryAfter, _holds_, Leaves, kept, crowded, packed, LeavesFrom}
 
 -- the node, with these counts of pages sent out and brought in
 abbrev pub counting : ℕ → ℕ → Node → Node
@@ -105,31 +80,22 @@ pub record SendCases : Type 0 where
       ∷ 8004 holds (62 ∷ 32 ∷ 2 ∷ 0 ∷ [])
       ∷ 8072 holds (upFrom 2 30 ++ (0 ∷ 1 ∷ []))
       ∷ [])
-  -- "Pages go whole": the used-up place too. The frame left behind keeps its words, where the new page's first message does not stand
+  -- "Pages go whole": behind its used-up place the message, and the list names the swap page
   pub whole : LeavesFrom (packed 1 (5 ∷ 6 ∷ [])) (bytes "S,2\nD\nS,0\nA,1,7\n")
       (312 holds (1 ∷ 1 ∷ 1 ∷ [])
       ∷ 324 holds (32 ∷ 0 ∷ [])
-      ∷ 1092 holds (kept 7 ++ (kept 6 ++ replicate 54 0))
-      ∷ 3396 holds (kept 5 ++ (kept 6 ++ replicate 54 0))
-      ∷ [])
-  -- and places that were not written since the page was taken
-  pub whole-old : LeavesFrom oldWords (bytes "A,4,6\n")
-      (312 holds (2 ∷ 1 ∷ 1 ∷ [])
-      ∷ 324 holds (32 ∷ 0 ∷ [])
-      ∷ 1092 holds (kept 6 ++ (older 3 9 ++ (kept 5 ++ concatMap (older 99) (upFrom 11 5))))
-      ∷ 3396 holds (older 2 8 ++ (older 3 9 ++ (kept 5 ++ concatMap (older 99) (upFrom 11 5))))
+      ∷ 3396 holds (replicate 9 0 ++ (kept 6 ++ replicate 54 0))
       ∷ [])
 
 -- a page in swap that is needed
 pub record BringCases : Type 0 where
   -- "A swapped-out page is brought in before it is written", here to frame 1, which is free: the whole page, and it is the last in the order of
-  -- entry. The swap page joins the end of its line and keeps its words, in which 6 is not written
+  -- entry. The swap page joins the end of its line
   pub write-brings : LeavesFrom (packed 1 (5 ∷ [])) (bytes "A,1,7\nS,1\n" ++ (copies 8 "D\n" ++ bytes "S,0\nA,2,6\n"))
       (3 holds (0 ∷ [])
       ∷ 312 holds (0 ∷ 2 ∷ 1 ∷ [])
       ∷ 324 holds (1 ∷ 0 ∷ [])
       ∷ 1164 holds (kept 5 ++ (kept 6 ++ replicate 54 0))
-      ∷ 3396 holds (kept 5 ++ replicate 63 0)
       ∷ 8004 holds (64 ∷ 32 ∷ 1 ∷ 1 ∷ upFrom 33 63 ++ (32 ∷ upFrom 2 30 ++ (0 ∷ 1 ∷ [])))
       ∷ [])
   -- "freed in a line, as frames are": the next page sent out takes the front, number 33

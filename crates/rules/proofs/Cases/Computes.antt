@@ -1,5 +1,6 @@
--- Computing with the rules: to unfold `computes` is to unfold every definition that a step, a listing, the memory map and the clauses of the
--- memory test are made of. isMemory, stepMemory, the head's part and the counts of pages stay shut: TestComputes has the laws of them. Assumes nothing.
+-- Computing with the rules: to unfold `computes` is to unfold every definition that a step, a listing, the memory map and the clauses of "a node" are
+-- made of. The memory test, its clauses on words, a step on memory, the head's part and the counts of pages stay shut: MemoryParts and TestComputes
+-- have the laws of them. Assumes nothing.
 use Rattle.rules.specs.Text.{extendFirst, split, isDigit, valueFrom, decimalBefore, decimal, row}
 use Rattle.rules.specs.Script.{isNumber, number, andNumber, numbers, groupAndWords, oneField, noField, yesOrNo, forceField, letters, lettered, onlyByte, operationOf, readFields, readLine, ended, scriptLines, reportLine, listFrom, header, listing}
 use Rattle.rules.specs.Node.{emptyPage, emptyPaging, powerOn, groupOf, withRunning, withTimer, withQueue, withFree, withPaging, withGroups, withGroup, withEntered, withFlags, withTimerFlags, withBuffer, withDescriptor, bufferHolds, buffered, forced, timerRuns, placeOf, messageOf, waiting, unused, inBuffer, isOf, inQueue, line}
@@ -10,7 +11,7 @@ use Rattle.rules.specs.Settling.{oneMore, mayStay, pass, restTimer, sett
 use Rattle.rules.specs.Step.{valued, scheduled, timerFlagged, revoke, timedOut, counted, oneTick, ticks, firstLength, firstWord, withoutFirst, removed, flagged, disposed, sectionBegun, sectionEnded, extending, described, launched, serve, act, finish, step}
 use Rattle.rules.specs.Valid.{frameList, idle, frameNumbers, frameOrder, isMessage, isPlace, isWaiting, isWiped, isBuffer, onlyAtomic, isGroup, pendingHasLine, runnerAtomic, headStays, isSwap, firstInFrame, runnerInFrame, standsOnce, nodeTests, isNode}
 use Rattle.rules.specs.Memory.{frameAddress, groupAddress, flagWord, messageWords, queueWords, lineWords, listWords, groupWords, placeWords, pagesFrom, pagesOf, placesOf, allPages, frameWords, pagingWords, words, word, wordsAt, messageAt, messagesAt, placeAt, placesAt, framePlaces, flagAt, listAt, bufferAt, groupAt, groupsFrom, pagingFrom, nodeAt}
-use Rattle.rules.specs.MemoryTest.{zeroAt, lengthInBounds, groupCounts, countsInBounds, groupFlags, flagsAreFlags, queueUnused, freeUnused, swapUnused, enteredUnused, groupUnused, messageUnused, unusedAreZero, frameWiped, idleAreWiped, memoryTests, replaced, powerOnMemory, firstPlace, bufferPart, queuePart, runnerPart}
+use Rattle.rules.specs.MemoryTest.{lengthInBounds, memoryTests, replaced, powerOnMemory, firstPlace, bufferPart, queuePart, runnerPart}
 use Rattle.rules.specs.Run.{asked, play, run, playMemory, runMemory}
 
 -- all of them
@@ -26,6 +27,6 @@ unfolding
     valued scheduled timerFlagged revoke timedOut counted oneTick ticks firstLength firstWord withoutFirst removed flagged disposed sectionBegun sectionEnded extending described launched serve act finish step
     frameList idle frameNumbers frameOrder isMessage isPlace isWaiting isWiped isBuffer onlyAtomic isGroup pendingHasLine runnerAtomic headStays isSwap firstInFrame runnerInFrame standsOnce nodeTests isNode
     frameAddress groupAddress flagWord messageWords queueWords lineWords listWords groupWords placeWords pagesFrom pagesOf placesOf allPages frameWords pagingWords words word wordsAt messageAt messagesAt placeAt placesAt framePlaces flagAt listAt bufferAt groupAt groupsFrom pagingFrom nodeAt
-    zeroAt lengthInBounds groupCounts countsInBounds groupFlags flagsAreFlags queueUnused freeUnused swapUnused enteredUnused groupUnused messageUnused unusedAreZero frameWiped idleAreWiped memoryTests replaced powerOnMemory firstPlace bufferPart queuePart runnerPart
+    lengthInBounds memoryTests replaced powerOnMemory firstPlace bufferPart queuePart runnerPart
     asked play run playMemory runMemory
 computes = tt

@@ -1,5 +1,5 @@
 -- The cases of the memory hold. The memory test is computed as TestComputes says. Assumes nothing.
-use mathlib.Core.Path.{_≡_, refl}
+use mathlib.Core.Path.{_≡_, refl, _∙_}
 use mathlib.Core.Bool.{true}
 use mathlib.Core.List.{[], _∷_, _++_}
 use lib.ListN.{take}
@@ -8,6 +8,7 @@ use Rattle.rules.specs.MemoryTest.{isMemory}
 use Rattle.rules.specs.Cases.MemoryCases.{cut, fresh, forced, busy, sevenUsed, swapped, firstSwapped}
 use Rattle.rules.specs.Cases.MemoryCases.{MapCases, StepOnMemoryCases, NodeCases, NoNodeCases, HeadCases, CountCases}
 use Rattle.rules.proofs.Cases.Computes.{computes}
+use Rattle.rules.proofs.Cases.MemoryParts.{counts-in, flags-in, unused-in, idle-in}
 use Rattle.rules.proofs.Cases.TestComputes.{words-fail, node-fails, page-fails, is-node, same-words, step-report, step-writes, step-refused, head-of, head-reads, head-none, counts-of, counts-none}
 
 pub map-cases : MapCases
@@ -74,16 +75,16 @@ no-node-cases =
       too-short = words-fail _ 0 refl;
       no-words = words-fail _ 0 refl;
       running-nine = node-fails _ 0 refl;
-      queue-seventeen = words-fail _ 1 refl;
-      descriptor-nine = words-fail _ 1 refl;
-      free-33 = words-fail _ 1 refl;
-      list-97 = words-fail _ 1 refl;
-      swap-65 = words-fail _ 1 refl;
-      entered-33 = words-fail _ 1 refl;
+      queue-seventeen = words-fail _ 1 (counts-in _ ∙ refl);
+      descriptor-nine = words-fail _ 1 (counts-in _ ∙ refl);
+      free-33 = words-fail _ 1 (counts-in _ ∙ refl);
+      list-97 = words-fail _ 1 (counts-in _ ∙ refl);
+      swap-65 = words-fail _ 1 (counts-in _ ∙ refl);
+      entered-33 = words-fail _ 1 (counts-in _ ∙ refl);
       group-zero = node-fails _ 3 refl;
       group-nine = node-fails _ 3 refl;
       length-zero = node-fails _ 3 refl;
-      length-nine = words-fail _ 1 refl;
+      length-nine = words-fail _ 1 (counts-in _ ∙ refl);
       length-zero-buffered = node-fails _ 5 refl;
       length-nine-buffered = node-fails _ 5 refl;
       length-zero-swapped = node-fails _ 5 refl;
@@ -110,36 +111,36 @@ no-node-cases =
       list-too-long = node-fails _ 5 refl;
       list-too-short = node-fails _ 5 refl;
       list-of-none = node-fails _ 5 refl;
-      atomic-two = words-fail _ 2 refl;
-      pending-two = words-fail _ 2 refl;
-      force-two = words-fail _ 2 refl;
-      revoked-two = words-fail _ 2 refl;
-      atomic-two-first = words-fail _ 2 refl;
-      pending-two-last = words-fail _ 2 refl;
-      queue-unused = words-fail _ 3 refl;
-      queue-unused-length = words-fail _ 3 refl;
-      queue-unused-last = words-fail _ 3 refl;
-      free-unused = words-fail _ 3 refl;
-      free-unused-last = words-fail _ 3 refl;
-      swap-unused = words-fail _ 3 refl;
-      swap-unused-last = words-fail _ 3 refl;
-      entered-unused = words-fail _ 3 refl;
-      entered-unused-last = words-fail _ 3 refl;
-      list-unused = words-fail _ 3 refl;
-      list-unused-first = words-fail _ 3 refl;
-      list-unused-last = words-fail _ 3 refl;
-      descriptor-unused = words-fail _ 3 refl;
-      descriptor-unused-first = words-fail _ 3 refl;
-      descriptor-unused-last = words-fail _ 3 refl;
-      words-past = words-fail _ 3 refl;
-      words-past-last = words-fail _ 3 refl;
+      atomic-two = words-fail _ 2 (flags-in _ ∙ refl);
+      pending-two = words-fail _ 2 (flags-in _ ∙ refl);
+      force-two = words-fail _ 2 (flags-in _ ∙ refl);
+      revoked-two = words-fail _ 2 (flags-in _ ∙ refl);
+      atomic-two-first = words-fail _ 2 (flags-in _ ∙ refl);
+      pending-two-last = words-fail _ 2 (flags-in _ ∙ refl);
+      queue-unused = words-fail _ 3 (unused-in _ ∙ refl);
+      queue-unused-length = words-fail _ 3 (unused-in _ ∙ refl);
+      queue-unused-last = words-fail _ 3 (unused-in _ ∙ refl);
+      free-unused = words-fail _ 3 (unused-in _ ∙ refl);
+      free-unused-last = words-fail _ 3 (unused-in _ ∙ refl);
+      swap-unused = words-fail _ 3 (unused-in _ ∙ refl);
+      swap-unused-last = words-fail _ 3 (unused-in _ ∙ refl);
+      entered-unused = words-fail _ 3 (unused-in _ ∙ refl);
+      entered-unused-last = words-fail _ 3 (unused-in _ ∙ refl);
+      list-unused = words-fail _ 3 (unused-in _ ∙ refl);
+      list-unused-first = words-fail _ 3 (unused-in _ ∙ refl);
+      list-unused-last = words-fail _ 3 (unused-in _ ∙ refl);
+      descriptor-unused = words-fail _ 3 (unused-in _ ∙ refl);
+      descriptor-unused-first = words-fail _ 3 (unused-in _ ∙ refl);
+      descriptor-unused-last = words-fail _ 3 (unused-in _ ∙ refl);
+      words-past = words-fail _ 3 (unused-in _ ∙ refl);
+      words-past-last = words-fail _ 3 (unused-in _ ∙ refl);
       words-past-buffered = node-fails _ 5 refl;
       words-past-buffered-last = node-fails _ 5 refl;
       words-past-swapped = node-fails _ 5 refl;
-      free-frame-length = words-fail _ 4 refl;
-      free-frame-word = words-fail _ 4 refl;
-      free-swap-length = words-fail _ 4 refl;
-      free-swap-word = words-fail _ 4 refl;
+      free-frame-length = words-fail _ 4 (idle-in _ ∙ refl);
+      free-frame-word = words-fail _ 4 (idle-in _ ∙ refl);
+      free-swap-length = words-fail _ 4 (idle-in _ ∙ refl);
+      free-swap-word = words-fail _ 4 (idle-in _ ∙ refl);
       used-up-length = node-fails _ 5 refl;
       used-up-word = node-fails _ 5 refl;
       behind-length = node-fails _ 5 refl;

@@ -84,14 +84,15 @@ tests-in m =
     passes-same memoryTests (tests (isNode paper01)) m (partsOf m)
     (refl, (counts-in m, (flags-in m, (unused-in m, (idle-in m, (ap (isNode paper01) (node-in m), tt))))))
 
--- memory is no node where the i-th clause on words fails
-pub words-fail : (m : List ℕ) (i : ℕ) → getD (tests (isNode paper01)) i always (partsOf m) ≡ false → isMemory m ≡ false
-words-fail m i e = tests-in m ∙ fails (tests (isNode paper01)) (partsOf m) i e
+-- memory is no node where the i-th clause on its words fails
+pub words-fail : (m : List ℕ) (i : ℕ) → getD memoryTests i always m ≡ false → isMemory m ≡ false
+unfolding isMemory
+words-fail m i e = fails memoryTests m i e
 
--- and where the i-th on the node does
+-- and where the i-th on the node that they hold does
 pub node-fails : (m : List ℕ) (i : ℕ) → getD (nodeTests paper01) i always (nodeIn (partsOf m)) ≡ false → isMemory m ≡ false
-unfolding isNode
-node-fails m i e = words-fail m 5 (fails (nodeTests paper01) (nodeIn (partsOf m)) i e)
+unfolding memoryTests isNode
+node-fails m i e = words-fail m 5 (rw (node-in m) (fails (nodeTests paper01) (nodeIn (partsOf m)) i e))
 
 -- a test fails on a list of numbers where it does on the i-th
 pub all-fails : (t : ℕ → Bool) (xs : List ℕ) (i : ℕ) → all t (take 1 (drop i xs)) ≡ false → all t xs ≡ false

@@ -29,15 +29,10 @@ numberAndZeros a = record { answer = a; value = 0; trap = 0; upcall = 0; moved =
 abbrev pub answered : ℕ → List ℕ → MemoryStep
 answered a m = record { report = numberAndZeros a; memory = m }
 
--- words behind k zeros
-abbrev pub behind : ℕ → List ℕ → List ℕ
-behind zero ws = ws
-behind (suc k) ws = 0 ∷ behind k ws
-
 -- memory with these stretches, in the order of their addresses, and else 0; its words are those from address a on
 abbrev pub laid : ℕ → List Stretch → List ℕ
-laid a [] = behind (8104 - a) []
-laid a (p ∷ ps) = behind (p .start - a) (p .held ++ laid (p .start + length (p .held)) ps)
+laid a [] = replicate (8104 - a) 0
+laid a (p ∷ ps) = replicate (p .start - a) 0 ++ (p .held ++ laid (p .start + length (p .held)) ps)
 
 -- a node at power-on: nothing but the free line and the swap line, and how many are in them
 abbrev pub fresh : List ℕ

@@ -29,6 +29,10 @@ pub record Parts : Type 0 where
 abbrev pub partsOf : List ℕ → Parts
 partsOf m = record { start = m; groups = drop groupsAt m; frames = drop framesAt m; paging = drop pagingAt m }
 
+-- an address of the last part, counted from where that begins
+abbrev pub within : ℕ → ℕ
+within a = a - pagingAt
+
 -- a word, read in the part that begins at address a
 pub word-part : (m : List ℕ) (a i : ℕ) → word m (a + i) ≡ word (drop a m) i
 unfolding word
@@ -51,14 +55,37 @@ words-at m a (suc k) = rw (add-one, pad-drop) (ap (λ (ws : List ℕ). getD m a 
 pub words-part : (m : List ℕ) (a i k : ℕ) → wordsAt m (a + i) k ≡ pad k (drop i (drop a m))
 words-part m a i k = rw (words-at m (a + i) k, drop-drop i a m)
 
+-- k of these words from the i-th on are 0
+abbrev pub zeros : List ℕ → ℕ → ℕ → Bool
+zeros ws i k = all (eqb 0) (pad k (drop i ws))
+
+-- as the definition says
+pub zeros-at : (m : List ℕ) (a k : ℕ) → zeroAt m a k ≡ zeros m a k
+unfolding zeroAt
+zeros-at m a k = rw (words-at m a k)
+
+-- and in the part that begins at address a, behind a line's beginning i and the j numbers in it
+pub zeros-part : (m : List ℕ) (a i j k : ℕ) → zeroAt m (a + i + j) k ≡ zeros (drop a m) (i + j) k
+zeros-part m a i j k = rw (zeros-at m (a + i + j) k, add-assoc a i j, drop-drop (i + j) a m)
+
+-- two functions that agree on each number give the same lists
+pub concat-same : {A : Type 0} (f g : ℕ → List A) → ((i : ℕ) → f i ≡ g i) → (xs : List ℕ) → concatMap f xs ≡ concatMap g xs
+concat-same f g e [] = refl
+concat-same f g e (x ∷ xs) = rw (e x, concat-same f g e xs)
+
+-- and two tests the same answer
+pub all-same : (f g : ℕ → Bool) → ((i : ℕ) → f i ≡ g i) → (xs : List ℕ) → all f xs ≡ all g xs
+all-same f g e [] = refl
+all-same f g e (x ∷ xs) = rw (e x, all-same f g e xs)
+
 -- The node that the words hold.
 
--- k places that stand in these words
+-- k places that stand in these words, one behind the other
 abbrev pub placesIn : ℕ → List ℕ → List Place
 placesIn zero ws = []
 placesIn (suc k) ws = record { len = word ws 0; words = pad wordLimit (drop 1 ws) } ∷ placesIn k (drop placeStride ws)
 
--- they are those
+-- as the definition says
 pub places-in : (m : List ℕ) (a k : ℕ) → placesAt m a k ≡ placesIn k (drop a m)
 unfolding placesAt placeAt
 places-in m a zero = refl
@@ -66,16 +93,11 @@ places-in m a (suc k) =
     let len : word m a ≡ word (drop a m) 0 = rw add-zero at (word-part m a 0) in
     rw (len, words-part m a 1 wordLimit, places-in m (a + placeStride) k, ← drop-drop placeStride a m)
 
--- two functions that agree on each number give the same lists
-pub concat-same : {A : Type 0} (f g : ℕ → List A) → ((i : ℕ) → f i ≡ g i) → (xs : List ℕ) → concatMap f xs ≡ concatMap g xs
-concat-same f g e [] = refl
-concat-same f g e (x ∷ xs) = rw (e x, concat-same f g e xs)
-
--- the places of number f among the frames and swap pages that stand in these words
+-- the places of the frame or swap page with number f, all of which stand in these words
 abbrev pub pageIn : List ℕ → ℕ → List Place
 pageIn ws f = placesIn (paper01 .perFrame) (drop (frameStride * f) ws)
 
--- they are those
+-- as the definition says
 pub page-in : (m : List ℕ) (f : ℕ) → framePlaces m f ≡ pageIn (drop framesAt m) f
 unfolding framePlaces frameAddress
 page-in m f = rw (places-in m (framesAt + frameStride * f) (paper01 .perFrame), drop-drop (frameStride * f) framesAt m)
@@ -89,11 +111,12 @@ groupIn pages ws =
       pending = flagAt ws pendingOffset;
       force = flagAt ws forceOffset;
       revoked = flagAt ws revokedOffset;
-      buffer = record { used = word ws usedOffset; count = word ws countOffset; frames = list; places = concatMap (pageIn pages) list };
+      buffer =
+          record { used = word ws usedOffset; count = word ws countOffset; frames = list; places = concatMap (pageIn pages) list };
       descriptor = pad (word ws describedOffset) (drop descriptorOffset ws);
     }
 
--- it is that group
+-- as the definition says
 pub group-in : (m : List ℕ) (a : ℕ) → groupAt m a ≡ groupIn (drop framesAt m) (drop a m)
 unfolding groupAt bufferAt listAt flagAt
 group-in m a = simp (word-part m a, words-part m a, concat-same (framePlaces m) (pageIn (drop framesAt m)) (page-in m))
@@ -103,7 +126,7 @@ abbrev pub groupsIn : List ℕ → ℕ → List ℕ → List Group
 groupsIn pages zero ws = []
 groupsIn pages (suc k) ws = groupIn pages ws ∷ groupsIn pages k (drop groupStride ws)
 
--- they are those
+-- as the definition says
 pub groups-in : (m : List ℕ) (a k : ℕ) → groupsFrom m a k ≡ groupsIn (drop framesAt m) k (drop a m)
 unfolding groupsFrom
 groups-in m a zero = refl
@@ -113,19 +136,20 @@ groups-in m a (suc k) = rw (group-in m a, groups-in m (a + groupStride) k, ← d
 abbrev pub pagingIn : List ℕ → Paging
 pagingIn ws =
     record {
-      swap = pad (word ws (swapCountAt - pagingAt)) (drop (swapAt - pagingAt) ws);
-      entered = pad (word ws (enteredCountAt - pagingAt)) (drop (enteredAt - pagingAt) ws);
-      out = word ws (outAt - pagingAt);
-      brought = word ws (broughtAt - pagingAt);
+      swap = pad (word ws (within swapCountAt)) (drop (within swapAt) ws);
+      entered = pad (word ws (within enteredCountAt)) (drop (within enteredAt) ws);
+      out = word ws (within outAt);
+      brought = word ws (within broughtAt);
     }
 
--- they are those
+-- as the definition says
 pub paging-in : (m : List ℕ) → pagingFrom m ≡ pagingIn (drop pagingAt m)
 unfolding pagingFrom
 paging-in m =
     let number = word-part m pagingAt in
     let line = words-part m pagingAt in
-    rw (number (swapCountAt - pagingAt), number (enteredCountAt - pagingAt), number (outAt - pagingAt), number (broughtAt - pagingAt), line (swapAt - pagingAt), line (enteredAt - pagingAt))
+    rw (number (within swapCountAt), number (within enteredCountAt), number (within outAt), number (within broughtAt))
+    (rw (line (within swapAt), line (within enteredAt)))
 
 -- the node in these parts
 abbrev pub nodeIn : Parts → Node
@@ -139,7 +163,7 @@ nodeIn p =
       groups = groupsIn (p .frames) groupCount (p .groups);
     }
 
--- it is that node
+-- as the definition says
 pub node-in : (m : List ℕ) → nodeAt m ≡ nodeIn (partsOf m)
 unfolding nodeAt
 node-in m = rw (words-at m freeAt (word m freeCountAt), paging-in m, groups-in m groupsAt groupCount)
@@ -151,7 +175,7 @@ abbrev pub allRecords : (List ℕ → Bool) → ℕ → List ℕ → Bool
 allRecords t zero ws = true
 allRecords t (suc k) ws = t ws && allRecords t k (drop groupStride ws)
 
--- and so do as many groups, where the test of a group is that of its record
+-- and so do as many groups, where a group is tested by its record
 pub all-records : (m : List ℕ) (s : ℕ → Bool) (t : List ℕ → Bool)
     → ((g : ℕ) → s g ≡ t (drop (groupAddress g) m))
     → (g k : ℕ)
@@ -171,18 +195,18 @@ abbrev pub countsIn : Parts → Bool
 countsIn p =
     leb (word (p .start) queuedAt) (paper01 .places)
     && (leb (word (p .start) freeCountAt) (paper01 .frames)
-    && (leb (word (p .paging) (swapCountAt - pagingAt)) (paper01 .swap)
-    && (leb (word (p .paging) (enteredCountAt - pagingAt)) (paper01 .frames)
+    && (leb (word (p .paging) (within swapCountAt)) (paper01 .swap)
+    && (leb (word (p .paging) (within enteredCountAt)) (paper01 .frames)
     && (allRecords recordCounts groupCount (p .groups)
     && all (lengthInBounds (p .start)) (upFrom 0 (word (p .start) queuedAt))))))
 
--- the same as the clause
+-- as the clause says
 pub counts-in : (m : List ℕ) → countsInBounds m ≡ countsIn (partsOf m)
 unfolding countsInBounds groupCounts groupAddress
 counts-in m =
     let number = word-part m pagingAt in
-    let each : (g : ℕ) → groupCounts m g ≡ recordCounts (drop (groupAddress g) m) = λ g. rw (word-part m (groupAddress g) heldOffset, word-part m (groupAddress g) describedOffset) in
-    rw (number (swapCountAt - pagingAt), number (enteredCountAt - pagingAt), all-records m (groupCounts m) recordCounts each 0 groupCount)
+    let groups = all-records m (groupCounts m) recordCounts (λ g. simp (word-part m (groupAddress g))) 0 groupCount in
+    rw (number (within swapCountAt), number (within enteredCountAt), groups)
 
 -- the flags of a record
 abbrev pub recordFlags : List ℕ → Bool
@@ -193,23 +217,10 @@ recordFlags ws =
 abbrev pub flagsIn : Parts → Bool
 flagsIn p = allRecords recordFlags groupCount (p .groups)
 
--- the same as the clause
+-- as the clause says
 pub flags-in : (m : List ℕ) → flagsAreFlags m ≡ flagsIn (partsOf m)
 unfolding flagsAreFlags groupFlags groupAddress
 flags-in m = all-records m (groupFlags m) recordFlags (λ g. simp (word-part m (groupAddress g))) 0 groupCount
-
--- k words from the i-th of these on are 0
-abbrev pub zeros : List ℕ → ℕ → ℕ → Bool
-zeros ws i k = all (eqb 0) (pad k (drop i ws))
-
--- the same as the definition's
-pub zeros-at : (m : List ℕ) (a k : ℕ) → zeroAt m a k ≡ zeros m a k
-unfolding zeroAt
-zeros-at m a k = rw (words-at m a k)
-
--- and in the part that begins at address a, behind i of its words and j more
-pub zeros-part : (m : List ℕ) (a i j k : ℕ) → zeroAt m (a + i + j) k ≡ zeros (drop a m) (i + j) k
-zeros-part m a i j k = rw (zeros-at m (a + i + j) k, add-assoc a i j, drop-drop (i + j) a m)
 
 -- the unused places of a record's list and its unused descriptor words
 abbrev pub recordZeros : List ℕ → Bool
@@ -229,39 +240,37 @@ abbrev pub unusedIn : Parts → Bool
 unusedIn p =
     let queued = word (p .start) queuedAt in
     let free = word (p .start) freeCountAt in
-    let swap = word (p .paging) (swapCountAt - pagingAt) in
-    let entered = word (p .paging) (enteredCountAt - pagingAt) in
+    let swap = word (p .paging) (within swapCountAt) in
+    let entered = word (p .paging) (within enteredCountAt) in
     zeros (p .start) (queueAt + queueStride * queued) (queueStride * (paper01 .places - queued))
     && (zeros (p .start) (freeAt + free) (paper01 .frames - free)
-    && (zeros (p .paging) (swapAt - pagingAt + swap) (paper01 .swap - swap)
-    && (zeros (p .paging) (enteredAt - pagingAt + entered) (paper01 .frames - entered)
+    && (zeros (p .paging) (within swapAt + swap) (paper01 .swap - swap)
+    && (zeros (p .paging) (within enteredAt + entered) (paper01 .frames - entered)
     && (allRecords recordZeros groupCount (p .groups) && all (messageZeros (p .start)) (upFrom 0 queued)))))
 
--- two tests that agree on each number agree on a list of them
-pub all-same : (f g : ℕ → Bool) → ((i : ℕ) → f i ≡ g i) → (xs : List ℕ) → all f xs ≡ all g xs
-all-same f g e [] = refl
-all-same f g e (x ∷ xs) = rw (e x, all-same f g e xs)
-
--- the same as the clause
+-- as the clause says
 pub unused-in : (m : List ℕ) → unusedAreZero m ≡ unusedIn (partsOf m)
 unfolding unusedAreZero queueUnused freeUnused swapUnused enteredUnused groupUnused messageUnused groupAddress
 unused-in m =
     let number = word-part m pagingAt in
     let line = zeros-part m pagingAt in
-    let each : (g : ℕ) → groupUnused m g ≡ recordZeros (drop (groupAddress g) m) = λ g. simp (word-part m (groupAddress g), zeros-part m (groupAddress g)) in
-    let message : (i : ℕ) → messageUnused m i ≡ messageZeros m i = λ i. simp zeros-at in
-    rw (number (swapCountAt - pagingAt), number (enteredCountAt - pagingAt), line (swapAt - pagingAt), line (enteredAt - pagingAt), zeros-at m (queueAt + queueStride * word m queuedAt), zeros-at m (freeAt + word m freeCountAt), all-records m (groupUnused m) recordZeros each 0 groupCount, all-same (messageUnused m) (messageZeros m) message)
+    let queue = zeros-at m (queueAt + queueStride * word m queuedAt) in
+    let free = zeros-at m (freeAt + word m freeCountAt) in
+    let record-zeros : (g : ℕ) → groupUnused m g ≡ recordZeros (drop (groupAddress g) m) = λ g. simp (word-part m (groupAddress g), zeros-part m (groupAddress g)) in
+    let groups = all-records m (groupUnused m) recordZeros record-zeros 0 groupCount in
+    let messages = all-same (messageUnused m) (messageZeros m) (λ i. simp zeros-at) in
+    rw (number (within swapCountAt), number (within enteredCountAt), line (within swapAt), line (within enteredAt), queue, free, groups, messages)
 
 -- of k frames and swap pages that stand in these words, one behind the other, whether each is 0
 abbrev pub pageZeros : ℕ → List ℕ → List Bool
 pageZeros zero ws = []
 pageZeros (suc k) ws = all (eqb 0) (pad frameStride ws) ∷ pageZeros k (drop frameStride ws)
 
--- that of number f, looked up there; one behind the k is read by itself
+-- whether that of number f is, looked up there; one behind the k is read by itself
 abbrev pub pageZero : List Bool → List ℕ → ℕ → Bool
 pageZero zs ws f = getD zs f (zeros ws (frameStride * f) frameStride)
 
--- it is what its words say
+-- as its words say
 pub page-zero : (k : ℕ) (ws : List ℕ) (f : ℕ) → pageZero (pageZeros k ws) ws f ≡ zeros ws (frameStride * f) frameStride
 page-zero zero ws f = refl
 page-zero (suc k) ws zero = refl
@@ -273,14 +282,18 @@ page-zero (suc k) ws (suc f) =
 abbrev pub pagesZero : List ℕ → List ℕ → Bool
 pagesZero ws fs = all (pageZero (pageZeros (pageCount paper01) ws) ws) fs
 
+-- as the definition says of one
+pub frame-zero : (m : List ℕ) (f : ℕ) → frameWiped m f ≡ pageZero (pageZeros (pageCount paper01) (drop framesAt m)) (drop framesAt m) f
+unfolding frameWiped frameAddress
+frame-zero m f =
+    let looked = page-zero (pageCount paper01) (drop framesAt m) f in
+    rw (zeros-at m (framesAt + frameStride * f) frameStride, looked, drop-drop (frameStride * f) framesAt m)
+
 -- those that no buffer holds
 abbrev pub idleIn : Parts → Bool
 idleIn p = pagesZero (p .frames) (idle (nodeIn p))
 
--- the same as the clause
+-- as the clause says
 pub idle-in : (m : List ℕ) → idleAreWiped m ≡ idleIn (partsOf m)
-unfolding idleAreWiped frameWiped frameAddress
-idle-in m =
-    let ws = drop framesAt m in
-    let each : (f : ℕ) → frameWiped m f ≡ pageZero (pageZeros (pageCount paper01) ws) ws f = λ f. rw (zeros-at m (framesAt + frameStride * f) frameStride, page-zero (pageCount paper01) ws f, drop-drop (frameStride * f) framesAt m) in
-    rw (node-in m) (all-same (frameWiped m) (pageZero (pageZeros (pageCount paper01) ws) ws) each (idle (nodeIn (partsOf m))))
+unfolding idleAreWiped
+idle-in m = rw (node-in m) (all-same (frameWiped m) _ (frame-zero m) (idle (nodeIn (partsOf m))))

@@ -34,8 +34,10 @@ pub record Traded (m m′ : List ℕ) (p q k : ℕ) : Type 0 where
 
 -- the page in p is copied to q, what it leaves is wiped, and the lists name q for p
 pub record PageMoved (m m′ : List ℕ) (p q : ℕ) : Type 0 where
+  -- the memory in which the page stands twice
   pub twice : List ℕ
   pub copied : Wrote m twice (frameAddress q) (wordsAt m (frameAddress p) frameStride)
+  -- and that in which it stands once again
   pub once : List ℕ
   pub wiped : Wrote twice once (frameAddress p) (replicate frameStride 0)
   pub lists : Traded once m′ p q groupCount

@@ -68,7 +68,7 @@ vectors() {
 # listings PROGRAM: the scripts of vectors/ by a program.
 listings() {
     local script
-    vectors base order1 order2
+    vectors base order1 order2 order3
     printf '%s: %s scripts in vectors/\n' "$1" "${#scripts[@]}"
     for script in "${scripts[@]}"; do
         check "${script#"$root"/vectors/}" listing_agrees "$1" "$script"
@@ -91,8 +91,6 @@ whole_case() {
     put "$scratch/memory" 0 2 0 0 32
     put "$scratch/memory" 164 {2..31} 0 1
     put "$scratch/memory" 308 1
-    put "$scratch/memory" 1092 1 7
-    put "$scratch/memory" 1164 2 5 6
     put "$scratch/memory" 8004 64
     put "$scratch/memory" 8008 {32..95}
 }

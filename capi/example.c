@@ -1,5 +1,5 @@
-/* A node from C: power-on, steps by letter and by line, the head message, a timer that is forced, pages sent out and brought in, and what is
- * refused.
+/* A node from C: power-on, steps by letter and by line, the head message, the place that it leaves, a timer that is forced, pages sent out and
+ * brought in, and what is refused.
  *
  *     rt staticlib capi
  *     cc -std=c11 -Icapi capi/example.c target/staticlib/libcapi.a -o example && ./example
@@ -48,6 +48,17 @@ static void print_head(void) {
     }
 }
 
+/* The first place of frame 0: a length and eight words, all 0 where no message waits. */
+enum { PLACE = 1092, PLACE_WORDS = 9 };
+
+static void print_place(void) {
+    printf("place at %u:", PLACE);
+    for (uint32_t i = 0; i < PLACE_WORDS; i++) {
+        printf(" %u", memory[PLACE + i]);
+    }
+    printf("\n");
+}
+
 static void print_paging(void) {
     uint32_t paging[FUGU_PAGING];
     if (fugu_paging(memory, FUGU_SIZE, paging, FUGU_PAGING) == FUGU_PAGING) {
@@ -90,7 +101,12 @@ int main(void) {
     step("T,256", 'T', ticks, 1);
     print_head();
     line("E,2");
+    print_place();
     line("D");
+    print_place();
+    memory[PLACE] = 3;
+    printf("with a length left there: test %u\n", fugu_test(memory, FUGU_SIZE));
+    memory[PLACE] = 0;
     line("N");
     step("B,1", 'B', force, 1);
     step("T,256", 'T', ticks, 1);

@@ -7,6 +7,9 @@
  * longer; what stands behind the first FUGU_SIZE words is never touched. Memory may also be anything: a step on words that are no node is
  * refused.
  *
+ * Where no message waits, the page frames and swap pages of a node are 0: a message that is disposed of and a page that goes elsewhere leave
+ * no word behind, and memory with a word left there is no node.
+ *
  * What a call has to tell, a report, where the head message stands or how many pages went, it writes into a part that the caller lends beside
  * the memory, and returns how many words it wrote there. Where the part is too short it returns 0, and neither the memory nor the part has changed. Words of
  * the part behind those written stay as they were.

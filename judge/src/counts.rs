@@ -28,7 +28,10 @@ const TRAPS: usize = 4;
 const NOT_A_NODE: usize = Refusal::NotANode as usize;
 
 /// All events of steps, in words.
-pub const EVENTS: [(Event, &str); 12] = [
+pub const EVENTS: [(Event, &str); 15] = [
+    (Event::PlaceUsedUp, "places used up in a page that stays"),
+    (Event::PageUsedUp, "pages used up with messages left"),
+    (Event::BufferEmptied, "buffers emptied"),
     (Event::SentOut, "pages sent out"),
     (
         Event::BroughtIn(Cause::Write),

@@ -6,7 +6,7 @@ mod clauses;
 mod map;
 pub mod trials;
 
-pub use clauses::{broken_clause, clauses, Fault};
+pub use clauses::{broken_clause, clauses, fault, Fault};
 pub use map::{what_stands_at, PAGES_AT, SIZE};
 
 use std::collections::VecDeque;

@@ -1,5 +1,5 @@
 //! The paper's "The node" as ordinary records, and its "Each step", with the orders that have changed
-//! them: order 1, swap space, and order 2, the forced timer.
+//! them: order 1, swap space, order 2, the forced timer, and order 3, wiped frames.
 
 use std::collections::VecDeque;
 
@@ -98,10 +98,16 @@ pub struct Launched {
     pub words: Vec<u32>,
 }
 
-/// What happens in a step with a page, or by force or a revoked group. No listing tells it; it is
-/// counted, so that scripts are seen to meet each.
+/// What happens in a step with a place or a page, or by force or a revoked group. No listing tells it;
+/// it is counted, so that scripts are seen to meet each.
 #[derive(Clone, Copy, Debug, PartialEq, Eq)]
 pub enum Event {
+    /// D uses up a place of a page that stays in the buffer.
+    PlaceUsedUp,
+    /// D uses up the last place of a page, and messages remain.
+    PageUsedUp,
+    /// D uses up the place of a buffer's last message.
+    BufferEmptied,
     SentOut,
     /// Into a free frame.
     BroughtIn(Cause),
@@ -177,8 +183,7 @@ pub struct Message {
     pub words: Vec<u32>,
 }
 
-/// One of a page's eight places. A place that holds no waiting message keeps its last length and
-/// words: "Freed words, and the length kept with each message, stay unchanged."
+/// One of a page's eight places: a waiting message, or 0 throughout.
 #[derive(Clone, Copy, Debug, Default, PartialEq, Eq)]
 pub struct Place {
     pub length: u32,
@@ -225,16 +230,19 @@ impl Buffer {
         (self.used_up + self.messages) % PAGE_PLACES
     }
 
-    /// Uses up the first message's place, and hands back the page that is left: "A frame whose places
-    /// are all used up is freed; when n becomes 0 its last frame is freed too."
-    fn use_up_first(&mut self) -> Option<usize> {
+    /// Uses up the first message's place: "A frame whose places are all used up is freed; when n
+    /// becomes 0 its last frame is freed too." The page goes from the list then.
+    fn use_up_first(&mut self) -> Event {
         self.used_up += 1;
         self.messages -= 1;
-        if self.messages > 0 && self.used_up < PAGE_PLACES {
-            return None;
-        }
+        let event = match self.messages {
+            0 => Event::BufferEmptied,
+            _ if self.used_up == PAGE_PLACES => Event::PageUsedUp,
+            _ => return Event::PlaceUsedUp,
+        };
         self.used_up = 0;
-        self.pages.pop_front()
+        self.pages.pop_front();
+        event
     }
 }
 
@@ -504,14 +512,25 @@ impl Node {
         self.timer = 0;
         let group = self.running_group();
         group.pending = false;
-        if group.buffer.messages == 0 {
+        let buffered = group.buffer.places().next();
+        if let Some((frame, place)) = buffered {
+            self.dispose_buffered(frame, place);
+        } else {
             // Settled: the head of the queue is the running group's.
             self.queue.pop_front();
-        } else if let Some(frame) = group.buffer.use_up_first() {
-            self.entry.retain(|&entered| entered != frame);
-            self.free.push_back(frame);
         }
         Report::of_trap(trap)
+    }
+
+    /// "Disposing of a message now leaves its place 0, kept length too."
+    fn dispose_buffered(&mut self, frame: usize, place: usize) {
+        self.pages[frame][place] = Place::default();
+        let event = self.running_group().buffer.use_up_first();
+        if event != Event::PlaceUsedUp {
+            self.entry.retain(|&entered| entered != frame);
+            self.free_page(frame);
+        }
+        self.events.push(event);
     }
 
     fn begin_atomic(&mut self, force: bool) -> Report {
@@ -624,8 +643,19 @@ impl Node {
         let swap = self.swap_free.pop_front().expect("a page was pledged");
         self.pages[swap] = self.pages[frame];
         self.trade(frame, swap);
-        self.free.push_back(frame);
+        self.free_page(frame);
         self.events.push(Event::SentOut);
+    }
+
+    /// "a frame or swap page left by its page is wiped"; it joins the end of its line.
+    fn free_page(&mut self, left: usize) {
+        self.pages[left] = Page::default();
+        let line = if left < FRAMES {
+            &mut self.free
+        } else {
+            &mut self.swap_free
+        };
+        line.push_back(left);
     }
 
     /// "once settling is done, a running group's first page"
@@ -649,7 +679,7 @@ impl Node {
         let (frame, event) = match self.free.pop_front() {
             Some(frame) => {
                 self.pages[frame] = self.pages[page];
-                self.swap_free.push_back(page);
+                self.free_page(page);
                 (frame, Event::BroughtIn(cause))
             }
             None => {

@@ -4,7 +4,7 @@ use std::fmt::{self, Display, Formatter};
 use std::ops::Range;
 
 use fugu::REPORT;
-use judge::memory::{broken_clause, head_part, paging, what_stands_at};
+use judge::memory::{fault, head_part, paging, what_stands_at, Fault};
 use judge::node::Report;
 
 use crate::calls::Calls;
@@ -28,8 +28,8 @@ const NAMES: [&str; 8] = [
 
 /// What a memory has met where the calls and the judge agree.
 pub struct Met {
-    /// The clause by which it is no node.
-    pub clause: Option<&'static str>,
+    /// Why it is no node.
+    pub fault: Option<Fault>,
     pub head: Range<usize>,
     /// Pages sent out and brought in before the step.
     pub paging: [u32; 2],
@@ -50,10 +50,10 @@ impl Display for Difference {
 /// The test, the head and the counts of pages of a memory, then what it is asked; all words of the
 /// parts and of the memory are held against the judge's.
 pub fn compare(calls: &impl Calls, trial: &Trial) -> Result<Met, Difference> {
-    let clause = broken_clause(&trial.memory);
+    let fault = fault(&trial.memory);
     let mut memory = trial.memory.clone();
     let verdict = [calls.test(&memory)];
-    let judged = [u32::from(clause.is_none())];
+    let judged = [u32::from(fault.is_none())];
     differing("fugu_test", &judged, &verdict, |_| "verdict".to_string())?;
 
     let head = head_part(&trial.memory);
@@ -88,7 +88,7 @@ pub fn compare(calls: &impl Calls, trial: &Trial) -> Result<Met, Difference> {
         format!("word {at}, {}", what_stands_at(at))
     })?;
     Ok(Met {
-        clause,
+        fault,
         head,
         paging,
         report,

@@ -1,10 +1,10 @@
-//! What the memories have met: clauses of the memory test, places of the head message, counts of
-//! pages, answers and traps by operation, and what else happened in steps.
+//! What the memories have met: clauses of the memory test, places of stray words, places of the head
+//! message, counts of pages, answers and traps by operation, and what else happened in steps.
 
 use std::fmt::{self, Display, Formatter};
 
 use judge::counts::EventCounts;
-use judge::memory::{clauses, PAGES_AT, SIZE};
+use judge::memory::{clauses, what_stands_at, Fault, PAGES_AT, SIZE};
 use judge::node::Operation;
 
 use crate::asked::{taken_apart, Asked};
@@ -21,6 +21,18 @@ const OPERATIONS: &[u8; 11] = b"ASTMEDBNPL?";
 const ROWS: usize = 2 * OPERATIONS.len() + 1;
 const ANSWERS: usize = 16;
 const TRAPS: usize = 4;
+/// The clauses that stray words break, and where they then stand.
+const STRAYS: [(&str, &str); 4] = [
+    ("free frames are 0", "in free frames"),
+    ("free swap pages are 0", "in free swap pages"),
+    ("used-up places are 0", "in used-up places"),
+    (
+        "places behind the last message are 0",
+        "behind last messages",
+    ),
+];
+/// What a stray word is to its place.
+const PARTS: [&str; 2] = ["kept lengths", "words"];
 const HEADS: [&str; 3] = ["none", "in the hardware queue", "in a frame"];
 /// What the counts of pages sent out and brought in are, together.
 const COUNTED: [&str; 3] = ["none", "some", "more than can be counted"];
@@ -60,6 +72,7 @@ pub struct Table {
     /// In the order of [`told_clauses`].
     clauses: Vec<u64>,
     longer: u64,
+    strays: [[u64; PARTS.len()]; STRAYS.len()],
     heads: [u64; HEADS.len()],
     counted: [u64; COUNTED.len()],
     rows: [Row; ROWS],
@@ -96,12 +109,9 @@ fn told_clauses() -> impl Iterator<Item = &'static str> {
 impl Table {
     pub fn add(&mut self, trial: &Trial, met: &Met) {
         self.clauses.resize(told_clauses().count(), 0);
-        match met.clause {
+        match &met.fault {
             None => self.nodes += 1,
-            Some(broken) => {
-                let at = told_clauses().position(|clause| clause == broken);
-                self.clauses[at.expect("a clause of the test")] += 1;
-            }
+            Some(fault) => self.add_fault(fault),
         }
         self.longer += u64::from(trial.memory.len() > SIZE);
         self.heads[head_place(met)] += 1;
@@ -116,6 +126,18 @@ impl Table {
                 }
                 self.events.add(report);
             }
+        }
+    }
+
+    fn add_fault(&mut self, fault: &Fault) {
+        let at = told_clauses().position(|clause| clause == fault.clause());
+        self.clauses[at.expect("a clause of the test")] += 1;
+        let stray = STRAYS
+            .iter()
+            .position(|(clause, _)| *clause == fault.clause());
+        if let (Some(stray), Fault::Broken(_, words)) = (stray, fault) {
+            let is_length = what_stands_at(words[0].0).starts_with("length ");
+            self.strays[stray][usize::from(!is_length)] += 1;
         }
     }
 
@@ -139,18 +161,29 @@ impl Table {
         self.not_met()
     }
 
+    /// How often each stray word was the first that is wrong, and its name.
+    fn stray_counts(&self) -> impl Iterator<Item = (u64, String)> + '_ {
+        let places = STRAYS.iter().zip(&self.strays);
+        places.flat_map(|((_, place), counts)| {
+            let parts = counts.iter().zip(PARTS);
+            parts.map(move |(count, part)| (*count, format!("{part} {place}")))
+        })
+    }
+
     pub fn not_met(&self) -> Vec<String> {
         let clauses = told_clauses().enumerate().filter_map(|(at, clause)| {
             let met = self.clauses.get(at).is_some_and(|&count| count > 0);
             (!met).then(|| format!("clause \"{clause}\""))
         });
         let sum = self.sum();
+        let strays = self.stray_counts().filter(|(count, _)| *count == 0);
         let heads = (0..HEADS.len()).filter(|&at| self.heads[at] == 0);
         let counted = (0..COUNTED.len()).filter(|&at| self.counted[at] == 0);
         let rows = (0..ROWS).filter(|&at| self.rows[at].sum() == 0);
         let answers = (0..ANSWERS).filter(|&answer| sum.answers[answer] == 0);
         let traps = (0..TRAPS).filter(|&trap| sum.traps[trap] == 0);
         clauses
+            .chain(strays.map(|(_, name)| name))
             .chain(heads.map(|at| format!("head {}", HEADS[at])))
             .chain(counted.map(|at| format!("pages counted {}", COUNTED[at])))
             .chain(rows.map(row_name))
@@ -221,6 +254,10 @@ impl Display for Table {
         )?;
         for (clause, count) in told_clauses().zip(&self.clauses) {
             writeln!(f, "  {count:>wide$} {clause}")?;
+        }
+        writeln!(f, "among these, by the first stray word:")?;
+        for (count, name) in self.stray_counts() {
+            writeln!(f, "  {count:>wide$} {name}")?;
         }
         writeln!(f, "{memories:>wide$} head messages:")?;
         for (place, count) in HEADS.iter().zip(self.heads) {

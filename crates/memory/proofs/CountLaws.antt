@@ -3,15 +3,15 @@ use Prim.Native.Nat.{ℕ, zero, suc, pred, _+_, _≤_, _<_}
 use mathlib.Core.Path.{_≡_, refl, ap}
 use mathlib.Core.Logic.{_≢_}
 use mathlib.Core.Bool.{Bool, true, false}
-use mathlib.Core.List.{List, [], _∷_, map, map-append}
+use mathlib.Core.List.{List, [], _∷_}
 use native.Mathlib.Omega.{arith}
 use lib.Dec.{eqb}
-use lib.ListN.{length, getD, length-append, length-map}
+use lib.ListN.{length, getD, length-append}
 use borrow.Author.Tests.{eqb-false}
 use Rattle.rules.specs.Lists.{Every, concatMap, countOf}
 use Rattle.rules.specs.Build.{paper01, pageCount, groupCount}
 use Rattle.rules.specs.Node.{Node, emptyGroup, groupOf}
-use Rattle.rules.specs.Valid.{frameNumber, frameList, idle, frameNumbers}
+use Rattle.rules.specs.Valid.{frameList, idle, frameNumbers}
 use Rattle.rules.proofs.Steps.EveryLaws.{every-getD, every-append, every-concat}
 use Rattle.rules.proofs.Steps.ListLaws.{count-append, count-at, count-part, once-bounded}
 use Rattle.rules.specs.Sound.{Mapped}
@@ -51,8 +51,7 @@ module _ {n : Node} (v : Mapped n) where
       omega (
         arith,
         v .frames-all,
-        length-append (map frameNumber (idle n)) (concatMap frameList (n .groups)),
-        length-map (idle n) frameNumber,
+        length-append (idle n) (concatMap frameList (n .groups)),
         length-append (n .free) (n .paging .swap),
         length-part frameList emptyGroup (n .groups) (pred g) (omega arith),
       )
@@ -63,7 +62,7 @@ module _ {n : Node} (v : Mapped n) where
   list-bounded g low high =
       let count = v .group-count in
       let all = once-bounded (pageCount paper01) (frameNumbers n) (v .frames-once) (v .frames-all) in
-      let lists = every-append (λ f. f < pageCount paper01) (map frameNumber (idle n)) (concatMap frameList (n .groups)) .0 all .1 in
+      let lists = every-append (λ f. f < pageCount paper01) (idle n) (concatMap frameList (n .groups)) .0 all .1 in
       every-getD (λ G. Every (λ f. f < pageCount paper01) (frameList G)) (n .groups) (pred g) emptyGroup
       (every-concat (λ f. f < pageCount paper01) frameList (n .groups) .0 lists) (omega arith)
 
@@ -76,15 +75,14 @@ module _ {n : Node} (v : Mapped n) where
     pub its-bounded : its < pageCount paper01
     its-bounded = every-getD (λ f. f < pageCount paper01) (groupOf n g .buffer .frames) j 0 (list-bounded g low high) inside
 
-    its-counted : countOf its (map frameNumber (n .free)) + countOf its (map frameNumber (n .paging .swap)) + countOf its (concatMap frameList (n .groups)) ≡ 1
+    its-counted : countOf its (n .free) + countOf its (n .paging .swap) + countOf its (concatMap frameList (n .groups)) ≡ 1
     unfolding idle frameNumbers
     its-counted =
         omega (
           arith,
           v .frames-once its its-bounded,
-          count-append its (map frameNumber (idle n)) (concatMap frameList (n .groups)),
-          count-append its (map frameNumber (n .free)) (map frameNumber (n .paging .swap)),
-          ap (countOf its) (map-append frameNumber (n .free) (n .paging .swap)),
+          count-append its (idle n) (concatMap frameList (n .groups)),
+          count-append its (n .free) (n .paging .swap),
         )
 
     -- stands once in it
@@ -95,13 +93,13 @@ module _ {n : Node} (v : Mapped n) where
         omega (arith, its-counted, count-at its (groupOf n g .buffer .frames) j inside refl, count-part its frameList emptyGroup (n .groups) (pred g) (omega arith))
 
     -- not in the free line, nor in the swap line
-    pub its-free : countOf its (map frameNumber (n .free)) ≡ 0
+    pub its-free : countOf its (n .free) ≡ 0
     unfolding frameList groupOf
     its-free =
         let count = v .group-count in
         omega (arith, its-counted, its-once, count-part its frameList emptyGroup (n .groups) (pred g) (omega arith))
 
-    pub its-swap : countOf its (map frameNumber (n .paging .swap)) ≡ 0
+    pub its-swap : countOf its (n .paging .swap) ≡ 0
     unfolding frameList groupOf
     its-swap =
         let count = v .group-count in

@@ -1,33 +1,48 @@
--- A memory that holds a node, piece by piece: the numbers, the queue, the free line, each group's record, each frame and swap page where its
--- number says, and swap space with the order of entry. Frames are told by where they are held and not by a lookup among all of them, so that
--- a frame that goes from one list to another changes nothing at its address. Assumes nothing.
+-- A memory that holds a node, piece by piece: the numbers, the queue, the free line, each group's record, each page where its number says, and
+-- swap space with the order of entry. Pages are told by where they are held and not by a lookup among all of them; a frame or swap page that
+-- no buffer holds is an empty one. Assumes nothing.
 use Prim.Native.Nat.{ℕ, zero, suc, _+_, _-_, _*_, _≤_, _<_}
-use mathlib.Core.Path.{_≡_, sym, subst, ap, _∙_}
+use mathlib.Core.Path.{_≡_, refl, sym, subst, ap, _∙_}
 use mathlib.Core.Logic.{_↔_}
-use mathlib.Core.List.{List, [], _∷_, _++_, map}
+use mathlib.Core.List.{List, [], _∷_, _++_, map, map-append}
 use native.Mathlib.Omega.{arith}
 use lib.ListN.{length, drop, getD, length-append, length-drop}
 use lib.Seq.{ext-getD, getD-drop, drop-at}
 use Rattle.rules.specs.Lists.{Every, concatMap, countOf, upFrom}
 use Rattle.rules.specs.Build.{paper01, pageCount, groupCount}
-use Rattle.rules.specs.Node.{Place, Frame, Node, emptyGroup}
-use Rattle.rules.specs.Valid.{frameNumber, idle, GoodFrame}
-use Rattle.rules.specs.Paging.{framesOf, placesOf}
-use Rattle.rules.specs.Memory.{runningAt, timerAt, queuedAt, freeCountAt, queueAt, freeAt, groupsAt, groupStride, framesAt, frameStride, placeStride, pagingAt, size, word, words, queueWords, lineWords, groupWords, placeWords, frameWords, pagingWords, allFrames, frameAddress}
-use Rattle.rules.proofs.Steps.EveryLaws.{every-of, every-at, every-append, every-concat, every-getD, every-mono}
-use Rattle.rules.proofs.Steps.ListLaws.{length-parts}
+use Rattle.rules.specs.Node.{Place, Node, emptyGroup, emptyPage}
+use Rattle.rules.specs.Valid.{idle, frameList}
+use Rattle.rules.specs.Memory.{runningAt, timerAt, queuedAt, freeCountAt, queueAt, freeAt, groupsAt, groupStride, framesAt, frameStride, pagingAt, size, word, words, queueWords, lineWords, groupWords, placeWords, frameWords, pagingWords, allPages, frameAddress, Page, pagesOf, placesOf}
+use Rattle.rules.proofs.Steps.EveryLaws.{every-of, every-at, every-append, every-concat, every-getD, every-map, every-mapped, every-unmap}
+use Rattle.rules.proofs.Steps.ListLaws.{every-counted}
 use Rattle.rules.specs.Sound.{Mapped}
 use Rattle.rules.proofs.Map.MapWords.{Stands, stands-append, stands-nil, parts-stand, front-stands, stands-front}
-use Rattle.rules.proofs.Map.MapParts.{length-group, length-place}
-use Rattle.rules.proofs.Steps.PageLaws.{found}
-use Rattle.rules.proofs.Map.MapFrames.{all-good, all-numbers, numbers-bounded, each-found, length-frame}
+use Rattle.rules.proofs.Map.MapParts.{length-group}
+use Rattle.rules.proofs.Map.PageLaws.{found, GoodPage, pageNumber, empty-good}
+use Rattle.rules.proofs.Map.MapFrames.{page-length, all-good, all-numbers, numbers-bounded, each-found, idle-empty, idle-unlisted, unlisted-idle, length-frame}
 use Rattle.rules.proofs.Map.MapRead.{MapStands, map-stands, words-length}
 use Rattle.memory.specs.Holds.{Holds}
 
--- the words of a frame or swap page stand at the address of its number, all of them below what is kept of swap space
-pub record FrameStands (m : List ℕ) (x : Frame) : Type 0 where
+-- the words of a page stand at the address of its number, all of them below what is kept of swap space
+pub record PageStands (m : List ℕ) (x : Page) : Type 0 where
   pub stands : Stands m (frameAddress (x .number)) (concatMap placeWords (x .places))
   pub inside : frameAddress (x .number) + length (concatMap placeWords (x .places)) ≤ pagingAt
+
+-- the places of a page: all of them, and each with its eight words
+abbrev pub WholePage : Page → Type 0
+WholePage x = GoodPage paper01 (x .places)
+
+-- the frame or swap page with number f as an empty page
+abbrev pub emptied : ℕ → Page
+emptied f = record { number = f; places = emptyPage paper01 }
+
+-- such pages have those numbers, and are whole
+pub emptied-numbers : (fs : List ℕ) → map pageNumber (map emptied fs) ≡ fs
+emptied-numbers [] = refl
+emptied-numbers (f ∷ fs) = ap (λ (r : List ℕ). f ∷ r) (emptied-numbers fs)
+
+pub emptied-whole : (fs : List ℕ) → Every WholePage (map emptied fs)
+emptied-whole = every-map WholePage emptied (λ f. empty-good paper01)
 
 pub record Pieces (m : List ℕ) (n : Node) (r : List ℕ) : Type 0 where
   pub long : size ≤ length m
@@ -37,12 +52,12 @@ pub record Pieces (m : List ℕ) (n : Node) (r : List ℕ) : Type 0 where
   pub queued : word m queuedAt ≡ length (n .queue)
   pub free-count : word m freeCountAt ≡ length (n .free)
   pub queue : Stands m queueAt (queueWords (n .queue))
-  pub free : Stands m freeAt (lineWords (map frameNumber (n .free)))
+  pub free : Stands m freeAt (lineWords (n .free))
   pub groups : (i : ℕ) → i < groupCount → Stands m (groupsAt + groupStride * i) (groupWords (getD (n .groups) i emptyGroup))
   pub paging : Stands m pagingAt (pagingWords (n .paging))
-  pub free-frames : Every (FrameStands m) (n .free)
-  pub swap-frames : Every (FrameStands m) (n .paging .swap)
-  pub group-frames : (i : ℕ) → i < groupCount → Every (FrameStands m) (framesOf paper01 (getD (n .groups) i emptyGroup))
+  pub free-pages : Every (PageStands m) (map emptied (n .free))
+  pub swap-pages : Every (PageStands m) (map emptied (n .paging .swap))
+  pub group-pages : (i : ℕ) → i < groupCount → Every (PageStands m) (pagesOf paper01 (getD (n .groups) i emptyGroup))
 
 -- what holds at each index holds of every element
 pub every-index : {A : Type 0} (P : A → Type 0) (d : A) (xs : List A) → ((i : ℕ) → i < length xs → P (getD xs i d)) → Every P xs
@@ -69,45 +84,52 @@ lists-stand {X} m w s d sized (x ∷ xs) a =
     go p f zero l = subst (λ (b : ℕ). Stands m b (w x)) (omega arith) p
     go p f (suc i) l = subst (λ (b : ℕ). Stands m b (w (getD xs i d))) (omega arith) (f i (omega arith))
 
--- the words of the frame that is found under a number
-by-number : (m : List ℕ) (j : ℕ) (y : Frame) (ps : List Place) → y .number ≡ j → ps ≡ y .places → FrameStands m y
+-- the words of the page that is found under a number
+by-number : (m : List ℕ) (j : ℕ) (y : Page) (ps : List Place) → y .number ≡ j → ps ≡ y .places → PageStands m y
     → Stands m (frameAddress j) (concatMap placeWords ps)
 by-number m j y ps e q h = rw (q, ← e) (h .stands)
 
--- the words of a good frame are 72
-pub length-good : (x : Frame) → GoodFrame paper01 x → length (concatMap placeWords (x .places)) ≡ frameStride
-length-good x good =
-    length-parts placeWords placeStride (x .places) (every-mono _ _ length-place (x .places) (good .places)) ∙ ap (λ (k : ℕ). placeStride * k) (good .whole)
-
--- a good frame of one of the 96 numbers stands where its words do
-pub frame-stands : (m : List ℕ) (x : Frame) → GoodFrame paper01 x → x .number < pageCount paper01
-    → Stands m (frameAddress (x .number)) (concatMap placeWords (x .places)) → FrameStands m x
+-- a whole page of one of the 96 numbers stands where its words do
+pub page-stands : (m : List ℕ) (x : Page) → WholePage x → x .number < pageCount paper01
+    → Stands m (frameAddress (x .number)) (concatMap placeWords (x .places)) → PageStands m x
 unfolding frameAddress
-frame-stands m x good below s = record { stands = s; inside = omega (arith, length-good x good) }
+page-stands m x good below s = record { stands = s; inside = omega (arith, page-length (x .places) good) }
 
 module _ (m : List ℕ) (n : Node) (v : Mapped n) where
-  -- the frames' region stands frame by frame
-  frames-stand : Stands m framesAt (concatMap (frameWords (allFrames n)) (upFrom 0 (pageCount paper01))) ↔ Every (FrameStands m) (allFrames n)
+  -- the frames' region stands page by page: those that no buffer holds, and those of the buffers
+  frames-stand : Stands m framesAt (concatMap (frameWords (allPages n)) (upFrom 0 (pageCount paper01)))
+      ↔ (Every (PageStands m) (map emptied (idle n)) × Every (PageStands m) (allPages n))
   unfolding frameWords frameAddress
   frames-stand =
-      let parts = parts-stand m (frameWords (allFrames n)) framesAt frameStride 0 (pageCount paper01) (λ j l k. length-frame n v j k) in (
-        λ h. every-of _ (allFrames n) (λ x k.
-            let below = every-at (λ y. y .number < pageCount paper01) (numbers-bounded n v) k in
-            let same = every-at (λ y. placesOf (y .number) (allFrames n) ≡ y .places) (each-found n v) k in
-            frame-stands m x (every-at (GoodFrame paper01) (all-good n v) k) below (rw same at (parts .0 h (x .number) (omega arith) below))),
-        λ e. parts .1 (λ j l k.
-            let once : countOf j (map frameNumber (allFrames n)) ≡ 1 = rw (all-numbers n) (v .frames-once j k) in
-            let t = found (FrameStands m) j (allFrames n) (omega arith) e in
-            by-number m j (t .0) (placesOf j (allFrames n)) (t .1 .0) (t .1 .1 .0) (t .1 .1 .1)),
+      let parts = parts-stand m (frameWords (allPages n)) framesAt frameStride 0 (pageCount paper01) (λ j l k. length-frame n v j) in (
+        λ h. (
+          every-mapped (λ f. (f < pageCount paper01) × (countOf f (concatMap frameList (n .groups)) ≡ 0)) (PageStands m) emptied
+              (λ f k. page-stands m (emptied f) (empty-good paper01) (k .0) (rw (idle-empty n f (k .1)) at (parts .0 h f (omega arith) (k .0))))
+              (idle n) (idle-unlisted n v),
+          every-of _ (allPages n) (λ x k.
+              let below = every-at (λ y. y .number < pageCount paper01) (numbers-bounded n v) k in
+              let same = every-at (λ y. placesOf paper01 (y .number) (allPages n) ≡ y .places) (each-found n v) k in
+              page-stands m x (every-at WholePage (all-good n v) k) below (rw same at (parts .0 h (x .number) (omega arith) below))),
+        ),
+        λ e. parts .1 (λ j l k. held-or-idle (e .0) (e .1) j k (countOf j (concatMap frameList (n .groups))) refl),
       )
+    where
+      held-or-idle : Every (PageStands m) (map emptied (idle n)) → Every (PageStands m) (allPages n) → (j : ℕ) → j < pageCount paper01
+          → (c : ℕ) → countOf j (concatMap frameList (n .groups)) ≡ c → Stands m (frameAddress j) (concatMap placeWords (placesOf paper01 j (allPages n)))
+      held-or-idle idles pages j k zero e =
+          let stands = every-counted (λ f. PageStands m (emptied f)) j (idle n) (every-unmap (PageStands m) emptied (idle n) idles) (unlisted-idle n v j k e) in
+          rw (idle-empty n j e) (stands .stands)
+      held-or-idle idles pages j k (suc c) e =
+          let t = found paper01 j (PageStands m) (allPages n) (rw (all-numbers n) (omega arith)) pages in
+          by-number m j (t .0) (placesOf paper01 j (allPages n)) (t .1 .0) (t .1 .1 .0) (t .1 .1 .1)
 
   -- the map stands piece by piece
   pub map-pieces : (r : List ℕ) → size ≤ length m → drop size m ≡ r → MapStands m n → Pieces m n r
-  unfolding allFrames idle
+  unfolding allPages idle
   map-pieces r long rest s =
-      let all = every-append (FrameStands m) (idle n) (concatMap (framesOf paper01) (n .groups)) .0 (frames-stand .0 (s .frames)) in
-      let lines = every-append (FrameStands m) (n .free) (n .paging .swap) .0 (all .0) in
-      let each = every-concat (FrameStands m) (framesOf paper01) (n .groups) .0 (all .1) in
+      let all = frames-stand .0 (s .frames) in
+      let lines = every-append (PageStands m) (map emptied (n .free)) (map emptied (n .paging .swap)) .0 (rw map-append at (all .0)) in
+      let each = every-concat (PageStands m) (pagesOf paper01) (n .groups) .0 (all .1) in
       let count = v .group-count in
       record {
         long = long;
@@ -120,18 +142,18 @@ module _ (m : List ℕ) (n : Node) (v : Mapped n) where
         free = s .free;
         groups = λ i l. lists-stand m groupWords groupStride emptyGroup length-group (n .groups) groupsAt .0 (s .groups) i (omega arith);
         paging = s .paging;
-        free-frames = lines .0;
-        swap-frames = lines .1;
-        group-frames = λ i l. every-getD (λ G. Every (FrameStands m) (framesOf paper01 G)) (n .groups) i emptyGroup each (omega arith);
+        free-pages = lines .0;
+        swap-pages = lines .1;
+        group-pages = λ i l. every-getD (λ G. Every (PageStands m) (pagesOf paper01 G)) (n .groups) i emptyGroup each (omega arith);
       }
 
   -- and back
   pub pieces-map : {r : List ℕ} → Pieces m n r → MapStands m n
-  unfolding allFrames idle
+  unfolding allPages idle
   pieces-map p =
       let count = v .group-count in
-      let lines = every-append (FrameStands m) (n .free) (n .paging .swap) .1 (p .free-frames, p .swap-frames) in
-      let each = every-index (λ G. Every (FrameStands m) (framesOf paper01 G)) emptyGroup (n .groups) (λ i l. p .group-frames i (omega arith)) in
+      let lines = every-append (PageStands m) (map emptied (n .free)) (map emptied (n .paging .swap)) .1 (p .free-pages, p .swap-pages) in
+      let each = every-index (λ G. Every (PageStands m) (pagesOf paper01 G)) emptyGroup (n .groups) (λ i l. p .group-pages i (omega arith)) in
       record {
         running = p .running;
         timer = p .timer;
@@ -140,8 +162,7 @@ module _ (m : List ℕ) (n : Node) (v : Mapped n) where
         queue = p .queue;
         free = p .free;
         groups = lists-stand m groupWords groupStride emptyGroup length-group (n .groups) groupsAt .1 (λ i l. p .groups i (omega arith));
-        frames = frames-stand .1 (every-append (FrameStands m) (idle n) (concatMap (framesOf paper01) (n .groups)) .1
-            (lines, every-concat (FrameStands m) (framesOf paper01) (n .groups) .1 each));
+        frames = frames-stand .1 (rw map-append lines, every-concat (PageStands m) (pagesOf paper01) (n .groups) .1 each);
         paging = p .paging;
       }
 

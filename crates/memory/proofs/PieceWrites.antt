@@ -10,11 +10,10 @@ use lib.ListN.{drop, getD, length, set}
 use lib.Seq.{getD-set-other, getD-set-same}
 use Rattle.rules.specs.Build.{groupCount, paper01}
 use Rattle.rules.specs.Lists.{Every, concatMap}
-use Rattle.rules.specs.Memory.{frameAddress, frameStride, framesAt, freeAt, freeCountAt, groupAddress, groupStride, groupWords, groupsAt, lineWords, pagingAt, pagingWords, placeWords, queueAt, queueWords, queuedAt, runningAt, size, timerAt}
-use Rattle.rules.specs.Node.{Frame, Group, Message, Node, Paging, emptyGroup, withFree, withGroup, withPaging, withQueue, withRunning, withTimer}
-use Rattle.rules.specs.Paging.{framesOf}
+use Rattle.rules.specs.Memory.{frameAddress, frameStride, framesAt, freeAt, freeCountAt, groupAddress, groupStride, groupWords, groupsAt, lineWords, pagingAt, pagingWords, placeWords, queueAt, queueWords, queuedAt, runningAt, size, timerAt, Page, pagesOf}
+use Rattle.rules.specs.Node.{Group, Message, Node, Paging, emptyGroup, withFree, withGroup, withPaging, withQueue, withRunning, withTimer}
 use Rattle.rules.specs.Sound.{Mapped}
-use Rattle.rules.specs.Valid.{GoodMessage, frameNumber, frameNumbers, idle}
+use Rattle.rules.specs.Valid.{GoodMessage, frameNumbers, idle}
 use Rattle.rules.proofs.Steps.EveryLaws.{every-mono}
 use Rattle.rules.proofs.Map.MapPaging.{length-paging}
 use Rattle.rules.proofs.Map.MapParts.{length-group}
@@ -22,7 +21,7 @@ use Rattle.rules.proofs.Map.MapRead.{length-line, length-queue}
 use Rattle.rules.proofs.Map.MapWords.{Stands, stands-cons, stands-nil}
 use Rattle.memory.specs.Holds.{Holds}
 use Rattle.memory.specs.Writes.{Wrote}
-use Rattle.memory.proofs.PieceLaws.{FrameStands, Pieces, holds-pieces, pieces-hold, same-drop}
+use Rattle.memory.proofs.PieceLaws.{PageStands, Pieces, holds-pieces, pieces-hold, same-drop, emptied}
 use Rattle.memory.proofs.WriteLaws.{kept-above, kept-below, widened, wrote-stands}
 
 -- of the groups with one exchanged: that one, or one of the others
@@ -39,20 +38,20 @@ module _ {m m′ : List ℕ} {a : ℕ} {ws : List ℕ} (w : Wrote m m′ a ws) w
   pub rest-kept : {r : List ℕ} → a + length ws ≤ size → drop size m ≡ r → drop size m′ ≡ r
   rest-kept h e = same-drop m m′ size (w .same-length) (λ b l. w .above b (omega arith)) ∙ e
 
-  -- frames stay where the write is below them
-  pub frames-above : a + length ws ≤ framesAt → (xs : List Frame) → Every (FrameStands m) xs → Every (FrameStands m′) xs
+  -- pages stay where the write is below them
+  pub frames-above : a + length ws ≤ framesAt → (xs : List Page) → Every (PageStands m) xs → Every (PageStands m′) xs
   unfolding frameAddress
   frames-above h =
-      every-mono (FrameStands m) (FrameStands m′) (λ x s.
+      every-mono (PageStands m) (PageStands m′) (λ x s.
       record {
         stands = kept-above w (framesAt + frameStride * x .number) (concatMap placeWords (x .places)) (omega arith) (s .stands);
         inside = s .inside;
       })
 
   -- and where it is above them
-  pub frames-below : pagingAt ≤ a → (xs : List Frame) → Every (FrameStands m) xs → Every (FrameStands m′) xs
+  pub frames-below : pagingAt ≤ a → (xs : List Page) → Every (PageStands m) xs → Every (PageStands m′) xs
   frames-below h =
-      every-mono (FrameStands m) (FrameStands m′) (λ x s.
+      every-mono (PageStands m) (PageStands m′) (λ x s.
       record {
         stands = kept-below w (frameAddress (x .number)) (concatMap placeWords (x .places)) (omega (arith, s .inside)) (s .stands);
         inside = s .inside;
@@ -70,7 +69,7 @@ module _ {m m′ : List ℕ} {a : ℕ} {ws : List ℕ} (w : Wrote m m′ a ws) w
 
 -- the record of a group is written
 pub group-put : {m m′ : List ℕ} {n : Node} {r : List ℕ} → Pieces m n r → (g : ℕ) → 1 ≤ g → g ≤ groupCount → length (n .groups) ≡ groupCount
-    → (G : Group) → Wrote m m′ (groupAddress g) (groupWords G) → Every (FrameStands m) (framesOf paper01 G) → Pieces m′ (withGroup g G n) r
+    → (G : Group) → Wrote m m′ (groupAddress g) (groupWords G) → Every (PageStands m) (pagesOf paper01 G) → Pieces m′ (withGroup g G n) r
 unfolding withGroup groupAddress
 group-put {m} {m′} {n} p g low high count G w e =
     let l = length-group G in
@@ -83,18 +82,18 @@ group-put {m} {m′} {n} p g low high count G w e =
       queued = w .below 2 (omega arith) ∙ p .queued;
       free-count = w .below 3 (omega arith) ∙ p .free-count;
       queue = kept-below w 4 _ (omega (arith, length-queue (n .queue))) (p .queue);
-      free = kept-below w 164 _ (omega (arith, length-line (map frameNumber (n .free)))) (p .free);
+      free = kept-below w 164 _ (omega (arith, length-line (n .free))) (p .free);
       groups = λ i h.
           set-cases (λ H. Stands m′ (groupsAt + groupStride * i) (groupWords H)) (n .groups) i (pred g) G (omega arith)
           (λ same. rw (same, ← at) (wrote-stands w))
           (λ other. group-outside w i (getD (n .groups) i emptyGroup) (λ k. omega arith) (λ k. omega arith) (p .groups i h));
       paging = kept-above w pagingAt _ (omega arith) (p .paging);
-      free-frames = frames-above w (omega arith) (n .free) (p .free-frames);
-      swap-frames = frames-above w (omega arith) (n .paging .swap) (p .swap-frames);
-      group-frames = λ i h.
-          set-cases (λ H. Every (FrameStands m′) (framesOf paper01 H)) (n .groups) i (pred g) G (omega arith)
-          (λ same. frames-above w (omega arith) (framesOf paper01 G) e)
-          (λ other. frames-above w (omega arith) (framesOf paper01 (getD (n .groups) i emptyGroup)) (p .group-frames i h));
+      free-pages = frames-above w (omega arith) (map emptied (n .free)) (p .free-pages);
+      swap-pages = frames-above w (omega arith) (map emptied (n .paging .swap)) (p .swap-pages);
+      group-pages = λ i h.
+          set-cases (λ H. Every (PageStands m′) (pagesOf paper01 H)) (n .groups) i (pred g) G (omega arith)
+          (λ same. frames-above w (omega arith) (pagesOf paper01 G) e)
+          (λ other. frames-above w (omega arith) (pagesOf paper01 (getD (n .groups) i emptyGroup)) (p .group-pages i h));
     }
 
 -- a node with other numbers and another queue can be mapped
@@ -107,8 +106,6 @@ mapped-front v g t q few good =
       queue-good = good;
       group-count = v .group-count;
       groups-whole = v .groups-whole;
-      free-good = v .free-good;
-      swap-good = v .swap-good;
       frames-once = v .frames-once;
       frames-all = v .frames-all;
       free-short = v .free-short;
@@ -137,9 +134,9 @@ numbers-held {m} {m′} {n} {r} h g t w =
       free = kept-above w 164 _ (omega arith) (p .free);
       groups = λ j l. kept-above w (groupsAt + groupStride * j) _ (omega arith) (p .groups j l);
       paging = kept-above w pagingAt _ (omega arith) (p .paging);
-      free-frames = frames-above w (omega arith) (n .free) (p .free-frames);
-      swap-frames = frames-above w (omega arith) (n .paging .swap) (p .swap-frames);
-      group-frames = λ j l. frames-above w (omega arith) (framesOf paper01 (getD (n .groups) j emptyGroup)) (p .group-frames j l);
+      free-pages = frames-above w (omega arith) (map emptied (n .free)) (p .free-pages);
+      swap-pages = frames-above w (omega arith) (map emptied (n .paging .swap)) (p .swap-pages);
+      group-pages = λ j l. frames-above w (omega arith) (pagesOf paper01 (getD (n .groups) j emptyGroup)) (p .group-pages j l);
     })
 
 -- they stand as they were
@@ -168,7 +165,7 @@ queue-held {m} {m₁} {m₂} {n} {r} h q few good w₁ w₂ =
     let p = holds-pieces h in
     let v = h .mapped in
     let long = length-queue q in
-    let frames : (xs : List Frame) → Every (FrameStands m) xs → Every (FrameStands m₂) xs =
+    let frames : (xs : List Page) → Every (PageStands m) xs → Every (PageStands m₂) xs =
     λ xs t. frames-above w₂ (omega arith) xs (frames-above w₁ (omega arith) xs t) in
     pieces-hold
     (mapped-front v (n .running) (n .timer) q few good)
@@ -183,18 +180,18 @@ queue-held {m} {m₁} {m₂} {n} {r} h q few good w₁ w₂ =
       free = kept-above w₂ 164 _ (omega arith) (kept-above w₁ 164 _ (omega arith) (p .free));
       groups = λ j l. kept-above w₂ (groupsAt + groupStride * j) _ (omega arith) (kept-above w₁ (groupsAt + groupStride * j) _ (omega arith) (p .groups j l));
       paging = kept-above w₂ pagingAt _ (omega arith) (kept-above w₁ pagingAt _ (omega arith) (p .paging));
-      free-frames = frames (n .free) (p .free-frames);
-      swap-frames = frames (n .paging .swap) (p .swap-frames);
-      group-frames = λ j l. frames (framesOf paper01 (getD (n .groups) j emptyGroup)) (p .group-frames j l);
+      free-pages = frames (map emptied (n .free)) (p .free-pages);
+      swap-pages = frames (map emptied (n .paging .swap)) (p .swap-pages);
+      group-pages = λ j l. frames (pagesOf paper01 (getD (n .groups) j emptyGroup)) (p .group-pages j l);
     })
 
--- the free line is written, and its count; the frames of the new line stand where their numbers say
-pub line-put : {m m₁ m₂ : List ℕ} {n : Node} {r : List ℕ} → Pieces m n r → (fs : List Frame) → Every (FrameStands m) fs
-    → Wrote m m₁ freeAt (lineWords (map frameNumber fs)) → Wrote m₁ m₂ freeCountAt (length fs ∷ []) → Pieces m₂ (withFree fs n) r
+-- the free line is written, and its count; the frames of the new line are empty
+pub line-put : {m m₁ m₂ : List ℕ} {n : Node} {r : List ℕ} → Pieces m n r → (fs : List ℕ) → Every (PageStands m) (map emptied fs)
+    → Wrote m m₁ freeAt (lineWords fs) → Wrote m₁ m₂ freeCountAt (length fs ∷ []) → Pieces m₂ (withFree fs n) r
 unfolding withFree
 line-put {m} {m₁} {m₂} {n} {r} p fs stand w₁ w₂ =
-    let k = length-line (map frameNumber fs) in
-    let frames : (xs : List Frame) → Every (FrameStands m) xs → Every (FrameStands m₂) xs =
+    let k = length-line fs in
+    let frames : (xs : List Page) → Every (PageStands m) xs → Every (PageStands m₂) xs =
     λ xs t. frames-above w₂ (omega arith) xs (frames-above w₁ (omega arith) xs t) in
     record {
       long = omega (arith, p .long, w₁ .same-length, w₂ .same-length);
@@ -209,13 +206,13 @@ line-put {m} {m₁} {m₂} {n} {r} p fs stand w₁ w₂ =
           kept-above w₂ (groupsAt + groupStride * i) _ (omega arith)
           (kept-above w₁ (groupsAt + groupStride * i) _ (omega arith) (p .groups i h));
       paging = kept-above w₂ pagingAt _ (omega arith) (kept-above w₁ pagingAt _ (omega arith) (p .paging));
-      free-frames = frames fs stand;
-      swap-frames = frames (n .paging .swap) (p .swap-frames);
-      group-frames = λ i h. frames (framesOf paper01 (getD (n .groups) i emptyGroup)) (p .group-frames i h);
+      free-pages = frames (map emptied fs) stand;
+      swap-pages = frames (map emptied (n .paging .swap)) (p .swap-pages);
+      group-pages = λ i h. frames (pagesOf paper01 (getD (n .groups) i emptyGroup)) (p .group-pages i h);
     }
 
--- swap space and the order of entry are written; the pages of the new swap line stand where their numbers say
-pub paging-put : {m m′ : List ℕ} {n : Node} {r : List ℕ} → Pieces m n r → (s : Paging) → Every (FrameStands m) (s .swap)
+-- swap space and the order of entry are written; the swap pages of the new line are empty
+pub paging-put : {m m′ : List ℕ} {n : Node} {r : List ℕ} → Pieces m n r → (s : Paging) → Every (PageStands m) (map emptied (s .swap))
     → Wrote m m′ pagingAt (pagingWords s) → Pieces m′ (withPaging s n) r
 unfolding withPaging
 paging-put {n = n} p s stand w =
@@ -228,11 +225,11 @@ paging-put {n = n} p s stand w =
       queued = w .below 2 (omega arith) ∙ p .queued;
       free-count = w .below 3 (omega arith) ∙ p .free-count;
       queue = kept-below w 4 _ (omega (arith, length-queue (n .queue))) (p .queue);
-      free = kept-below w 164 _ (omega (arith, length-line (map frameNumber (n .free)))) (p .free);
+      free = kept-below w 164 _ (omega (arith, length-line (n .free))) (p .free);
       groups = λ i h.
           kept-below w (groupsAt + groupStride * i) _ (omega (arith, length-group (getD (n .groups) i emptyGroup))) (p .groups i h);
       paging = wrote-stands w;
-      free-frames = frames-below w (omega arith) (n .free) (p .free-frames);
-      swap-frames = frames-below w (omega arith) (s .swap) stand;
-      group-frames = λ i h. frames-below w (omega arith) (framesOf paper01 (getD (n .groups) i emptyGroup)) (p .group-frames i h);
+      free-pages = frames-below w (omega arith) (map emptied (n .free)) (p .free-pages);
+      swap-pages = frames-below w (omega arith) (map emptied (s .swap)) stand;
+      group-pages = λ i h. frames-below w (omega arith) (pagesOf paper01 (getD (n .groups) i emptyGroup)) (p .group-pages i h);
     }

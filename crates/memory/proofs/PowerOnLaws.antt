@@ -9,12 +9,10 @@ use lib.ListN.{drop, length, replicate}
 use borrow.Author.Tests.{lt-leb, le-leb}
 use Rattle.rules.specs.Build.{paper01}
 use Rattle.rules.specs.Lists.{upFrom}
-use Rattle.rules.specs.Memory.{freeAt, freeCountAt, groupsAt, queueAt, swapAt, swapCountAt, words, allFrames, flagWord, frameWords, groupWords, lineWords, listWords, pagingWords, placeWords, queueWords, size}
-use Rattle.rules.specs.Node.{emptyFrame, emptyPaging, powerOn}
+use Rattle.rules.specs.Memory.{freeAt, freeCountAt, groupsAt, queueAt, swapAt, swapCountAt, words, allPages, flagWord, frameWords, groupWords, lineWords, listWords, pagingWords, placeWords, queueWords, size, pagesFrom, pagesOf, placesOf}
+use Rattle.rules.specs.Node.{emptyPaging, powerOn, emptyPage}
 use Rattle.rules.specs.Operation.{allZero, notNode, refused}
 use Rattle.rules.specs.Types.{reportOf}
-use Rattle.rules.specs.Valid.{frameNumber, idle}
-use Rattle.rules.specs.Paging.{framesFrom, framesOf, placesOf}
 use Rattle.rules.specs.declared.Report.{Report as Report·rt}
 use Rattle.rules.proofs.Map.MapWords.{Stands, stands-front}
 use Rattle.memory.specs.Answers.{Answers}
@@ -35,7 +33,7 @@ abbrev power-on-front : List ℕ
 power-on-front = 0 ∷ 0 ∷ 0 ∷ 32 ∷ replicate (freeAt - queueAt) 0 ++ (upFrom 0 32 ++ replicate (swapCountAt - groupsAt) 0)
 
 pub power-on-words : words (powerOn paper01) ≡ power-on-front ++ ((64 ∷ 0 ∷ 0 ∷ 0 ∷ []) ++ (upFrom 32 64 ++ replicate 32 0))
-unfolding words powerOn emptyPaging emptyFrame queueWords lineWords listWords groupWords pagingWords flagWord allFrames idle framesOf framesFrom frameWords placesOf placeWords frameNumber
+unfolding words powerOn emptyPaging queueWords lineWords listWords groupWords pagingWords flagWord allPages pagesOf pagesFrom frameWords placesOf emptyPage placeWords
 power-on-words = refl
 
 -- numbers upward, one more

@@ -1,15 +1,16 @@
 -- Memory that holds a node, and what a function over it makes of the node. Assumes nothing.
-use Prim.Native.Nat.{ℕ, _+_, _≤_, _<_}
+use Prim.Native.Nat.{ℕ, _+_, _-_, _≤_, _<_}
 use mathlib.Core.Bool.{Bool}
 use mathlib.Core.List.{List, _∷_, _++_, []}
 use mathlib.Core.Path.{_≡_}
-use lib.ListN.{length, drop, getD}
+use lib.ListN.{length, take, drop, getD, set}
 use Rattle.rules.specs.Build.{paper01}
-use Rattle.rules.specs.Lists.{countOf}
-use Rattle.rules.specs.Frames.{takeFrame, appended, without, freeFirst, useUp, removeFirst, withStock}
+use Rattle.rules.specs.Lists.{Every, countOf}
+use Rattle.rules.specs.Frames.{takeFrame, appended, without, freeFirst, removeFirst, withStock}
 use Rattle.rules.specs.Memory.{words, placeWords}
-use Rattle.rules.specs.Node.{Message, Frame, Buffer, Node, groupOf, withQueue, withFree, withPaging, withEntered, withBuffer, placeOf, withFlags, withTimerFlags, withGroup}
+use Rattle.rules.specs.Node.{Message, Place, Buffer, Group, Node, emptyPlace, emptyPage, unused, groupOf, withQueue, withFree, withPaging, withEntered, withBuffer, placeOf, withFlags, withTimerFlags, withGroup}
 use Rattle.rules.specs.Sound.{Mapped}
+use Rattle.rules.specs.Valid.{Wiped}
 
 -- the memory m is the map of the node n, with the rest behind it
 pub record Holds (m : List ℕ) (n : Node) (rest : List ℕ) : Type 0 where
@@ -53,17 +54,17 @@ unfoldable pub departing : ℕ → Node → Node
 departing f n = withPaging (withEntered (without f (n .paging .entered)) (n .paging)) n
 
 -- the node in which this is the free line and this the buffer of group g
-unfoldable pub withBoth : ℕ → List Frame → Buffer → Node → Node
+unfoldable pub withBoth : ℕ → List ℕ → Buffer → Node → Node
 withBoth g fs v n = withGroup g (withBuffer v (groupOf n g)) (withFree fs n)
 
 -- group g takes the front of the free line
 unfoldable pub taking : ℕ → Node → Node
-taking g n = withStock g (takeFrame (n .free) (n .paging .entered) (groupOf n g .buffer)) n
+taking g n = withStock g (takeFrame paper01 (n .free) (n .paging .entered) (groupOf n g .buffer)) n
 
 -- the same but for the order of entry
 unfoldable pub granting : ℕ → Node → Node
 granting g n =
-    let s = takeFrame (n .free) (n .paging .entered) (groupOf n g .buffer) in
+    let s = takeFrame paper01 (n .free) (n .paging .entered) (groupOf n g .buffer) in
     withBoth g (s .free) (s .buffer) n
 
 -- the message is put behind the last of its group's buffer
@@ -102,10 +103,32 @@ pub record Waits (g : ℕ) (n : Node) : Type 0 where
   pub entered : InOrder (getD (groupOf n g .buffer .frames) 0 0) n
   -- the free frames and those in use are no more than there are
   pub order : length (n .free) + length (n .paging .entered) ≤ paper01 .frames
+  -- its other places are wiped
+  pub wiped : Every Wiped (unused (groupOf n g .buffer))
 
--- the first place of group g's buffer is used up
+-- the same, and all of its first page is wiped: that of the first message too
+pub record Emptied (g : ℕ) (n : Node) : Type 0 where
+  pub waits : Waits g n
+  pub page : take (paper01 .perFrame) (groupOf n g .buffer .places) ≡ emptyPage paper01
+
+-- the group with a place of its buffer set
+unfoldable pub placed : ℕ → Place → Group → Group
+placed i x G =
+    withBuffer
+    (record { used = G .buffer .used; count = G .buffer .count; frames = G .buffer .frames; places = set (G .buffer .places) i x }) G
+
+-- with these of h and n
+unfoldable pub withCounts : ℕ → ℕ → Group → Group
+withCounts used count G =
+    withBuffer (record { used = used; count = count; frames = G .buffer .frames; places = G .buffer .places }) G
+
+-- the place of group g's first message is wiped
+unfoldable pub wiping : ℕ → Node → Node
+wiping g n = withGroup g (placed (groupOf n g .buffer .used) emptyPlace (groupOf n g)) n
+
+-- that place counts as used up
 unfoldable pub usingUp : ℕ → Node → Node
-usingUp g n = withStock g (useUp (n .free) (n .paging .entered) (groupOf n g .buffer)) n
+usingUp g n = withGroup g (withCounts (groupOf n g .buffer .used + 1) (groupOf n g .buffer .count - 1) (groupOf n g)) n
 
 -- the first frame of group g's buffer is freed
 unfoldable pub freeing : ℕ → Node → Node

@@ -3,7 +3,7 @@
 use Prim.Native.Nat.{ℕ, _+_, _≤_, _<_}
 use mathlib.Core.Path.{_≡_}
 use mathlib.Core.List.{List, [], map}
-use lib.ListN.{length}
+use lib.ListN.{length, replicate}
 use Rattle.rules.specs.Build.{paper01, pageCount, groupCount}
 use Rattle.rules.specs.Memory.{size, frameStride, heldOffset, listOffset, word, wordsAt, listAt, groupAddress, frameAddress}
 use Rattle.rules.specs.Node.{Node, inQueue}
@@ -32,11 +32,15 @@ pub record Traded (m m′ : List ℕ) (p q k : ℕ) : Type 0 where
   pub lists : (g : ℕ) → 1 ≤ g → g ≤ k → wordsAt m′ (groupAddress g + listOffset) (word m (groupAddress g + heldOffset)) ≡ map (traded p q) (listAt m (groupAddress g))
   pub else : (b : ℕ) → ((g : ℕ) → 1 ≤ g → g ≤ k → InList m g b → ⊥) → word m′ b ≡ word m b
 
--- the page in p is copied to q, and the lists name q for p
+-- the page in p is copied to q, what it leaves is wiped, and the lists name q for p
 pub record PageMoved (m m′ : List ℕ) (p q : ℕ) : Type 0 where
-  pub between : List ℕ
-  pub copied : Wrote m between (frameAddress q) (wordsAt m (frameAddress p) frameStride)
-  pub lists : Traded between m′ p q groupCount
+  -- the memory in which the page stands twice
+  pub twice : List ℕ
+  pub copied : Wrote m twice (frameAddress q) (wordsAt m (frameAddress p) frameStride)
+  -- and that in which it stands once again
+  pub once : List ℕ
+  pub wiped : Wrote twice once (frameAddress p) (replicate frameStride 0)
+  pub lists : Traded once m′ p q groupCount
 
 -- the pages in p and q are exchanged, and so are their numbers in the lists
 pub record PagesSwapped (m m′ : List ℕ) (p q : ℕ) : Type 0 where
@@ -85,8 +89,8 @@ pub record Wanting (g : ℕ) (n : Node) : Type 0 where
 
 -- the victim is sent out
 abbrev pub sending : Node → Node
-sending n = sendOut paper01 (victim n) (n .paging .swap) n
+sending n = sendOut (victim n) (n .paging .swap) n
 
 -- page p is brought in
 abbrev pub bringing : ℕ → Node → Node
-bringing p n = bringIn paper01 p (n .free) n
+bringing p n = bringIn p (n .free) n

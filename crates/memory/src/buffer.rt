@@ -10,7 +10,7 @@ ghost use Rattle.rules.specs.Build.{paper01, groupCount};
 ghost use Rattle.rules.specs.Node.{Message};
 ghost use Rattle.rules.specs.Frames.{put};
 ghost use Rattle.rules.specs.Paging.{store};
-ghost use Rattle.memory.specs.Holds.{Some, Becomes, Room, Storable, Kept, Waits, putting, usingUp, freeing, removing};
+ghost use Rattle.memory.specs.Holds.{Some, Becomes, Room, Storable, Kept, Waits, Emptied, putting, wiping, usingUp, freeing, removing};
 ghost use Rattle.memory.specs.Paging.{Wanting};
 
 // The last place of a frame.
@@ -34,7 +34,7 @@ pub fn put(m: &mut [u32], g: u32, len: u32, words: [u32; 8])
 pub fn append(m: &mut [u32], g: u32, len: u32, words: [u32; 8])
     requires { ⌜ (1 ≤ g) × (g ≤ groupCount) ⌝ }
     requires { ⌜ Some (now m) (Storable g) ⌝ }
-    ensures { λ _. ⌜ ((x : Message) → Kept g len words x → Becomes (now (m .entry)) (now (m .exit)) (Storable g) (put x)) ⌝ }
+    ensures { λ _. ⌜ ((x : Message) → Kept g len words x → Becomes (now (m .entry)) (now (m .exit)) (Storable g) (put paper01 x)) ⌝ }
 {
     let end = map::group_word(m, g, map::USED) + map::group_word(m, g, map::COUNT);
     let places = Node::PER_FRAME * map::group_word(m, g, map::HELD);
@@ -54,7 +54,19 @@ pub fn store(m: &mut [u32], g: u32, len: u32, words: [u32; 8])
     append(m, g, len, words);
 }
 
-// The first place of group g's buffer is used up.
+// The place of the first message of group g's buffer is wiped.
+pub fn wipe_first(m: &mut [u32], g: u32)
+    requires { ⌜ (1 ≤ g) × (g ≤ groupCount) ⌝ }
+    requires { ⌜ Some (now m) (Waits g) ⌝ }
+    ensures { λ _. ⌜ Becomes (now (m .entry)) (now (m .exit)) (Waits g) (wiping g) ⌝ }
+{
+    let first = map::group_word(m, g, map::LIST);
+    let used = map::group_word(m, g, map::USED);
+    let at = map::place_at(first, used);
+    words::clear(m, at, map::PLACE_STRIDE);
+}
+
+// It counts as used up.
 pub fn use_up(m: &mut [u32], g: u32)
     requires { ⌜ (1 ≤ g) × (g ≤ groupCount) ⌝ }
     requires { ⌜ Some (now m) (Waits g) ⌝ }
@@ -64,23 +76,24 @@ pub fn use_up(m: &mut [u32], g: u32)
     group::set_counts(m, g, x.used + 1, x.count - 1);
 }
 
-// The first frame of group g's buffer is freed, and its first message with it; the frame leaves the order of entry.
+// The first frame of group g's buffer, which is wiped by then, is freed, and its first message with it; the frame leaves the order of entry.
 pub fn free_first(m: &mut [u32], g: u32)
     requires { ⌜ (1 ≤ g) × (g ≤ groupCount) ⌝ }
-    requires { ⌜ Some (now m) (Waits g) ⌝ }
-    ensures { λ _. ⌜ Becomes (now (m .entry)) (now (m .exit)) (Waits g) (freeing g) ⌝ }
+    requires { ⌜ Some (now m) (Emptied g) ⌝ }
+    ensures { λ _. ⌜ Becomes (now (m .entry)) (now (m .exit)) (Emptied g) (freeing g) ⌝ }
 {
     let f = map::group_word(m, g, map::LIST);
     frames::release(m, g);
     frames::depart(m, f);
 }
 
-// The first message of group g's buffer goes.
+// The first message of group g's buffer goes. A frame that it leaves has no other message, so it is wiped with the message's place.
 pub fn unbuffer(m: &mut [u32], g: u32)
     requires { ⌜ (1 ≤ g) × (g ≤ groupCount) ⌝ }
     requires { ⌜ Some (now m) (Waits g) ⌝ }
     ensures { λ _. ⌜ Becomes (now (m .entry)) (now (m .exit)) (Waits g) (removing g) ⌝ }
 {
+    wipe_first(m, g);
     if map::group_word(m, g, map::COUNT) == 1 {
         free_first(m, g);
         return;

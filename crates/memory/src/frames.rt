@@ -4,7 +4,7 @@ use super::lines;
 use super::map;
 ghost use Prim.Native.Nat.{_≤_};
 ghost use Rattle.rules.specs.Build.{groupCount};
-ghost use Rattle.memory.specs.Holds.{Some, Becomes, FrameLeft, OrderRoom, InOrder, Waits, granting, taking, entering, departing, releasing};
+ghost use Rattle.memory.specs.Holds.{Some, Becomes, FrameLeft, OrderRoom, InOrder, Emptied, granting, taking, entering, departing, releasing};
 
 // Frame f enters: it is the last in the order of entry.
 pub fn enter(m: &mut [u32], f: u32)
@@ -45,11 +45,11 @@ pub fn extend(m: &mut [u32], g: u32)
     enter(m, f);
 }
 
-// The front of group g's list goes to the end of the free line, and the first message with it.
+// The front of group g's list, which is wiped, goes to the end of the free line, and the first message with it.
 pub fn release(m: &mut [u32], g: u32)
     requires { ⌜ (1 ≤ g) × (g ≤ groupCount) ⌝ }
-    requires { ⌜ Some (now m) (Waits g) ⌝ }
-    ensures { λ _. ⌜ Becomes (now (m .entry)) (now (m .exit)) (Waits g) (releasing g) ⌝ }
+    requires { ⌜ Some (now m) (Emptied g) ⌝ }
+    ensures { λ _. ⌜ Becomes (now (m .entry)) (now (m .exit)) (Emptied g) (releasing g) ⌝ }
 {
     let x = group::read(m, g);
     let at = map::group_at(g);

@@ -65,7 +65,7 @@ pub fn page_at(p: u32) -> usize
     map::FRAMES_AT + map::FRAME_STRIDE * (p as usize)
 }
 
-// The page in p is copied to q, and is there from now on.
+// The page in p is copied to q, and is there from now on; what it leaves is wiped.
 pub fn move_page(m: &mut [u32], p: u32, q: u32)
     requires { ⌜ (p < pageCount paper01) × (q < pageCount paper01) ⌝ }
     requires { ⌜ Listing (now m) ⌝ }
@@ -74,6 +74,7 @@ pub fn move_page(m: &mut [u32], p: u32, q: u32)
     let from = page_at(p);
     let to = page_at(q);
     words::copy(m, to, from, map::FRAME_STRIDE);
+    words::clear(m, from, map::FRAME_STRIDE);
     trade(m, p, q);
 }
 

@@ -1,4 +1,5 @@
--- The table of refusals, and the demands.
+-- The table of refusals, the demands, and what a dump tells.
 pub mod ConditionsLaws
 pub mod DemandOneLaws
 pub mod DemandThreeLaws
+pub mod DumpsLaws

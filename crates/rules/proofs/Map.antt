@@ -2,10 +2,12 @@
 pub mod TestLaws
 pub mod MapWords
 pub mod MapParts
+pub mod PageLaws
 pub mod MapFrames
 pub mod MapPaging
 pub mod MapTest
 pub mod MapRead
 pub mod MapLaws
+pub mod MapClean
 pub mod MapHead
 pub mod RunMemory

@@ -5,7 +5,6 @@ pub mod SoundLaws
 pub mod NodeLaws
 pub mod FrameLaws
 pub mod RoomLaws
-pub mod PageLaws
 pub mod PagingLaws
 pub mod StoreLaws
 pub mod SettlingLaws

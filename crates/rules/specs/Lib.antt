@@ -21,3 +21,4 @@ pub mod Conditions
 pub mod DemandOne
 pub mod DemandThree
 pub mod Unseen
+pub mod Dumps

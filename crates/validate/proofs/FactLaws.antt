@@ -17,8 +17,8 @@ use Rattle.rules.specs.MemoryTest.{groupCounts, lengthInBounds, countsInBounds}
 use Rattle.rules.proofs.Map.TestLaws.{range-tells}
 use Rattle.rules.proofs.Steps.EveryLaws.{every-append}
 use Rattle.rules.proofs.Steps.ListLaws.{once-bounded}
-use Rattle.validate.specs.Clauses.{flagsAtomic, messageGood, bufferGood, pagesOnce, listStart, listCount, listed, numbersGood, framesGood}
-use Rattle.validate.specs.Known.{Counted, Framed, Lined}
+use Rattle.validate.specs.Clauses.{flagsAtomic, messageGood, bufferGood, pagesOnce, listStart, listed, numbersGood, framesGood}
+use Rattle.validate.specs.Known.{Counted, Paged, Framed, Lined}
 use Rattle.validate.proofs.frames.ListedLaws.{group-count, group-start, numbers-listed, numbers-split, behind}
 use Rattle.validate.proofs.TestLaws.{numbers-tell, frames-tell}
 
@@ -73,15 +73,20 @@ module _ (m : List ℕ) where
       let l = and-eq-true-iff (not (eqb count 0) || eqb used 0) (eqb (word m (a + heldOffset)) (ceilDiv (used + count) 8)) .0 (k .1) in
       (ltb-true used 8 (k .0), eqb-true (word m (a + heldOffset)) (ceilDiv (used + count) 8) (l .1))
 
-  -- a number of a list is a page's
-  page-bound : length (frameNumbers (nodeAt m)) ≡ 96 → pagesOnce m ≡ true → (l i : ℕ) → 1 ≤ l → l < 11 → i < listCount m l
-      → word m (listStart l + i) < 96
+  -- the lists from the free line on name pages
+  pub paged : Counted m → length (frameNumbers (nodeAt m)) ≡ 96 → pagesOnce m ≡ true → (l : ℕ) → 1 ≤ l → l < 11 → Paged m l
   unfolding pagesOnce standsOnce
-  page-bound whole h l i low high k =
+  paged c whole h l low high =
       let each = range-tells (standsOnce (frameNumbers (nodeAt m))) 0 96 .0 h in
       let small = once-bounded 96 (frameNumbers (nodeAt m)) (λ f b. eqb-true _ 1 (each f (omega arith) (omega arith))) whole in
-      let parted = rw (numbers-listed m, numbers-split m 1 11 l i low high k) at small in
-      every-append (λ x. x < 96) (listed m 1 (l - 1) ++ wordsAt m (listStart l) i) (word m (listStart l + i) ∷ behind m 11 l i) .0 parted .1 .0
+      record {
+        counted = c;
+        high = high;
+        numbers =
+            λ i k.
+            let parted = rw (numbers-listed m, numbers-split m 1 11 l i low high k) at small in
+            every-append (λ x. x < 96) (listed m 1 (l - 1) ++ wordsAt m (listStart l) i) (word m (listStart l + i) ∷ behind m 11 l i) .0 parted .1 .0;
+      }
 
   -- every list names pages
   pub framed : Counted m → numbersGood m ≡ true → length (frameNumbers (nodeAt m)) ≡ 96 → pagesOnce m ≡ true
@@ -99,7 +104,7 @@ module _ (m : List ℕ) where
         used = b .0;
         held = b .1;
         few = c .held g low high;
-        numbers = λ i k. rw start at (page-bound l o (g + 2) i (omega arith) (omega arith) (omega arith));
+        numbers = λ i k. rw start at (paged c l o (g + 2) (omega arith) (omega arith) .numbers i (omega arith));
       }
 
   -- the group of message i

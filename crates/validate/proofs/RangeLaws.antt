@@ -1,13 +1,15 @@
--- Tests of a range by a loop: what the turns so far have passed, and what one failure tells. Assumes nothing.
+-- Tests of lists, and of a range by a loop: what the turns so far have passed, and what one failure tells. Assumes nothing.
 use Prim.Native.Nat.{ℕ, zero, suc, _+_, _≤_, _<_}
 use mathlib.Core.Path.{_≡_, refl, sym, ap, _∙_}
 use mathlib.Core.Logic.{_⊎_, inl, inr}
 use mathlib.Core.Bool.{Bool, true, false, not, _&&_, true≢false, and-true, and-assoc}
+use mathlib.Core.List.{List, [], _∷_, _++_}
 use native.Mathlib.Omega.{arith}
 use native.Mathlib.Nat.{add-zero, suc-add, eq-or-lt-of-le}
 use borrow.Author.Tests.{not-true, not-false}
 use Rattle.rules.specs.Lists.{all, upFrom}
 use Rattle.rules.specs.Build.{groupCount}
+use Rattle.rules.specs.Memory.{word, wordsAt}
 use Rattle.rules.proofs.Map.TestLaws.{range-tells}
 
 -- a test that cannot pass fails
@@ -22,6 +24,19 @@ and-fails a b e = rw e
 -- one that passes leaves it to the second
 pub and-passes : (a b t : Bool) → a ≡ true → b ≡ t → a && b ≡ t
 and-passes a b t e f = rw (e, f)
+
+-- a test of two lists joined
+pub all-append : {A : Type 0} (p : A → Bool) (xs ys : List A) → all p (xs ++ ys) ≡ all p xs && all p ys
+all-append p [] ys = refl
+all-append p (x ∷ xs) ys = ap (λ (t : Bool). p x && t) (all-append p xs ys) ∙ sym (and-assoc (p x) (all p xs) (all p ys))
+
+-- a test of words is one of their addresses
+pub all-words : (p : ℕ → Bool) (m : List ℕ) (a i k : ℕ) → all p (wordsAt m (a + i) k) ≡ all (λ j. p (word m (a + j))) (upFrom i k)
+unfolding wordsAt
+all-words p m a i zero = refl
+all-words p m a i (suc k) =
+    let e : a + i + 1 ≡ a + suc i = omega arith in
+    ap (λ (t : Bool). p (word m (a + i)) && t) (rw e (all-words p m a (suc i) k))
 
 -- one number more
 pub all-more : (p : ℕ → Bool) (a k : ℕ) → all p (upFrom a (k + 1)) ≡ all p (upFrom a k) && p (a + k)

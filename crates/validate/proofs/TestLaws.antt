@@ -4,7 +4,7 @@ use Prim.Native.Nat.{ℕ, zero, suc, _+_, _*_, _≤_, _<_}
 use mathlib.Core.Path.{_≡_, refl, sym, ap, _∙_}
 use mathlib.Core.Logic.{_↔_, Iff·trans, Iff·and, Iff·rfl}
 use mathlib.Core.Bool.{Bool, true, false, _&&_, and-eq-true-iff, true≢false}
-use mathlib.Core.List.{List, map}
+use mathlib.Core.List.{List}
 use native.Mathlib.Omega.{arith}
 use native.Mathlib.Nat.{mul-suc}
 use lib.Dec.{eqb, leb, ltb}
@@ -12,17 +12,18 @@ use lib.ListN.{length}
 use borrow.Author.Tests.{le-leb, eq-eqb}
 use Rattle.rules.specs.Lists.{Every, all, upFrom}
 use Rattle.rules.specs.Build.{paper01, groupCount, wordLimit}
+use Rattle.rules.specs.Node.{unused}
 use Rattle.rules.specs.Frames.{pledges}
-use Rattle.rules.specs.Valid.{isMessage, isPlace, isFrame, isBuffer, isGroup, isSwap, frameNumbers, frameOrder, pendingHasLine, runnerAtomic, headStays, runnerInFrame, nodeTests, isNode}
-use Rattle.rules.specs.Memory.{runningAt, timerAt, queuedAt, freeAt, freeCountAt, swapAt, swapCountAt, queueAt, groupsAt, heldOffset, describedOffset, descriptorOffset, listOffset, size, word, wordsAt, placeAt, framePlaces, frameAddress, frameAt, listAt, bufferAt, groupAt, groupsFrom, groupAddress, pagingFrom, nodeAt}
-use Rattle.rules.specs.MemoryTest.{countsInBounds, groupFlags, flagsAreFlags, unusedAreZero, memoryTests, isMemory}
+use Rattle.rules.specs.Valid.{isMessage, isPlace, isBuffer, isGroup, isSwap, frameNumbers, frameOrder, pendingHasLine, runnerAtomic, headStays, runnerInFrame, nodeTests, isNode}
+use Rattle.rules.specs.Memory.{runningAt, timerAt, queuedAt, swapAt, swapCountAt, queueAt, groupsAt, heldOffset, describedOffset, descriptorOffset, listOffset, size, word, wordsAt, placeAt, framePlaces, frameAddress, listAt, bufferAt, groupAt, groupsFrom, groupAddress, pagingFrom, nodeAt}
+use Rattle.rules.specs.MemoryTest.{countsInBounds, groupFlags, flagsAreFlags, unusedAreZero, idleAreWiped, memoryTests, isMemory}
 use Rattle.rules.proofs.Map.TestLaws.{all-every, passes-every, range-tells}
-use Rattle.rules.proofs.Steps.EveryLaws.{every-of, every-map, every-concat}
+use Rattle.rules.proofs.Steps.EveryLaws.{every-of, every-concat}
 use Rattle.rules.proofs.Map.MapWords.{Records, length-wordsAt, length-records, every-record}
 use Rattle.rules.proofs.Map.MapParts.{messages, places, groups}
-use Rattle.validate.specs.Clauses.{flagsAtomic, flagsGood, messageGood, bufferGood, waitingGood, pagesOnce, swapPage, enteredOnce, numbersGood, framesGood, linesGood}
+use Rattle.validate.specs.Clauses.{flagsAtomic, flagsGood, messageGood, bufferGood, waitingGood, usedUpWiped, behindWiped, placesGood, pagesOnce, swapPage, enteredOnce, numbersGood, framesGood, linesGood}
 use Rattle.validate.specs.Known.{Counted}
-use Rattle.validate.proofs.RangeLaws.{fails}
+use Rattle.validate.proofs.RangeLaws.{all-append, all-words, fails}
 use Rattle.validate.proofs.frames.PlaceLaws.{places-all}
 
 -- a test of every element, element by element
@@ -63,40 +64,10 @@ module _ (m : List ℕ) where
   unfolding framePlaces
   frame-eights f = every-record (places m) (λ p. isPlace p ≡ true) place-eight (frameAddress f) 8
 
-  -- any frame that is read is whole
-  frame-whole : (f : ℕ) → isFrame paper01 (frameAt m f) ≡ true
-  unfolding isFrame frameAt framePlaces
-  frame-whole f =
-      let l = length-records (places m) (frameAddress f) 8 in
-      and-eq-true-iff _ _ .1 (eq-eqb (length (framePlaces m f)) 8 l, each isPlace (framePlaces m f) .1 (frame-eights f))
-
-  -- and so are all that are
-  frames-whole : (ws : List ℕ) → all (isFrame paper01) (map (frameAt m) ws) ≡ true
-  frames-whole ws =
-      each (isFrame paper01) (map (frameAt m) ws) .1 (every-map (λ x. isFrame paper01 x ≡ true) (frameAt m) frame-whole ws)
-
-  -- the free frames
-  free-tested : all (isFrame paper01) (nodeAt m .free) ≡ true
-  unfolding nodeAt
-  free-tested = frames-whole (wordsAt m freeAt (word m freeCountAt))
-
-  -- the free swap pages
-  swap-tested : all (isFrame paper01) (nodeAt m .paging .swap) ≡ true
-  unfolding nodeAt pagingFrom
-  swap-tested = frames-whole (wordsAt m swapAt (word m swapCountAt))
-
-  -- their numbers, from the i-th on
-  swap-from : (i k : ℕ) → all (isSwap paper01) (map (frameAt m) (wordsAt m (swapAt + i) k)) ≡ all (swapPage m) (upFrom i k)
-  unfolding wordsAt isSwap frameAt swapPage
-  swap-from i zero = refl
-  swap-from i (suc k) =
-      let e : swapAt + i + 1 ≡ swapAt + suc i = omega arith in
-      ap (λ (t : Bool). leb 32 (word m (swapAt + i)) && t) (rw e (swap-from (suc i) k))
-
-  -- and all of them
+  -- the numbers of the swap line
   swap-numbered : all (isSwap paper01) (nodeAt m .paging .swap) ≡ all (swapPage m) (upFrom 0 (word m swapCountAt))
-  unfolding nodeAt pagingFrom
-  swap-numbered = swap-from 0 (word m swapCountAt)
+  unfolding nodeAt pagingFrom isSwap swapPage
+  swap-numbered = all-words (isSwap paper01) m swapAt 0 (word m swapCountAt)
 
   -- the first numbers
   running-tested : leb (nodeAt m .running) groupCount ≡ leb (word m runningAt) groupCount
@@ -124,8 +95,8 @@ module _ (m : List ℕ) where
 
   -- one group
   group-tested : Counted m → (g : ℕ) → 1 ≤ g → g ≤ groupCount
-      → (isGroup paper01 (groupAt m (groupAddress g)) ≡ true) ↔ ((bufferGood m g ≡ true) × ((flagsAtomic m g ≡ true) × (waitingGood m g ≡ true)))
-  unfolding isGroup isBuffer groupAt bufferAt listAt bufferGood flagsAtomic waitingGood
+      → (isGroup paper01 (groupAt m (groupAddress g)) ≡ true) ↔ ((bufferGood m g ≡ true) × ((flagsAtomic m g ≡ true) × (placesGood m g ≡ true)))
+  unfolding isGroup isBuffer unused groupAt bufferAt listAt bufferGood flagsAtomic placesGood waitingGood usedUpWiped behindWiped
   group-tested c g low high =
       let a = groupAddress g in
       let list = length-wordsAt m (a + listOffset) (word m (a + heldOffset)) in
@@ -134,7 +105,7 @@ module _ (m : List ℕ) where
       let eights = each isPlace (bufferAt m a .places) .1 (every-concat (λ p. isPlace p ≡ true) (framePlaces m) (listAt m a) .1 frames) in
       let words = length-wordsAt m (a + descriptorOffset) (word m (a + describedOffset)) in
       let few = le-leb (word m (a + describedOffset)) 8 (c .described g low high) in
-      simp (and-eq-true-iff, list, words) (
+      simp (and-eq-true-iff, all-append, list, words) (
         λ h. ((h .0 .0, (h .0 .1 .0, h .0 .1 .1 .0)), (h .1 .1, h .0 .1 .1 .1 .1 .1)),
         λ h. ((h .0 .0, (h .0 .1 .0, (h .0 .1 .1, (whole, (eights, h .1 .1))))), (few, h .1 .0)),
       )
@@ -143,22 +114,22 @@ module _ (m : List ℕ) where
   groups-tell : Counted m
       → (all (isGroup paper01) (nodeAt m .groups) ≡ true)
       ↔ ((all (bufferGood m) (upFrom 1 groupCount) ≡ true)
-      × ((all (flagsAtomic m) (upFrom 1 groupCount) ≡ true) × (all (waitingGood m) (upFrom 1 groupCount) ≡ true)))
+      × ((all (flagsAtomic m) (upFrom 1 groupCount) ≡ true) × (all (placesGood m) (upFrom 1 groupCount) ≡ true)))
   groups-tell c =
       let all8 = range-tells (λ g. isGroup paper01 (groupAt m (groupAddress g))) 1 groupCount in
       let buffers = range-tells (bufferGood m) 1 groupCount in
       let flags = range-tells (flagsAtomic m) 1 groupCount in
-      let waits = range-tells (waitingGood m) 1 groupCount in
+      let contents = range-tells (placesGood m) 1 groupCount in
       rw groups-tested (
         λ h.
-            let one : ((g : ℕ) → 1 ≤ g → g < 9 → (bufferGood m g ≡ true) × ((flagsAtomic m g ≡ true) × (waitingGood m g ≡ true))) =
+            let one : ((g : ℕ) → 1 ≤ g → g < 9 → (bufferGood m g ≡ true) × ((flagsAtomic m g ≡ true) × (placesGood m g ≡ true))) =
             λ g low high. group-tested c g low (omega arith) .0 (all8 .0 h g low high) in (
               buffers .1 (λ g low high. one g low high .0),
-              (flags .1 (λ g low high. one g low high .1 .0), waits .1 (λ g low high. one g low high .1 .1)),
+              (flags .1 (λ g low high. one g low high .1 .0), contents .1 (λ g low high. one g low high .1 .1)),
             ),
         λ h.
-            let one : ((g : ℕ) → 1 ≤ g → g < 9 → (bufferGood m g ≡ true) × ((flagsAtomic m g ≡ true) × (waitingGood m g ≡ true))) =
-            λ g low high. (buffers .0 (h .0) g low high, (flags .0 (h .1 .0) g low high, waits .0 (h .1 .1) g low high)) in
+            let one : ((g : ℕ) → 1 ≤ g → g < 9 → (bufferGood m g ≡ true) × ((flagsAtomic m g ≡ true) × (placesGood m g ≡ true))) =
+            λ g low high. (buffers .0 (h .0) g low high, (flags .0 (h .1 .0) g low high, contents .0 (h .1 .1) g low high)) in
             all8 .1 (λ g low high. group-tested c g low (omega arith) .1 (one g low high)),
       )
 
@@ -190,9 +161,10 @@ module _ (m : List ℕ) where
       ↔ ((eqb (length (frameNumbers (nodeAt m))) 96 ≡ true)
       × ((pagesOnce m ≡ true)
       × ((all (swapPage m) (upFrom 0 (word m swapCountAt)) ≡ true)
-      × ((eqb (length (frameOrder (nodeAt m))) 32 ≡ true) × ((enteredOnce m ≡ true) × (all (waitingGood m) (upFrom 1 groupCount) ≡ true))))))
+      × ((eqb (length (frameOrder (nodeAt m))) 32 ≡ true)
+      × ((enteredOnce m ≡ true) × ((idleAreWiped m ≡ true) × (all (placesGood m) (upFrom 1 groupCount) ≡ true)))))))
   unfolding framesGood
-  frames-tell = and-tells (and-tells (and-tells (and-tells (and-tells Iff·rfl))))
+  frames-tell = and-tells (and-tells (and-tells (and-tells (and-tells (and-tells Iff·rfl)))))
 
   lines-tell : (linesGood m ≡ true)
       ↔ ((leb (pledges paper01 (nodeAt m)) 96 ≡ true)
@@ -202,22 +174,26 @@ module _ (m : List ℕ) where
   unfolding linesGood
   lines-tell = and-tells (and-tells (and-tells (and-tells Iff·rfl)))
 
-  -- the clauses of a node are those of its words
+  -- the clauses of a node, and the one on the pages that no buffer holds, are those of its words
   pub node-tested : Counted m
-      → (isNode paper01 (nodeAt m) ≡ true)
+      → (idleAreWiped m && isNode paper01 (nodeAt m) ≡ true)
       ↔ ((all (flagsAtomic m) (upFrom 1 groupCount) ≡ true) × ((numbersGood m ≡ true) × ((framesGood m ≡ true) × (linesGood m ≡ true))))
   unfolding isNode nodeTests pagesOnce enteredOnce
   node-tested c = (
     λ h.
-        let t = passes-every (nodeTests paper01) (nodeAt m) .0 h in
+        let both = and-eq-true-iff (idleAreWiped m) _ .0 h in
+        let t = passes-every (nodeTests paper01) (nodeAt m) .0 (both .1) in
         let Gs = groups-tell c .0 (t .1 .1 .1 .1 .1 .0) in
-        let fs = t .1 .1 .1 .1 .1 .1 .1 .1 in
+        let fs = t .1 .1 .1 .1 .1 .1 in
         let ls = fs .1 .1 .1 .1 .1 in (
           Gs .1 .0,
           (
             numbers-tell .1 (sym running-tested ∙ t .0, (sym timer-tested ∙ t .1 .0, (sym queue-tested ∙ t .1 .1 .1 .0, Gs .0))),
             (
-              frames-tell .1 (fs .1 .0, (fs .0, (sym swap-numbered ∙ fs .1 .1 .0, (fs .1 .1 .1 .1 .0, (fs .1 .1 .1 .0, Gs .1 .1))))),
+              frames-tell .1 (
+                fs .1 .0,
+                (fs .0, (sym swap-numbered ∙ fs .1 .1 .0, (fs .1 .1 .1 .1 .0, (fs .1 .1 .1 .0, (both .0, Gs .1 .1))))),
+              ),
               lines-tell .1 (ls .0, (ls .1 .0, (ls .1 .1 .0, (ls .1 .1 .1 .0, ls .1 .1 .1 .1 .0)))),
             ),
           ),
@@ -228,8 +204,8 @@ module _ (m : List ℕ) where
         let ls = lines-tell .0 (h .1 .1 .1) in
         let places = le-leb (length (nodeAt m .queue)) 16 (omega (arith, c .queued, queue-length)) in
         let eight = eq-eqb (length (nodeAt m .groups)) 8 groups-length in
-        let Gs = groups-tell c .1 (ns .1 .1 .1, (h .0, fs .1 .1 .1 .1 .1)) in
-        passes-every (nodeTests paper01) (nodeAt m) .1 (
+        let Gs = groups-tell c .1 (ns .1 .1 .1, (h .0, fs .1 .1 .1 .1 .1 .1)) in
+        let node = passes-every (nodeTests paper01) (nodeAt m) .1 (
           running-tested ∙ ns .0,
           (
             timer-tested ∙ ns .1 .0,
@@ -242,20 +218,14 @@ module _ (m : List ℕ) where
                   (
                     Gs,
                     (
-                      free-tested,
+                      fs .1 .0,
                       (
-                        swap-tested,
+                        fs .0,
                         (
-                          fs .1 .0,
+                          swap-numbered ∙ fs .1 .1 .0,
                           (
-                            fs .0,
-                            (
-                              swap-numbered ∙ fs .1 .1 .0,
-                              (
-                                fs .1 .1 .1 .1 .0,
-                                (fs .1 .1 .1 .0, (ls .0, (ls .1 .0, (ls .1 .1 .0, (ls .1 .1 .1 .0, (ls .1 .1 .1 .1, tt)))))),
-                              ),
-                            ),
+                            fs .1 .1 .1 .1 .0,
+                            (fs .1 .1 .1 .0, (ls .0, (ls .1 .0, (ls .1 .1 .0, (ls .1 .1 .1 .0, (ls .1 .1 .1 .1, tt)))))),
                           ),
                         ),
                       ),
@@ -265,38 +235,46 @@ module _ (m : List ℕ) where
               ),
             ),
           ),
-        ),
+        ) in
+        and-eq-true-iff (idleAreWiped m) _ .1 (fs .1 .1 .1 .1 .1 .0, node),
   )
 
   -- Part by part.
 
   module _ (c : Counted m) where
     -- a number that fails
-    pub numbers-fail : numbersGood m ≡ false → isNode paper01 (nodeAt m) ≡ false
-    numbers-fail e = fails (isNode paper01 (nodeAt m)) (λ h. true≢false (sym (node-tested c .0 h .1 .0) ∙ e))
+    pub numbers-fail : numbersGood m ≡ false → idleAreWiped m && isNode paper01 (nodeAt m) ≡ false
+    numbers-fail e = fails _ (λ h. true≢false (sym (node-tested c .0 h .1 .0) ∙ e))
 
     -- a frame that does
-    pub frames-fail : framesGood m ≡ false → isNode paper01 (nodeAt m) ≡ false
-    frames-fail e = fails (isNode paper01 (nodeAt m)) (λ h. true≢false (sym (node-tested c .0 h .1 .1 .0) ∙ e))
+    pub frames-fail : framesGood m ≡ false → idleAreWiped m && isNode paper01 (nodeAt m) ≡ false
+    frames-fail e = fails _ (λ h. true≢false (sym (node-tested c .0 h .1 .1 .0) ∙ e))
 
     -- else the lines decide
     pub lines-decide : (t : Bool) → all (flagsAtomic m) (upFrom 1 groupCount) ≡ true → numbersGood m ≡ true → framesGood m ≡ true
-        → linesGood m ≡ t → isNode paper01 (nodeAt m) ≡ t
+        → linesGood m ≡ t → idleAreWiped m && isNode paper01 (nodeAt m) ≡ t
     lines-decide t a n f l =
-        same-test (isNode paper01 (nodeAt m)) t (λ h. sym l ∙ node-tested c .0 h .1 .1 .1, λ h. node-tested c .1 (a, (n, (f, l ∙ h))))
+        same-test _ t (λ h. sym l ∙ node-tested c .0 h .1 .1 .1, λ h. node-tested c .1 (a, (n, (f, l ∙ h))))
 
 -- the memory test, clause by clause
 pub memory-tested : (m : List ℕ)
-    → isMemory m ≡ (leb size (length m) && (countsInBounds m && (flagsAreFlags m && (unusedAreZero m && isNode paper01 (nodeAt m)))))
+    → isMemory m
+    ≡ (leb size (length m) && (countsInBounds m && (flagsAreFlags m && (unusedAreZero m && (idleAreWiped m && isNode paper01 (nodeAt m))))))
 unfolding isMemory memoryTests
 memory-tested m =
-    let both : (leb size (length m) && (countsInBounds m && (flagsAreFlags m && (unusedAreZero m && isNode paper01 (nodeAt m)))) ≡ true)
+    let both : (leb size (length m) && (countsInBounds m && (flagsAreFlags m && (unusedAreZero m && (idleAreWiped m && isNode paper01 (nodeAt m))))) ≡ true)
     ↔ ((leb size (length m) ≡ true)
-    × ((countsInBounds m ≡ true) × ((flagsAreFlags m ≡ true) × ((unusedAreZero m ≡ true) × (isNode paper01 (nodeAt m) ≡ true))))) =
-    and-tells (and-tells (and-tells (and-tells Iff·rfl))) in
+    × ((countsInBounds m ≡ true)
+    × ((flagsAreFlags m ≡ true)
+    × ((unusedAreZero m ≡ true) × ((idleAreWiped m ≡ true) × (isNode paper01 (nodeAt m) ≡ true)))))) =
+    and-tells (and-tells (and-tells (and-tells (and-tells Iff·rfl)))) in
     same-test (isMemory m) _ (
-      λ h. let t = passes-every memoryTests m .0 h in both .1 (t .0, (t .1 .0, (t .1 .1 .0, (t .1 .1 .1 .0, t .1 .1 .1 .1 .0)))),
-      λ h. let t = both .0 h in passes-every memoryTests m .1 (t .0, (t .1 .0, (t .1 .1 .0, (t .1 .1 .1 .0, (t .1 .1 .1 .1, tt))))),
+      λ h.
+          let t = passes-every memoryTests m .0 h in
+          both .1 (t .0, (t .1 .0, (t .1 .1 .0, (t .1 .1 .1 .0, (t .1 .1 .1 .1 .0, t .1 .1 .1 .1 .1 .0))))),
+      λ h.
+          let t = both .0 h in
+          passes-every memoryTests m .1 (t .0, (t .1 .0, (t .1 .1 .0, (t .1 .1 .1 .0, (t .1 .1 .1 .1 .0, (t .1 .1 .1 .1 .1, tt)))))),
     )
 
 -- a flag that fails
@@ -306,4 +284,5 @@ flags-fail m c e =
     fails (isMemory m)
     (λ h.
     let t = passes-every memoryTests m .0 h in
-    true≢false (sym (flags-tell m .1 (t .1 .1 .0, node-tested m c .0 (t .1 .1 .1 .1 .0) .0)) ∙ e))
+    let held = and-eq-true-iff (idleAreWiped m) _ .1 (t .1 .1 .1 .1 .0, t .1 .1 .1 .1 .1 .0) in
+    true≢false (sym (flags-tell m .1 (t .1 .1 .0, node-tested m c .0 held .0)) ∙ e))

@@ -1,18 +1,18 @@
 -- The clauses of "Memory is a node when" on the node that the words hold, in the order in which they are tested. A group's clause is parted in
--- three: its flags are tested in one pass with what is asked of their words, and the places of its waiting messages can be looked at only
--- where its frames are known. Assumes nothing.
+-- three: its flags are tested in one pass with what is asked of their words, and its places can be looked at only where its pages are known.
+-- Assumes nothing.
 use Prim.Native.Nat.{ℕ, zero, suc, _+_, _*_, _/_, _%_}
 use mathlib.Core.Bool.{Bool, not, _&&_, _||_}
 use mathlib.Core.List.{List}
 use lib.Dec.{eqb, leb, ltb}
-use lib.ListN.{length}
+use lib.ListN.{length, take, drop}
 use Rattle.rules.specs.Lists.{all, concatMap, upFrom}
 use Rattle.rules.specs.Build.{paper01, pageCount, groupCount}
 use Rattle.rules.specs.Node.{waiting}
 use Rattle.rules.specs.Frames.{ceilDiv, pledges}
-use Rattle.rules.specs.Valid.{isMessage, isWaiting, onlyAtomic, frameNumbers, frameOrder, standsOnce, pendingHasLine, runnerAtomic, headStays, runnerInFrame}
+use Rattle.rules.specs.Valid.{isMessage, isWaiting, isWiped, onlyAtomic, frameNumbers, frameOrder, standsOnce, pendingHasLine, runnerAtomic, headStays, runnerInFrame}
 use Rattle.rules.specs.Memory.{runningAt, timerAt, queuedAt, freeCountAt, queueAt, queueStride, freeAt, listOffset, usedOffset, countOffset, heldOffset, placeStride, swapCountAt, enteredCountAt, swapAt, enteredAt, word, wordsAt, messageAt, placeAt, frameAddress, bufferAt, groupAt, groupAddress, nodeAt}
-use Rattle.rules.specs.MemoryTest.{groupFlags}
+use Rattle.rules.specs.MemoryTest.{groupFlags, idleAreWiped}
 
 -- pending, force and revoked "only with atomic": of one group
 unfoldable pub flagsAtomic : List ℕ → ℕ → Bool
@@ -37,6 +37,23 @@ bufferGood m g =
 -- "waiting messages' lengths"; "a waiting message's words past its length are 0": of those in the buffer of one group
 unfoldable pub waitingGood : List ℕ → ℕ → Bool
 waitingGood m g = all isWaiting (waiting (bufferAt m (groupAddress g)))
+
+-- "Memory is no node (1) if a frame or swap page has a word or kept length other than 0 that is no part of a waiting message.": the used-up places
+-- of the buffer of one group
+unfoldable pub usedUpWiped : List ℕ → ℕ → Bool
+usedUpWiped m g =
+    let v = bufferAt m (groupAddress g) in
+    all isWiped (take (v .used) (v .places))
+
+-- those behind its last message
+unfoldable pub behindWiped : List ℕ → ℕ → Bool
+behindWiped m g =
+    let v = bufferAt m (groupAddress g) in
+    all isWiped (drop (v .used + v .count) (v .places))
+
+-- all its places: where a message waits, and where none does
+unfoldable pub placesGood : List ℕ → ℕ → Bool
+placesGood m g = waitingGood m g && (usedUpWiped m g && behindWiped m g)
 
 -- place i of frame or swap page f: whether a message waits there as it must
 unfoldable pub waitingIn : List ℕ → ℕ → ℕ → Bool
@@ -92,13 +109,13 @@ numbersGood m =
     && (ltb (word m timerAt) (paper01 .timeout)
     && (all (messageGood m) (upFrom 0 (word m queuedAt)) && all (bufferGood m) (upFrom 1 groupCount)))
 
--- those on the frames and swap pages and on what waits in them
+-- those on the frames and swap pages and on what is in them
 unfoldable pub framesGood : List ℕ → Bool
 framesGood m =
     eqb (length (frameNumbers (nodeAt m))) (pageCount paper01)
     && (pagesOnce m
     && (all (swapPage m) (upFrom 0 (word m swapCountAt))
-    && (eqb (length (frameOrder (nodeAt m))) (paper01 .frames) && (enteredOnce m && all (waitingGood m) (upFrom 1 groupCount)))))
+    && (eqb (length (frameOrder (nodeAt m))) (paper01 .frames) && (enteredOnce m && (idleAreWiped m && all (placesGood m) (upFrom 1 groupCount))))))
 
 -- those on the groups' lines, and on the running group
 unfoldable pub linesGood : List ℕ → Bool

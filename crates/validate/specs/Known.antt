@@ -10,6 +10,7 @@ use Rattle.rules.specs.Build.{paper01, pageCount, groupCount, wordLimit}
 use Rattle.rules.specs.Node.{isOf}
 use Rattle.rules.specs.Frames.{ceilDiv}
 use Rattle.rules.specs.Memory.{runningAt, queuedAt, freeCountAt, queueAt, queueStride, listOffset, atomicOffset, forceOffset, usedOffset, countOffset, heldOffset, describedOffset, swapCountAt, enteredCountAt, size, word, messagesAt, flagAt, groupAddress}
+use Rattle.validate.specs.Clauses.{listStart, listCount}
 
 -- what the size and the first clause establish, so that every count can be followed within the memory
 pub record Counted (m : List ℕ) : Type 0 where
@@ -21,6 +22,12 @@ pub record Counted (m : List ℕ) : Type 0 where
   pub held : (g : ℕ) → 1 ≤ g → g ≤ groupCount → word m (groupAddress g + heldOffset) ≤ pageCount paper01
   pub described : (g : ℕ) → 1 ≤ g → g ≤ groupCount → word m (groupAddress g + describedOffset) ≤ wordLimit
   pub lengths : (i : ℕ) → i < word m queuedAt → word m (queueAt + queueStride * i + 1) ≤ wordLimit
+
+-- what the counts and the clause on the pages establish of a list of page numbers: it stands within the memory, and names frames and swap pages
+pub record Paged (m : List ℕ) (l : ℕ) : Type 0 where
+  pub counted : Counted m
+  pub high : l < 11
+  pub numbers : (i : ℕ) → i < listCount m l → word m (listStart l + i) < pageCount paper01
 
 -- what the clauses on its numbers and on the frames establish of group g: its list has its length, and names frames and swap pages
 pub record Framed (m : List ℕ) (g : ℕ) : Type 0 where

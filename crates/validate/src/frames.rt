@@ -1,15 +1,17 @@
-// The clauses on the frames and swap pages, and on the messages that wait in them.
+// The clauses on the frames and swap pages, and on what is in them.
 use crate::PAGE_COUNT;
 use memory::Node;
 use memory::map::COUNT;
 use memory::map::ENTERED_AT;
 use memory::map::ENTERED_COUNT;
+use memory::map::FRAME_STRIDE;
 use memory::map::FREE_AT;
 use memory::map::FREE_COUNT;
 use memory::map::HELD;
 use memory::map::LINE;
 use memory::map::LIST;
 use memory::map::PAGES;
+use memory::map::PLACE_STRIDE;
 use memory::map::SWAP_AT;
 use memory::map::SWAP_COUNT;
 use memory::map::USED;
@@ -17,6 +19,8 @@ use memory::map::WORDS;
 use memory::map::group_at;
 use memory::map::group_word;
 use memory::map::place_at;
+use memory::paging::page_at;
+use memory::words::zeros;
 ghost use mathlib.Core.Path.{_≡_};
 ghost use mathlib.Core.Bool.{true};
 ghost use Prim.Native.Nat.{ℕ, _+_, _-_, _≤_, _<_};
@@ -25,10 +29,10 @@ ghost use lib.ListN.{length};
 ghost use Rattle.rules.specs.Lists.{all, upFrom};
 ghost use Rattle.rules.specs.Build.{paper01, pageCount, groupCount};
 ghost use Rattle.rules.specs.Memory.{size, swapCountAt, placeStride, word, placeAt, nodeAt};
-ghost use Rattle.rules.specs.MemoryTest.{zeroAt};
+ghost use Rattle.rules.specs.MemoryTest.{zeroAt, frameWiped, idleAreWiped};
 ghost use Rattle.rules.specs.Valid.{isWaiting, frameNumbers, frameOrder, standsOnce};
-ghost use Rattle.validate.specs.Clauses.{listStart, listCount, listed, pagesOnce, enteredOnce, swapPage, waitingIn, waitingGood, numbersGood, framesGood};
-ghost use Rattle.validate.specs.Known.{Counted, Framed};
+ghost use Rattle.validate.specs.Clauses.{listStart, listCount, listNumbers, listed, pagesOnce, enteredOnce, swapPage, waitingIn, waitingGood, usedUpWiped, behindWiped, placesGood, numbersGood, framesGood};
+ghost use Rattle.validate.specs.Known.{Counted, Paged, Framed};
 ghost use Rattle.validate.specs.Masks.{pastMasks};
 
 // How many masks there are: twice a message's words.
@@ -179,6 +183,34 @@ fn entered_once(m: &[u32]) -> bool
     frames_once(m, ENTERED_LIST, SWAP_LIST, LINE)
 }
 
+// Each frame or swap page of list l is 0.
+fn list_wiped(m: &[u32], l: u32) -> bool
+    requires { ⌜ Paged (now m) l ⌝ }
+    ensures { λ t. ⌜ all (frameWiped (now (m .entry))) (listNumbers (now (m .entry)) l) ≡ t ⌝ }
+{
+    let at = list_at(l);
+    let count = list_count(m, l) as usize;
+    let mut i: usize = 0;
+    while i < count {
+        if !zeros(m, page_at(m[at + i]), FRAME_STRIDE) {
+            return false;
+        }
+        i += 1;
+    }
+    true
+}
+
+// "a word or kept length other than 0 that is no part of a waiting message" is in none that no buffer holds.
+fn idle_wiped(m: &[u32]) -> bool
+    requires { ⌜ ((l : ℕ) → 1 ≤ l → l < 11 → Paged (now m) l) ⌝ }
+    ensures { λ t. ⌜ idleAreWiped (now (m .entry)) ≡ t ⌝ }
+{
+    if !list_wiped(m, FREE_LIST) {
+        return false;
+    }
+    list_wiped(m, SWAP_LIST)
+}
+
 // Masks: eight that leave nothing of a word, then eight that leave all of it. The eight from WORDS - len on hide the first len words of a message.
 fn past_masks() -> [u32; MASKS]
     ensures { λ r. ⌜ r ≡ pastMasks ⌝ }
@@ -284,15 +316,59 @@ fn waiting_good(m: &[u32], g: u32, masks: &[u32; MASKS]) -> bool
     true
 }
 
-// Of those in all buffers.
-fn waitings_good(m: &[u32]) -> bool
+// "a word or kept length other than 0 that is no part of a waiting message" is in none of the used-up places of the buffer of group g: the first of
+// its first page.
+fn used_up_wiped(m: &[u32], g: u32) -> bool
+    requires { ⌜ Framed (now m) g ⌝ }
+    ensures { λ t. ⌜ usedUpWiped (now (m .entry)) g ≡ t ⌝ }
+{
+    let used = group_word(m, g, USED);
+    if used == 0 {
+        return true;
+    }
+    let f = group_word(m, g, LIST);
+    zeros(m, page_at(f), PLACE_STRIDE * (used as usize))
+}
+
+// Nor in those behind its last message: the last of its last page.
+fn behind_wiped(m: &[u32], g: u32) -> bool
+    requires { ⌜ Framed (now m) g ⌝ }
+    ensures { λ t. ⌜ behindWiped (now (m .entry)) g ≡ t ⌝ }
+{
+    let end = group_word(m, g, USED) + group_word(m, g, COUNT);
+    let place = end % Node::PER_FRAME;
+    if place == 0 {
+        return true;
+    }
+    let f = group_word(m, g, LIST + (end / Node::PER_FRAME) as usize);
+    let left = Node::PER_FRAME - place;
+    zeros(m, place_at(f, place), PLACE_STRIDE * (left as usize))
+}
+
+// All places of the buffer of group g: where a message waits, and where none does.
+fn places_good(m: &[u32], g: u32, masks: &[u32; MASKS]) -> bool
+    requires { ⌜ Framed (now m) g ⌝ }
+    requires { ⌜ now masks ≡ pastMasks ⌝ }
+    ensures { λ t. ⌜ placesGood (now (m .entry)) g ≡ t ⌝ }
+{
+    if !waiting_good(m, g, masks) {
+        return false;
+    }
+    if !used_up_wiped(m, g) {
+        return false;
+    }
+    behind_wiped(m, g)
+}
+
+// Those of all buffers.
+fn all_places_good(m: &[u32]) -> bool
     requires { ⌜ ((g : ℕ) → 1 ≤ g → g ≤ groupCount → Framed (now m) g) ⌝ }
-    ensures { λ t. ⌜ all (waitingGood (now (m .entry))) (upFrom 1 groupCount) ≡ t ⌝ }
+    ensures { λ t. ⌜ all (placesGood (now (m .entry))) (upFrom 1 groupCount) ≡ t ⌝ }
 {
     let masks = past_masks();
     let mut g: u32 = 1;
     while g <= Node::GROUPS {
-        if !waiting_good(m, g, &masks) {
+        if !places_good(m, g, &masks) {
             return false;
         }
         g += 1;
@@ -300,7 +376,7 @@ fn waitings_good(m: &[u32]) -> bool
     true
 }
 
-// The clauses on the frames and swap pages and on what waits in them.
+// The clauses on the frames and swap pages and on what is in them.
 pub fn frames_good(m: &[u32]) -> bool
     requires { ⌜ Counted (now m) ⌝ }
     requires { ⌜ numbersGood (now m) ≡ true ⌝ }
@@ -321,5 +397,8 @@ pub fn frames_good(m: &[u32]) -> bool
     if !entered_once(m) {
         return false;
     }
-    waitings_good(m)
+    if !idle_wiped(m) {
+        return false;
+    }
+    all_places_good(m)
 }

@@ -14,23 +14,23 @@ use crate::words::unused_are_zero;
 use memory::Node;
 use memory::map::SIZE;
 ghost use mathlib.Core.Path.{_≡_};
-ghost use mathlib.Core.Bool.{true};
+ghost use mathlib.Core.Bool.{true, _&&_};
 ghost use Rattle.rules.specs.Lists.{all, upFrom};
 ghost use Rattle.rules.specs.Build.{paper01, groupCount};
 ghost use Rattle.rules.specs.Memory.{nodeAt};
 ghost use Rattle.rules.specs.Valid.{isNode};
-ghost use Rattle.rules.specs.MemoryTest.{isMemory};
+ghost use Rattle.rules.specs.MemoryTest.{idleAreWiped, isMemory};
 ghost use Rattle.validate.specs.Clauses.{flagsAtomic};
 ghost use Rattle.validate.specs.Known.{Counted};
 
 // Frames and swap pages together.
 const PAGE_COUNT: u32 = Node::FRAMES + Node::SWAP;
 
-// The words hold a node.
+// The words hold a node, and the pages that no buffer holds are 0.
 fn holds_node(m: &[u32]) -> bool
     requires { ⌜ Counted (now m) ⌝ }
     requires { ⌜ all (flagsAtomic (now m)) (upFrom 1 groupCount) ≡ true ⌝ }
-    ensures { λ t. ⌜ isNode paper01 (nodeAt (now (m .entry))) ≡ t ⌝ }
+    ensures { λ t. ⌜ idleAreWiped (now (m .entry)) && isNode paper01 (nodeAt (now (m .entry))) ≡ t ⌝ }
 {
     if !numbers_good(m) {
         return false;

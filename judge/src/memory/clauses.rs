@@ -19,8 +19,10 @@ type Clause = (&'static str, fn(&Words) -> Vec<usize>);
 
 /// "Memory is a node when": the sentence clause by clause, in its order, and the orders' clauses each
 /// behind the one that it is like, the first page's last. Lengths come before the clauses that see to
-/// it that all waiting messages are found; a message that is not found breaks one of these.
-const CLAUSES: [Clause; 28] = [
+/// it that all waiting messages are found; a message that is not found breaks one of these. What "is
+/// no part of a waiting message" is asked about by where it can stand: once the lists are in order, a
+/// place without one is of a free page, or before or behind the messages of a buffer.
+const CLAUSES: [Clause; 32] = [
     ("running is 0 to 8", running_in_bounds),
     ("counts are within the bounds", counts_in_bounds),
     ("groups are within the bounds", groups_in_bounds),
@@ -48,6 +50,10 @@ const CLAUSES: [Clause; 28] = [
         "a waiting message's words past its length are 0",
         message_rest_zero,
     ),
+    ("free frames are 0", free_frames_zero),
+    ("free swap pages are 0", free_swap_pages_zero),
+    ("used-up places are 0", used_up_zero),
+    ("places behind the last message are 0", unwritten_zero),
     ("pledges sum to at most 96", pledges_fit),
     ("h is 0 where n is 0", empty_buffer_unused),
     (
@@ -126,9 +132,14 @@ pub fn test(memory: &[u32]) -> Result<Words<'_>, Fault> {
     Ok(words)
 }
 
+/// Why the memory is no node; none where it is one.
+pub fn fault(memory: &[u32]) -> Option<Fault> {
+    test(memory).err()
+}
+
 /// The clause by which the memory is no node, in the paper's words.
 pub fn broken_clause(memory: &[u32]) -> Option<&'static str> {
-    test(memory).err().map(|fault| fault.clause())
+    fault(memory).map(|fault| fault.clause())
 }
 
 fn running_in_bounds(words: &Words) -> Vec<usize> {
@@ -232,7 +243,7 @@ fn once_each(
 fn lists_rounded_up(words: &Words) -> Vec<usize> {
     first_group(|group| {
         let record = words.group(group);
-        let pages = pages_for(record.used_up() + record.messages());
+        let pages = pages_for(record.end());
         let broken = pages != record.list_count() as u64;
         broken.then_some([USED_UP, MESSAGES, LIST_COUNT])
     })
@@ -269,6 +280,22 @@ fn descriptor_rest_zero(words: &Words) -> Vec<usize> {
 
 fn message_rest_zero(words: &Words) -> Vec<usize> {
     outside(words, 0..=0, words.message_rest())
+}
+
+fn free_frames_zero(words: &Words) -> Vec<usize> {
+    outside(words, 0..=0, words.free_frames())
+}
+
+fn free_swap_pages_zero(words: &Words) -> Vec<usize> {
+    outside(words, 0..=0, words.free_swap_pages())
+}
+
+fn used_up_zero(words: &Words) -> Vec<usize> {
+    outside(words, 0..=0, words.used_up_places())
+}
+
+fn unwritten_zero(words: &Words) -> Vec<usize> {
+    outside(words, 0..=0, words.unwritten_places())
 }
 
 /// Broken by all that is counted in a pledge.

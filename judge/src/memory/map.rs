@@ -191,17 +191,22 @@ impl<'a> Words<'a> {
         &self.0[at..][..PLACE_WORDS]
     }
 
-    /// Where the messages of a group's buffer are kept: place p of the buffer is "place p mod 8 of
-    /// the list's page number p / 8".
-    pub fn buffered(&self, group: usize) -> impl Iterator<Item = usize> + 'a {
-        let record = self.group(group);
-        let room = (record.list_count() * PAGE_PLACES) as u64;
-        let end = room.min(record.used_up() + record.messages());
-        (record.used_up()..end).filter_map(move |at| {
+    /// Where these places of a group's buffer begin: place p of the buffer is "place p mod 8 of the
+    /// list's page number p / 8".
+    pub fn places(&self, group: usize, places: Range<u64>) -> impl Iterator<Item = usize> + 'a {
+        let list = self.group(group).list();
+        let room = (list.len() * PAGE_PLACES) as u64;
+        (places.start..places.end.min(room)).filter_map(move |at| {
             let (number, place) = part(at as usize, PAGE_PLACES);
-            let page = record.list()[number] as usize;
+            let page = list[number] as usize;
             (page < PAGES).then(|| place_at(page, place))
         })
+    }
+
+    /// Where the messages of a group's buffer are kept.
+    pub fn buffered(&self, group: usize) -> impl Iterator<Item = usize> + 'a {
+        let record = self.group(group);
+        self.places(group, record.used_up()..record.end())
     }
 
     /// Where the messages of a group's line are kept.
@@ -275,6 +280,48 @@ impl<'a> Words<'a> {
         })
     }
 
+    /// The words of the frames that no list has.
+    pub fn free_frames(&self) -> impl Iterator<Item = usize> {
+        self.unlisted(0..FRAMES)
+    }
+
+    /// The words of the swap pages that no list has.
+    pub fn free_swap_pages(&self) -> impl Iterator<Item = usize> {
+        self.unlisted(FRAMES..PAGES)
+    }
+
+    fn unlisted(&self, pages: Range<usize>) -> impl Iterator<Item = usize> {
+        let mut listed = [false; PAGES];
+        for at in self.listed() {
+            if let Some(listed) = listed.get_mut(self.0[at] as usize) {
+                *listed = true;
+            }
+        }
+        let pages = pages.filter(move |&page| !listed[page]);
+        pages.flat_map(|page| place_at(page, 0)..place_at(page + 1, 0))
+    }
+
+    /// The words of the buffers' used-up places.
+    pub fn used_up_places(&self) -> impl Iterator<Item = usize> + 'a {
+        self.place_words(|record| 0..record.used_up())
+    }
+
+    /// The words of the buffers' places behind the last message.
+    pub fn unwritten_places(&self) -> impl Iterator<Item = usize> + 'a {
+        self.place_words(|record| record.end()..u64::MAX)
+    }
+
+    /// The words of some places of each group's buffer.
+    fn place_words(
+        &self,
+        places: fn(Record<'a>) -> Range<u64>,
+    ) -> impl Iterator<Item = usize> + 'a {
+        let words = *self;
+        (1..=GROUPS)
+            .flat_map(move |group| words.places(group, places(words.group(group))))
+            .flat_map(|at| at..at + PLACE_WORDS)
+    }
+
     /// A part of each group's record, which begins at the address that is handed on.
     fn each_group(
         &self,
@@ -291,7 +338,7 @@ impl<'a> Words<'a> {
     pub fn pledge(&self, group: usize) -> u64 {
         let record = self.group(group);
         let queued = self.queued_of(group).count();
-        pages_for(record.used_up() + record.messages() + queued as u64)
+        pages_for(record.end() + queued as u64)
     }
 }
 
@@ -322,6 +369,11 @@ impl<'a> Record<'a> {
 
     pub fn messages(&self) -> u64 {
         self.0[MESSAGES].into()
+    }
+
+    /// The place of the buffer behind the last message: h + n.
+    pub fn end(&self) -> u64 {
+        self.used_up() + self.messages()
     }
 
     /// The used places of the list.

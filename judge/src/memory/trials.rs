@@ -2,6 +2,8 @@
 //! changed, and memories of any length. Whether a changed one is still a node is for the memory
 //! test to say.
 
+use std::ops::Range;
+
 use super::map::{
     group_at, place_at, queued_at, Words, ATOMIC, BROUGHT_IN, DESCRIPTOR_COUNT, ENTRY_AT,
     ENTRY_COUNT, FORCE, FREE_AT, FREE_COUNT, LIST_AT, LIST_COUNT, MESSAGES, PAGES_AT, PENDING,
@@ -111,7 +113,7 @@ pub struct Change {
     make: fn(&mut [u32], &mut Random),
 }
 
-pub static CHANGES: [Change; 25] = [
+pub static CHANGES: [Change; 28] = [
     Change {
         name: "the running group",
         make: |memory, random| change(memory, random, RUNNING, GROUPS),
@@ -189,7 +191,10 @@ pub static CHANGES: [Change; 25] = [
             let words = words(memory);
             let lines = words.free_line().chain(words.swap_line());
             let standing = lines.chain(words.listed()).collect();
-            exchange(memory, random, standing);
+            let numbers = exchange(memory, random, standing);
+            if random.one_in(2) {
+                exchange_places(memory, numbers);
+            }
         },
     },
     Change {
@@ -201,8 +206,20 @@ pub static CHANGES: [Change; 25] = [
         make: change_unused,
     },
     Change {
-        name: "places without a waiting message",
-        make: change_unread,
+        name: "a stray word in a free frame",
+        make: |memory, random| stray(memory, random, |words| words.free_frames().collect()),
+    },
+    Change {
+        name: "a stray word in a free swap page",
+        make: |memory, random| stray(memory, random, |words| words.free_swap_pages().collect()),
+    },
+    Change {
+        name: "a stray word in a used-up place",
+        make: |memory, random| stray(memory, random, |words| words.used_up_places().collect()),
+    },
+    Change {
+        name: "a stray word behind the last message",
+        make: |memory, random| stray(memory, random, |words| words.unwritten_places().collect()),
     },
     Change {
         name: "a message in the queue",
@@ -252,9 +269,16 @@ fn change_count(memory: &mut [u32], random: &mut Random) {
     change(memory, random, at, most);
 }
 
+/// As often as not n changes the other way, so that the messages end where they did.
 fn change_used_up(memory: &mut [u32], random: &mut Random) {
-    let record = group_at(a_buffered(memory, random));
+    let group = a_buffered(memory, random);
+    let record = group_at(group);
+    let end = words(memory).group(group).end() as u32;
     change(memory, random, record + USED_UP, PAGE_PLACES - 1);
+    if random.one_in(2) {
+        memory[record + MESSAGES] = end.wrapping_sub(memory[record + USED_UP]);
+    }
+    often_fit(memory, random, group);
 }
 
 /// To an edge, or to about what the list has room for, so that h + n is small only in 32 bits.
@@ -265,12 +289,38 @@ fn change_messages(memory: &mut [u32], random: &mut Random) {
         memory[group_at(group) + USED_UP],
     );
     let places = words(memory).group(group).list_count() * PAGE_PLACES;
-    let sum = match random.between(1, 5) {
-        1 => below(random, places + 2),
-        2 => below(random, used_up.max(1) as usize),
-        _ => return change(memory, random, at, places),
-    };
-    memory[at] = (sum as u32).wrapping_sub(used_up);
+    if random.one_in(3) {
+        let sums = random.pick(&[places + 2, used_up.max(1) as usize]);
+        memory[at] = (below(random, sums) as u32).wrapping_sub(used_up);
+    } else {
+        change(memory, random, at, places);
+    }
+    often_fit(memory, random, group);
+}
+
+/// More often than not, what stands in a buffer's places fits h and n, their sum taken in 32 bits.
+fn often_fit(memory: &mut [u32], random: &mut Random, group: usize) {
+    if !random.one_in(4) {
+        let record = words(memory).group(group);
+        let (used_up, end) = (record.used_up(), record.end() as u32);
+        fit(memory, random, group, used_up..used_up.max(end.into()));
+    }
+}
+
+/// A message in each of these places of a group's buffer, and 0 in all others.
+fn fit(memory: &mut [u32], random: &mut Random, group: usize, waiting: Range<u64>) {
+    let words = words(memory);
+    let before = words.places(group, 0..waiting.start);
+    let behind = words.places(group, waiting.end..u64::MAX);
+    let wiped: Vec<usize> = before.chain(behind).collect();
+    let waiting = words.places(group, waiting);
+    let unwritten: Vec<usize> = waiting.filter(|&at| memory[at] == 0).collect();
+    for at in wiped {
+        memory[at..][..PLACE_WORDS].fill(0);
+    }
+    for at in unwritten {
+        forge(memory, random, at);
+    }
 }
 
 /// A buffer of one page that holds no message has its rounded-up length all the same.
@@ -278,9 +328,10 @@ fn use_up_all(memory: &mut [u32], random: &mut Random) {
     let of_one_page = (1..=GROUPS).filter(|&group| words(memory).group(group).list_count() == 1);
     let of_one_page = of_one_page.collect();
     let any = 1 + below(random, GROUPS);
-    let record = group_at(one_of(random, of_one_page, any));
-    memory[record + USED_UP] = random.between(1, PAGE_PLACES as u64 - 1) as u32;
-    memory[record + MESSAGES] = 0;
+    let group = one_of(random, of_one_page, any);
+    memory[group_at(group) + USED_UP] = random.between(1, PAGE_PLACES as u64 - 1) as u32;
+    memory[group_at(group) + MESSAGES] = 0;
+    fit(memory, random, group, 0..0);
 }
 
 fn change_flag(memory: &mut [u32], random: &mut Random) {
@@ -343,11 +394,22 @@ fn change_paging(memory: &mut [u32], random: &mut Random) {
     }
 }
 
-/// Two of the numbers at these addresses change places.
-fn exchange(memory: &mut [u32], random: &mut Random, standing: Vec<usize>) {
+/// Two of the numbers at these addresses change places; returns where they stand.
+fn exchange(memory: &mut [u32], random: &mut Random, standing: Vec<usize>) -> [usize; 2] {
     let one = one_of(random, standing.clone(), FREE_AT);
     let other = one_of(random, standing, FREE_AT);
     memory.swap(one, other);
+    [one, other]
+}
+
+/// What the pages of these two numbers keep changes places.
+fn exchange_places(memory: &mut [u32], numbers: [usize; 2]) {
+    let [one, other] = numbers.map(|at| memory[at] as usize);
+    if one < PAGES && other < PAGES {
+        for word in 0..PAGE_PLACES * PLACE_WORDS {
+            memory.swap(place_at(one, 0) + word, place_at(other, 0) + word);
+        }
+    }
 }
 
 /// A group's first page, often the runner's, with a page that is out.
@@ -357,6 +419,7 @@ fn exchange_first(memory: &mut [u32], random: &mut Random) {
     let out = listed.filter(|&at| memory[at] as usize >= FRAMES).collect();
     let other = one_of(random, out, first);
     memory.swap(first, other);
+    exchange_places(memory, [first, other]);
 }
 
 /// What is asked to be 0.
@@ -375,13 +438,15 @@ fn change_unused(memory: &mut [u32], random: &mut Random) {
     change(memory, random, at, 1);
 }
 
-/// What a page keeps where no message waits may be anything.
-fn change_unread(memory: &mut [u32], random: &mut Random) {
-    let waiting: Vec<usize> = words(memory).waiting().collect();
-    let places = (PAGES_AT..SWAP_COUNT).step_by(PLACE_WORDS);
-    let unread: Vec<usize> = places.filter(|at| !waiting.contains(at)).collect();
-    if !unread.is_empty() {
-        let at = random.pick(&unread) + below(random, PLACE_WORDS);
+/// A kept length, or as often a word, of a place that is to be 0, if there is one. The places are
+/// handed over by their words.
+fn stray(memory: &mut [u32], random: &mut Random, wiped: fn(&Words) -> Vec<usize>) {
+    let wiped = wiped(&words(memory));
+    let places: Vec<&[usize]> = wiped.chunks_exact(PLACE_WORDS).collect();
+    if !places.is_empty() {
+        let (length, words) = random.pick(&places).split_at(1);
+        let part = random.pick(&[length, words]);
+        let at = random.pick(part);
         change(memory, random, at, MESSAGE_WORDS);
     }
 }

@@ -1,16 +1,10 @@
 //! Order 2, sentence by sentence: what B's field is, when the timer counts, and what a timeout leaves.
 
-use judge::memory;
 use judge::node::Node;
 
-use crate::support::{listing, memory_after, Case, ACCEPTED};
+use crate::support::{after, listing, Case, ACCEPTED};
 
 const UNREADABLE: &str = "2,0,0,0,0";
-
-/// The node after lines that are all accepted, parted by blanks.
-fn after(lines: &str) -> Node {
-    memory::read(&memory_after(lines)).expect("a node")
-}
 
 /// A group's flags force and revoked.
 fn flags(node: &Node, group: usize) -> (bool, bool) {

@@ -92,7 +92,11 @@ fn each_flavour_meets_what_it_is_for() {
         ),
         ("bad", "answer 2"),
         ("hogs", "answer 10, trap 3"),
-        ("disposals", "answer 8, answer 9, trap 1, trap 2"),
+        (
+            "disposals",
+            "answer 8, answer 9, trap 1, trap 2, places used up in a page that stays, pages used up \
+             with messages left, buffers emptied",
+        ),
         ("launches", "answer 11, answer 12, answer 13"),
         (
             "mixed",
@@ -112,11 +116,12 @@ fn each_flavour_meets_what_it_is_for() {
 #[test]
 fn nothing_met_is_all_missing() {
     let missing = Counts::default().missing();
-    assert_eq!(missing.len(), 14 + 4 + 5 + 7);
+    assert_eq!(missing.len(), 14 + 4 + 3 + 5 + 7);
     assert_eq!(missing[0], "answer 2");
     assert_eq!(missing[17], "trap 3");
-    assert_eq!(missing[18], "pages sent out");
-    assert_eq!(missing[23], "timeouts with an empty queue");
+    assert_eq!(missing[18], "places used up in a page that stays");
+    assert_eq!(missing[21], "pages sent out");
+    assert_eq!(missing[26], "timeouts with an empty queue");
 }
 
 #[test]

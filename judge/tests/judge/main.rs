@@ -13,3 +13,4 @@ mod state;
 mod support;
 mod swap;
 mod trials;
+mod wiped;

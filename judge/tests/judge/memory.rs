@@ -53,15 +53,12 @@ fn busy() -> Vec<u32> {
     )
 }
 
-/// The same with a length in all places of the pages, as if each had held a message once: whatever
-/// h, n and the lists are changed to, the lengths that they lead to are within the bounds.
-fn busy_and_used() -> Vec<u32> {
-    let mut memory = busy();
-    for place in (10..768).map(|place| page(place / 8, place % 8)) {
-        memory[place] = 1;
+/// A message of one word, 0, in each place of a page that has none: whatever else is changed, a length
+/// that is read there is within the bounds.
+fn fill(memory: &mut [u32], number: usize) {
+    for place in (0..8).map(|place| page(number, place)) {
+        memory[place] = memory[place].max(1);
     }
-    assert_eq!(broken_clause(&memory), None);
-    memory
 }
 
 /// A number at the end of a line that stands behind its count.
@@ -125,8 +122,6 @@ fn each_number_stands_where_the_map_says() {
     put(record(1), &[1, 1, 0, 0, 0, 0, 0, 2, 9, 8]);
     put(record(3), &[1, 0, 0, 0, 2, 8, 2, 0]);
     put(record(3) + LIST, &[0, 1]);
-    put(page(0, 0), &[2, 10, 11]);
-    put(page(0, 1), &[2, 20, 21]);
     put(page(0, 2), &[2, 30, 31]);
     for place in 3..10 {
         put(page(place / 8, place % 8), &[1, 10 * (place as u32 + 1)]);
@@ -173,18 +168,13 @@ fn pages_in_swap_stand_where_the_map_says() {
 }
 
 #[test]
-fn freed_words_and_kept_lengths_stay() {
-    let memory = memory_after("A,1,7,8,9 S,1 D");
-    assert_eq!(memory[page(0, 0)..][..9], [3, 7, 8, 9, 0, 0, 0, 0, 0]);
+fn a_message_disposed_of_leaves_0() {
+    let memory = memory_after("A,1,7,8,9 A,1,4 S,1 D");
+    assert_eq!(memory[page(0, 0)..][..9], [0; 9]);
+    assert_eq!(memory[page(0, 1)..][..9], [1, 4, 0, 0, 0, 0, 0, 0, 0]);
+    let memory = memory_after("A,1,7,8,9 A,1,4 S,1 D D");
+    assert!(memory[page(0, 0)..SWAP_COUNT].iter().all(|&word| word == 0));
     assert_eq!(memory[record(1)..][..8], [1, 0, 0, 0, 0, 0, 0, 0]);
-}
-
-#[test]
-fn a_written_message_clears_the_words_past_its_length() {
-    let script = format!("A,1,7,8,9 S,1 D N S,0 {}", "A,2,1 ".repeat(249));
-    let memory = memory_after(&script);
-    assert_eq!(memory[record(2) + LIST + 31], 0);
-    assert_eq!(memory[page(0, 0)..][..9], [1, 1, 0, 0, 0, 0, 0, 0, 0]);
 }
 
 #[test]
@@ -223,7 +213,16 @@ fn empty_queue(m: &mut [u32]) {
     m[record(1) + PENDING] = 0;
 }
 
-/// A change to the words of the busy and used node that breaks a clause.
+/// Group 3 has its messages in three pages, the last the last of the swap line; its number stands there
+/// still.
+fn unused_swap(m: &mut [u32]) {
+    let taken = take_last_swap(m, 3);
+    m[record(3) + MESSAGES] = 22;
+    m[SWAP + 63] = taken as u32;
+    [1, taken].into_iter().for_each(|page| fill(m, page));
+}
+
+/// A change to the words of the busy node that breaks a clause.
 type Break = (&'static str, fn(&mut Vec<u32>));
 
 const BREAKS: &[Break] = &[
@@ -244,12 +243,21 @@ const BREAKS: &[Break] = &[
     }),
     ("groups are within the bounds", |m| m[queue(1)] = 0),
     ("groups are within the bounds", |m| m[queue(2)] = 9),
-    ("h is within the bounds", |m| m[record(3) + USED_UP] = 8),
+    ("h is within the bounds", |m| {
+        m[record(3) + USED_UP..][..2].copy_from_slice(&[8, 2]);
+        m[page(0, 0)..page(1, 0)].fill(0);
+    }),
     ("timer is within the bounds", |m| m[TIMER] = 256),
     ("each frame stands once", |m| m[FREE] = 3),
     ("each frame stands once", |m| m[FREE] = 32),
-    ("each frame stands once", |m| m[record(3) + LIST + 1] = 31),
-    ("each frame stands once", |m| m[record(3) + LIST] = 1),
+    ("each frame stands once", |m| {
+        m[record(3) + LIST + 1] = 31;
+        fill(m, 31);
+    }),
+    ("each frame stands once", |m| {
+        m[record(3) + LIST] = 1;
+        fill(m, 1);
+    }),
     ("each frame stands once", |m| {
         m[FREE_COUNT] = 29;
         m[FREE + 29] = 0;
@@ -288,13 +296,16 @@ const BREAKS: &[Break] = &[
         take_last_swap(m, 3);
     }),
     ("each list has its rounded-up length", |m| {
-        m[record(3) + MESSAGES] = 15
+        m[record(3) + MESSAGES] = 15;
+        fill(m, 1);
     }),
     ("each list has its rounded-up length", |m| {
-        m[record(3) + MESSAGES] = 6
+        m[record(3) + MESSAGES] = 6;
+        m[page(1, 0)..page(2, 0)].fill(0);
     }),
     ("each list has its rounded-up length", |m| {
-        m[record(3) + MESSAGES] = u32::MAX
+        m[record(3) + MESSAGES] = u32::MAX;
+        fill(m, 1);
     }),
     ("waiting messages' lengths are within the bounds", |m| {
         m[queue(0) + 1] = 0
@@ -317,11 +328,7 @@ const BREAKS: &[Break] = &[
     ("unused places of the queue are 0", |m| m[queue(15) + 9] = 1),
     ("unused places of the free line are 0", |m| m[FREE + 30] = 1),
     ("unused places of the free line are 0", |m| m[FREE + 31] = 1),
-    ("unused places of the swap line are 0", |m| {
-        take_last_swap(m, 3);
-        m[record(3) + MESSAGES] = 15;
-        m[SWAP + 63] = 95;
-    }),
+    ("unused places of the swap line are 0", |m| unused_swap(m)),
     ("unused places of the order of entry are 0", |m| {
         m[ENTRY + 2] = 1
     }),
@@ -348,6 +355,18 @@ const BREAKS: &[Break] = &[
     }),
     ("a waiting message's words past its length are 0", |m| {
         m[page(1, 1) + 8] = 1
+    }),
+    ("free frames are 0", |m| m[page(2, 0)] = 1),
+    ("free frames are 0", |m| m[page(31, 7) + 8] = 1),
+    ("free swap pages are 0", |m| m[page(32, 0)] = 1),
+    ("free swap pages are 0", |m| m[page(95, 7) + 8] = 1),
+    ("used-up places are 0", |m| m[page(0, 0)] = 1),
+    ("used-up places are 0", |m| m[page(0, 1) + 8] = 1),
+    ("places behind the last message are 0", |m| {
+        m[page(1, 2)] = 1
+    }),
+    ("places behind the last message are 0", |m| {
+        m[page(1, 7) + 8] = 1
     }),
     ("h is 0 where n is 0", |m| {
         take_last_free(m, 5);
@@ -412,7 +431,7 @@ const BREAKS: &[Break] = &[
 #[test]
 fn each_clause_broken_is_answered_1_and_memory_untouched() {
     for (clause, change) in BREAKS {
-        let mut memory = busy_and_used();
+        let mut memory = busy();
         change(&mut memory);
         expect_no_node(&memory, clause);
     }
@@ -426,10 +445,11 @@ const SENTENCE: &str = "running is 0 to 8; counts are within the bounds; groups 
     holds each frame in use once; each list has its rounded-up length; flags are 0 or 1; unused \
     places of the queue are 0; unused places of the free line are 0; unused places of the swap \
     line are 0; unused places of the order of entry are 0; unused places of the lists are 0; \
-    unused descriptor words are 0; a waiting message's words past its length are 0; pledges sum \
-    to at most 96; h is 0 where n is 0; pending only with atomic and a line not empty; force \
-    stands only with atomic; revoked stands only with atomic; a running group with a line not \
-    empty is atomic; the queue's head is the running group's; the group of the queue's head is \
+    unused descriptor words are 0; a waiting message's words past its length are 0; free frames \
+    are 0; free swap pages are 0; used-up places are 0; places behind the last message are 0; \
+    pledges sum to at most 96; h is 0 where n is 0; pending only with atomic and a line not empty; \
+    force stands only with atomic; revoked stands only with atomic; a running group with a line \
+    not empty is atomic; the queue's head is the running group's; the group of the queue's head is \
     direct; an empty queue has a timer above 0 only where the running group has force on; a \
     running group's first page is in a frame";
 
@@ -441,10 +461,11 @@ fn clauses_stand_in_the_papers_order() {
 /// Changes from the paper's last clause to its first, each told although all before it stand.
 #[test]
 fn of_broken_clauses_the_papers_first_is_told() {
-    let later_and_later: [Break; 23] = [
+    let later_and_later: [Break; 27] = [
         ("the group of the queue's head is direct", |m| {
-            take_last_free(m, 1);
+            let taken = take_last_free(m, 1);
             m[record(1) + MESSAGES] = 1;
+            m[page(taken, 0)] = 1;
         }),
         ("the queue's head is the running group's", |m| {
             m[RUNNING] = 3
@@ -465,6 +486,12 @@ fn of_broken_clauses_the_papers_first_is_told() {
             take_last_free(m, 5);
             m[record(5) + USED_UP] = 1;
         }),
+        ("places behind the last message are 0", |m| {
+            m[page(1, 2)] = 1
+        }),
+        ("used-up places are 0", |m| m[page(0, 0)] = 1),
+        ("free swap pages are 0", |m| m[page(32, 0)] = 1),
+        ("free frames are 0", |m| m[page(2, 0)] = 1),
         ("a waiting message's words past its length are 0", |m| {
             m[page(1, 1) + 8] = 1
         }),
@@ -477,11 +504,7 @@ fn of_broken_clauses_the_papers_first_is_told() {
         ("unused places of the order of entry are 0", |m| {
             m[ENTRY + 31] = 1
         }),
-        ("unused places of the swap line are 0", |m| {
-            take_last_swap(m, 3);
-            m[record(3) + MESSAGES] = 15;
-            m[SWAP + 63] = 95;
-        }),
+        ("unused places of the swap line are 0", |m| unused_swap(m)),
         ("unused places of the free line are 0", |m| m[FREE + 31] = 1),
         ("unused places of the queue are 0", |m| m[queue(3)] = 1),
         ("flags are 0 or 1", |m| m[record(8) + ATOMIC] = 2),
@@ -500,7 +523,7 @@ fn of_broken_clauses_the_papers_first_is_told() {
         }),
         ("groups are within the bounds", |m| m[queue(1)] = 0),
     ];
-    let mut memory = busy_and_used();
+    let mut memory = busy();
     for (clause, change) in later_and_later {
         change(&mut memory);
         assert_eq!(broken_clause(&memory), Some(clause));
@@ -515,11 +538,11 @@ fn of_broken_clauses_the_papers_first_is_told() {
 #[test]
 fn a_broken_clause_is_told_with_addresses_and_values() {
     let told = |change: fn(&mut Vec<u32>)| {
-        let mut memory = busy_and_used();
+        let mut memory = busy();
         change(&mut memory);
         memory::read(&memory).expect_err("no node").to_string()
     };
-    let cases: [Break; 20] = [
+    let cases: [Break; 24] = [
         ("running is 0 to 8\n  word 0, the running group: 9", |m| {
             m[RUNNING] = 9
         }),
@@ -539,7 +562,10 @@ fn a_broken_clause_is_told_with_addresses_and_values() {
         (
             "each frame stands once\n  word 436, place 0 of the list of group 3: 1\n  word 437, \
              place 1 of the list of group 3: 1",
-            |m| m[record(3) + LIST] = 1,
+            |m| {
+                m[record(3) + LIST] = 1;
+                fill(m, 1);
+            },
         ),
         (
             "each frame stands once\n  word 164, place 0 of the free line: 32",
@@ -580,15 +606,17 @@ fn a_broken_clause_is_told_with_addresses_and_values() {
             "waiting messages' lengths are within the bounds\n  word 7932, length at place 0 of \
              swap page 63: 9",
             |m| {
-                take_last_swap(m, 3);
-                m[record(3) + MESSAGES] = 15;
+                unused_swap(m);
                 m[page(95, 0)] = 9;
             },
         ),
         (
             "each list has its rounded-up length\n  word 424, h of group 3: 2\n  word 425, n of \
              group 3: 15\n  word 426, pages in the list of group 3: 2",
-            |m| m[record(3) + MESSAGES] = 15,
+            |m| {
+                m[record(3) + MESSAGES] = 15;
+                fill(m, 1);
+            },
         ),
         (
             "unused descriptor words are 0\n  word 206, descriptor word 2 of group 1: 1",
@@ -624,6 +652,22 @@ fn a_broken_clause_is_told_with_addresses_and_values() {
             "a waiting message's words past its length are 0\n  word 7, word 1 at place 0 of the \
              hardware queue: 1",
             |m| m[queue(0) + 3] = 1,
+        ),
+        (
+            "free frames are 0\n  word 1236, length at place 0 of frame 2: 7",
+            |m| m[page(2, 0)] = 7,
+        ),
+        (
+            "free swap pages are 0\n  word 8003, word 7 at place 7 of swap page 63: 7",
+            |m| m[page(95, 7) + 8] = 7,
+        ),
+        (
+            "used-up places are 0\n  word 1101, length at place 1 of frame 0: 7",
+            |m| m[page(0, 1)] = 7,
+        ),
+        (
+            "places behind the last message are 0\n  word 1183, word 0 at place 2 of frame 1: 7",
+            |m| m[page(1, 2) + 1] = 7,
         ),
     ];
     for (expected, change) in cases {
@@ -737,20 +781,48 @@ fn memory_past_the_nodes_size_is_neither_looked_at_nor_touched() {
     }
 }
 
-#[test]
-fn an_unread_place_of_a_page_may_hold_anything() {
-    let mut memory = busy();
-    let waiting = 2..10;
-    for place in (0..768).filter(|place| !waiting.contains(place)) {
-        memory[page(place / 8, place % 8)..][..9].fill(u32::MAX);
+/// The clause that asks a place of a page to be 0; none where a message waits.
+fn wiped_by(node: &Node, page: usize, place: usize) -> Option<&'static str> {
+    for buffer in node.groups.iter().map(|group| &group.buffer) {
+        let listed = buffer.pages.iter().position(|&listed| listed == page);
+        let Some(place) = listed.map(|number| 8 * number + place) else {
+            continue;
+        };
+        return if place < buffer.used_up {
+            Some("used-up places are 0")
+        } else if place < buffer.used_up + buffer.messages {
+            None
+        } else {
+            Some("places behind the last message are 0")
+        };
     }
-    assert_eq!(broken_clause(&memory), None);
-    let report = step(&mut memory, &Operation::Dispose);
-    assert!(report.accepted());
-    // The message of group 2 settled into frame 2; the place after it was left alone.
-    assert_eq!(memory[page(2, 0)..][..9], [2, 5, 6, 0, 0, 0, 0, 0, 0]);
-    assert_eq!(memory[page(2, 1)..][..9], [u32::MAX; 9]);
-    assert_eq!(memory[page(0, 0)..][..9], [u32::MAX; 9]);
+    Some(match page {
+        0..32 => "free frames are 0",
+        _ => "free swap pages are 0",
+    })
+}
+
+/// Every word, and every kept length: of a node with free frames, and of one with two pages out, the
+/// first with its first place used up, the second with one message.
+#[test]
+fn a_word_where_no_message_waits_is_answered_1() {
+    let out = memory_after("8*A,3,5 A,2,6 S,3 D S,0 249*A,1,7");
+    assert_eq!(out[SWAP_COUNT..][..4], [62, 32, 2, 0]);
+    for mut memory in [busy(), out] {
+        let node = memory::read(&memory).expect("a node");
+        for place in 0..768 {
+            let Some(clause) = wiped_by(&node, place / 8, place % 8) else {
+                continue;
+            };
+            let at = page(place / 8, place % 8);
+            for at in at..at + 9 {
+                memory[at] = 1;
+                assert_eq!(broken_clause(&memory), Some(clause), "word {at}");
+                memory[at] = 0;
+            }
+        }
+        assert_eq!(memory::read(&memory), Ok(node));
+    }
 }
 
 #[test]

@@ -69,9 +69,7 @@ group 1 atomic 1 pending 1 force 0 revoked 0 h 0 n 0 pages descriptor 9 8
 group 4 atomic 0 pending 0 force 0 revoked 0 h 0 n 1 pages f1 descriptor
 group 5 atomic 1 pending 0 force 1 revoked 0 h 0 n 0 pages descriptor
 group 6 atomic 1 pending 0 force 0 revoked 1 h 0 n 0 pages descriptor
-{}f0 place 0 length 2 words 10 11 0 0 0 0 0 0
-f0 place 1 length 1 words 20 0 0 0 0 0 0 0
-f0 place 2 length 1 words 3 0 0 0 0 0 0 0
+{}f0 place 2 length 1 words 3 0 0 0 0 0 0 0
 f0 place 3 length 1 words 4 0 0 0 0 0 0 0
 f0 place 4 length 1 words 5 0 0 0 0 0 0 0
 f0 place 5 length 1 words 6 0 0 0 0 0 0 0
@@ -79,7 +77,6 @@ f0 place 6 length 1 words 7 0 0 0 0 0 0 0
 f0 place 7 length 1 words 8 0 0 0 0 0 0 0
 f1 place 0 length 1 words 4294967295 0 0 0 0 0 0 0
 f2 place 0 length 1 words 9 0 0 0 0 0 0 0
-f3 place 0 length 1 words 1 0 0 0 0 0 0 0
 ",
         numbers(4, 31) + " 3",
         numbers(0, 63),
@@ -114,17 +111,13 @@ fn a_page_is_told_by_where_it_is() {
     );
 }
 
-/// A place that keeps words only, or a length only, is not 0 throughout.
+/// A message whose words are 0 has its length, and a place without one is not told.
 #[test]
-fn a_place_is_told_for_any_of_its_words() {
-    let mut memory = power_on();
-    memory[1092 + 72 * 5 + 9 * 3 + 8] = 1;
-    memory[1092 + 72 * 31 + 9 * 7] = 77;
-    memory[1092 + 72 * 95 + 9 * 7 + 1] = 5;
-    let expected = "f5 place 3 length 0 words 0 0 0 0 0 0 0 1\n\
-                    f31 place 7 length 77 words 0 0 0 0 0 0 0 0\n\
-                    s63 place 7 length 0 words 5 0 0 0 0 0 0 0\n";
-    assert!(state_of(&memory).ends_with(&format!("descriptor\n{expected}")));
+fn a_place_is_told_where_a_message_waits() {
+    let told = state_of(&memory_after("A,1,9 A,1,0,0,0 A,1,0,5 S,1 D"));
+    let expected = "f0 place 1 length 3 words 0 0 0 0 0 0 0 0\n\
+                    f0 place 2 length 2 words 0 5 0 0 0 0 0 0\n";
+    assert!(told.ends_with(&format!("descriptor\n{expected}")));
 }
 
 /// The memory after a script, stepped in memory.
@@ -139,7 +132,7 @@ fn memory_of(script: &[u8]) -> Vec<u32> {
 /// The scripts of vectors/.
 fn vectors() -> Vec<PathBuf> {
     let vectors = Path::new(env!("CARGO_MANIFEST_DIR")).join("../vectors");
-    let folders = ["base", "order1", "order2"].map(|name| vectors.join(name));
+    let folders = ["base", "order1", "order2", "order3"].map(|name| vectors.join(name));
     let entries = folders.map(|folder| fs::read_dir(folder).expect("a folder"));
     let paths = entries.into_iter().flatten();
     let paths = paths.map(|entry| entry.expect("an entry").path());
@@ -163,7 +156,7 @@ fn memories_after_every_script_read_back_to_the_same_state() {
             states += 1;
         }
     }
-    assert!(states >= 54, "{states}");
+    assert!(states >= 73, "{states}");
 }
 
 #[test]

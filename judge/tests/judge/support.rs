@@ -1,8 +1,10 @@
 //! What the tests share.
 
+use std::collections::VecDeque;
+
 use judge::generator::FLAVOURS;
 use judge::memory;
-use judge::node::Operation;
+use judge::node::{Node, Operation};
 use judge::script;
 
 /// The rest of the listing's line for an accepted step of which nothing is to be told.
@@ -76,14 +78,39 @@ pub fn power_on() -> Vec<u32> {
     memory
 }
 
-/// The memory after the lines of a script, parted by blanks and all accepted.
+/// The memory after the lines of a script, parted by blanks and all accepted; `9*A,1,7` is a line nine
+/// times.
 pub fn memory_after(script: &str) -> Vec<u32> {
     let mut memory = power_on();
-    for line in script.split_whitespace() {
-        let report = memory::step(&mut memory, &script::read(line.as_bytes()));
-        assert!(report.accepted(), "{line}: {report:?}");
+    for lines in script.split_whitespace() {
+        let (times, line) = lines.split_once('*').unwrap_or(("1", lines));
+        for _ in 0..times.parse().expect("a number") {
+            let report = memory::step(&mut memory, &script::read(line.as_bytes()));
+            assert!(report.accepted(), "{line}: {report:?}");
+        }
     }
     memory
+}
+
+/// The node after such lines.
+pub fn after(script: &str) -> Node {
+    memory::read(&memory_after(script)).expect("a node")
+}
+
+/// The node after one more line, which is accepted.
+pub fn step(node: &Node, line: &str) -> Node {
+    let mut node = node.clone();
+    let report = node.step(&script::read(line.as_bytes()));
+    assert!(report.accepted(), "{line}: {report:?}");
+    node
+}
+
+/// Swap page 0 among the pages.
+pub const S0: usize = 32;
+
+/// The pages of a group's list.
+pub fn pages(node: &Node, group: usize) -> &VecDeque<usize> {
+    &node.groups[group - 1].buffer.pages
 }
 
 /// A memory as a file has it.

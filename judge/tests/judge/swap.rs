@@ -1,46 +1,13 @@
 //! Order 1, sentence by sentence: which page goes, where it goes, and what comes back.
 
-use std::collections::VecDeque;
-
 use judge::memory;
 use judge::node::{Node, PAGES};
-use judge::script;
 
-use crate::support::{memory_after, random_runs};
-
-/// The node after lines that are all accepted, parted by blanks; `9*A,1,7` is a line nine times.
-fn after(lines: &str) -> Node {
-    let lines: Vec<String> = lines.split(' ').map(repeated).collect();
-    memory::read(&memory_after(&lines.join(" "))).expect("a node")
-}
-
-fn repeated(line: &str) -> String {
-    match line.split_once('*') {
-        Some((times, line)) => vec![line; times.parse().expect("a number")].join(" "),
-        None => line.to_string(),
-    }
-}
-
-/// The node after one more line.
-fn step(node: &Node, line: &str) -> Node {
-    let mut node = node.clone();
-    assert!(
-        node.step(&script::read(line.as_bytes())).accepted(),
-        "{line}"
-    );
-    node
-}
-
-fn pages(node: &Node, group: usize) -> &VecDeque<usize> {
-    &node.groups[group - 1].buffer.pages
-}
+use crate::support::{after, pages, random_runs, step, S0};
 
 fn counts(node: &Node) -> (u32, u32) {
     (node.sent_out, node.brought_in)
 }
-
-/// Swap page 0 is page 32.
-const S0: usize = 32;
 
 #[test]
 fn the_page_longest_in_a_frame_is_sent_out() {
@@ -57,17 +24,15 @@ fn the_page_longest_in_a_frame_is_sent_out() {
     assert_eq!(counts(&node), (1, 0));
 }
 
-/// The frame keeps the words of the page that left it but for the place that is written.
+/// Its first place is used up, and its last is not written yet.
 #[test]
-fn a_page_goes_whole_and_the_frame_keeps_its_words() {
-    let node = after("A,3,1,2 7*A,3,5 S,3 D S,0 248*A,1,7");
+fn a_page_goes_whole() {
+    let node = after("A,3,1,2 6*A,3,5,6 S,3 D S,0 248*A,1,7");
     let before = node.pages[0];
     let node = step(&node, "A,1,8");
     assert_eq!(pages(&node, 3), &[S0]);
     assert_eq!(node.pages[S0], before);
-    assert_eq!((before[0].length, before[0].words[1]), (2, 2));
-    assert_eq!(node.pages[0][0].words, [8, 0, 0, 0, 0, 0, 0, 0]);
-    assert_eq!(node.pages[0][1..], before[1..]);
+    assert_eq!(before.map(|place| place.length), [0, 2, 2, 2, 2, 2, 2, 0]);
 }
 
 #[test]
@@ -128,9 +93,6 @@ fn a_page_is_brought_into_a_free_frame_before_it_is_written() {
         .copied()
         .eq((S0 + 1..PAGES).chain([S0])));
     assert_eq!(counts(&node), (1, 1));
-    // The swap page keeps the words of the page that left it.
-    assert_eq!(node.pages[S0][0].words[0], 7);
-    assert_eq!(node.pages[S0][1].words[0], 0);
 }
 
 #[test]

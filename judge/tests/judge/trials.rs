@@ -3,7 +3,7 @@
 use std::collections::{BTreeMap, HashSet};
 
 use judge::memory::trials::{change_words, operation, reachable, vary, Change, Length, CHANGES};
-use judge::memory::{self, broken_clause, clauses, head, step};
+use judge::memory::{self, broken_clause, clauses, head, step, Fault};
 use judge::node::{Node, Operation, Refusal, Report};
 use judge::random::Random;
 
@@ -39,10 +39,26 @@ fn for_any_memory(seed: u64, count: usize, mut each: impl FnMut(Vec<u32>, Operat
 
 type Kind = (&'static str, fn(&Node) -> bool);
 
+/// The last pages of buffers that have places behind the last message.
+fn lasts_with_room(node: &Node) -> impl Iterator<Item = usize> + '_ {
+    let buffers = node.groups.iter().map(|group| &group.buffer);
+    buffers
+        .filter(|buffer| (buffer.used_up + buffer.messages) % 8 > 0)
+        .filter_map(|buffer| buffer.pages.back().copied())
+}
+
+/// The first pages of buffers that have used-up places.
+fn firsts_used_up(node: &Node) -> impl Iterator<Item = usize> + '_ {
+    let buffers = node.groups.iter().map(|group| &group.buffer);
+    buffers
+        .filter(|buffer| buffer.used_up > 0)
+        .filter_map(|buffer| buffer.pages.front().copied())
+}
+
 /// Nodes, and among them those that are hard to reach.
 #[test]
 fn reachable_memories_are_nodes_of_every_kind() {
-    let kinds: [Kind; 14] = [
+    let kinds: [Kind; 17] = [
         ("power-on", |node| *node == Node::power_on()),
         ("no frame free", |node| node.free.is_empty()),
         ("no page free", |node| {
@@ -56,12 +72,14 @@ fn reachable_memories_are_nodes_of_every_kind() {
             let first = runner.and_then(|group| group.buffer.pages.front());
             node.free.is_empty() && first.is_some_and(|first| node.entry.front() == Some(first))
         }),
+        ("swap pages in use, and free ones", |node| {
+            (1..64).contains(&node.swap_free.len())
+        }),
+        ("a last page in a frame, with room", |node| {
+            lasts_with_room(node).any(|last| last < 32)
+        }),
         ("a last page in swap, with room", |node| {
-            node.groups.iter().any(|group| {
-                let buffer = &group.buffer;
-                let has_room = (buffer.used_up + buffer.messages) % 8 > 0;
-                has_room && buffer.pages.back().is_some_and(|&last| last >= 32)
-            })
+            lasts_with_room(node).any(|last| last >= 32)
         }),
         ("a full queue", |node| node.queue.len() == 16),
         ("a timer that counts", |node| node.timer > 0),
@@ -80,14 +98,17 @@ fn reachable_memories_are_nodes_of_every_kind() {
             let mut queued = node.queue.iter();
             queued.any(|message| node.groups[message.group - 1].revoked)
         }),
-        ("used-up places", |node| {
-            node.groups.iter().any(|group| group.buffer.used_up > 0)
+        ("used-up places in a frame", |node| {
+            firsts_used_up(node).any(|first| first < 32)
+        }),
+        ("used-up places in swap", |node| {
+            firsts_used_up(node).any(|first| first >= 32)
         }),
         ("a full descriptor", |node| {
             node.groups.iter().any(|group| group.descriptor.len() == 8)
         }),
     ];
-    let mut met = [0; 14];
+    let mut met = [0; 17];
     let mut random = Random::new(1);
     for _ in 0..1000 {
         let node = memory::read(&reachable(&mut random)).expect("a node");
@@ -141,7 +162,7 @@ fn made_by(change: &Change, nodes: &[Vec<u32>]) -> BTreeMap<&'static str, usize>
 }
 
 /// What each change makes of nodes, beside other things.
-const PURPOSES: [(&str, &str); 25] = [
+const PURPOSES: [(&str, &str); 28] = [
     (
         "the running group",
         "a node; running is 0 to 8; the queue's head is the running group's; a running group's \
@@ -159,11 +180,13 @@ const PURPOSES: [(&str, &str); 25] = [
     ),
     (
         "used-up places",
-        "a node; h is within the bounds; each list has its rounded-up length",
+        "a node; waiting messages' lengths are within the bounds; h is within the bounds; each list \
+         has its rounded-up length; used-up places are 0",
     ),
     (
         "messages in a buffer",
-        "a node; each list has its rounded-up length",
+        "a node; waiting messages' lengths are within the bounds; each list has its rounded-up \
+         length; places behind the last message are 0",
     ),
     ("used-up places and no message", "h is 0 where n is 0"),
     (
@@ -225,7 +248,19 @@ const PURPOSES: [(&str, &str); 25] = [
          the swap line are 0; unused places of the order of entry are 0; unused places of the lists \
          are 0; unused descriptor words are 0; a waiting message's words past its length are 0",
     ),
-    ("places without a waiting message", "a node"),
+    ("a stray word in a free frame", "a node; free frames are 0"),
+    (
+        "a stray word in a free swap page",
+        "a node; free swap pages are 0",
+    ),
+    (
+        "a stray word in a used-up place",
+        "a node; used-up places are 0",
+    ),
+    (
+        "a stray word behind the last message",
+        "a node; places behind the last message are 0",
+    ),
     (
         "a message in the queue",
         "a node; the queue's head is the running group's; the group of the queue's head is direct",
@@ -252,17 +287,47 @@ fn each_change_makes_what_it_is_for() {
     }
 }
 
+fn change_named(name: &str) -> &'static Change {
+    let change = CHANGES.iter().find(|change| change.name == name);
+    change.expect("a change of this name")
+}
+
 /// What no clause asks about.
 #[test]
-fn some_words_may_be_anything() {
+fn the_counts_of_pages_may_be_anything() {
+    let made = made_by(change_named("pages sent out and brought in"), &many_nodes());
+    assert!(made.into_keys().eq(["a node"]));
+}
+
+/// Where no message waits, and nowhere else: a kept length and each of the eight words.
+#[test]
+fn stray_words_stand_where_they_are_named() {
     let nodes = many_nodes();
-    for name in [
-        "places without a waiting message",
-        "pages sent out and brought in",
+    for (name, clause) in [
+        ("a stray word in a free frame", "free frames are 0"),
+        ("a stray word in a free swap page", "free swap pages are 0"),
+        ("a stray word in a used-up place", "used-up places are 0"),
+        (
+            "a stray word behind the last message",
+            "places behind the last message are 0",
+        ),
     ] {
-        let change = CHANGES.iter().find(|change| change.name == name);
-        let made = made_by(change.expect("a change of this name"), &nodes);
-        assert!(made.into_keys().eq(["a node"]), "{name}");
+        let mut random = Random::new(1);
+        let mut words = [0; 9];
+        for node in &nodes {
+            let mut memory = node.clone();
+            change_named(name).make(&mut memory, &mut random);
+            match memory::read(&memory) {
+                Ok(_) => assert_eq!(memory, *node, "{name}: there is no such place"),
+                Err(Fault::Broken(broken, at)) => {
+                    assert_eq!(broken, clause);
+                    words[(at[0].0 - 1092) % 9] += 1;
+                }
+                Err(fault) => panic!("{name}: {fault}"),
+            }
+        }
+        assert!(words[0] > 50, "{name}: {words:?}");
+        assert!(words[1..].iter().all(|&count| count > 5), "{words:?}");
     }
 }
 

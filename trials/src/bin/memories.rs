@@ -18,8 +18,9 @@ the head message stands, the counts, all words of the report, and all words of t
 
 At the end there is a table of what was met. The exit status is 1 at the first difference, which is
 told with the number of its memory; and if COUNT is 100000 or more and some clause of the memory
-test, some place of the head message, some operation, some answer, some trap, some cause of a page's
-going out or coming in, or something that a forced timer or a revoked group does was met by none.";
+test, some place of a stray word or of the head message, some operation, some answer, some trap, some
+cause of a page's being used up, going out or coming in, or something that a forced timer or a revoked
+group does was met by none.";
 
 const PROGRESS: u64 = 1_000_000;
 

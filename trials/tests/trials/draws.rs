@@ -2,8 +2,9 @@
 
 use std::collections::{BTreeSet, HashSet};
 
-use judge::memory::SIZE;
+use judge::memory::{words_of, SIZE};
 use judge::node::Operation;
+use judge::script::node_after;
 use trials::asked::{taken_apart, Asked, EDGES};
 use trials::calls::Proved;
 use trials::comparison::compare;
@@ -103,18 +104,23 @@ fn an_operation_is_asked_for_by_its_letter() {
     }
 }
 
-#[test]
-fn a_table_knows_what_it_has_not_met() {
-    let mut table = Table::default();
-    let all = 29 + 3 + 3 + 23 + 16 + 4 + 5 + 7;
-    assert_eq!(table.not_met().len(), all);
-    let trial = Trial {
-        memory: vec![],
+/// A memory that is asked for M.
+fn asked_for_length(memory: Vec<u32>) -> Trial {
+    Trial {
+        memory,
         asked: Asked::Step(b'M', vec![]),
         report_length: 16,
         head_length: 2,
         paging_length: 2,
-    };
+    }
+}
+
+#[test]
+fn a_table_knows_what_it_has_not_met() {
+    let mut table = Table::default();
+    let all = 33 + 8 + 3 + 3 + 23 + 16 + 4 + 3 + 5 + 7;
+    assert_eq!(table.not_met().len(), all);
+    let trial = asked_for_length(vec![]);
     let met = compare(&Proved, &trial).expect("no difference");
     table.add(&trial, &met);
     let missing = table.not_met();
@@ -136,4 +142,38 @@ fn a_table_knows_what_it_has_not_met() {
     assert!(table.missing().is_empty());
     table.add(&trial, &met);
     assert_eq!(table.missing(), missing);
+}
+
+/// The stray words that a table has not met.
+fn strays_not_met(table: &Table) -> BTreeSet<String> {
+    let missing = table.not_met().into_iter();
+    missing
+        .filter(|name| name.starts_with("kept lengths ") || name.starts_with("words "))
+        .collect()
+}
+
+/// In frame 0 the first place is used up, and a message waits in the second.
+#[test]
+fn a_stray_word_is_counted_by_where_it_stands() {
+    let node = words_of(&node_after(b"A,1,7\nA,1,8\nS,1\nD\n"));
+    for (at, name) in [
+        (1164, "kept lengths in free frames"),
+        (1172, "words in free frames"),
+        (3396, "kept lengths in free swap pages"),
+        (3397, "words in free swap pages"),
+        (1092, "kept lengths in used-up places"),
+        (1100, "words in used-up places"),
+        (1110, "kept lengths behind last messages"),
+        (1111, "words behind last messages"),
+    ] {
+        let mut memory = node.clone();
+        memory[at] = 1;
+        let trial = asked_for_length(memory);
+        let met = compare(&Proved, &trial).expect("no difference");
+        let mut table = Table::default();
+        let mut missing = strays_not_met(&table);
+        table.add(&trial, &met);
+        assert!(missing.remove(name), "{name}");
+        assert_eq!(strays_not_met(&table), missing, "word {at}");
+    }
 }

@@ -1,6 +1,9 @@
 //! Calls that are wrong in one word: each is found, and told by the word.
 
+use std::ops::Range;
+
 use fugu::{HEAD, PAGING, REPORT, SIZE};
+use judge::node::Operation;
 use trials::asked::Asked;
 use trials::calls::{Calls, Proved};
 use trials::comparison::compare;
@@ -56,6 +59,10 @@ impl Calls for Wrong {
     }
 }
 
+/// Among so many memories even what is rare is met: a count that is at its largest number as a page
+/// goes out.
+const MEMORIES: usize = 100_000;
+
 /// The first difference within so many memories of seed 1, as it is told.
 fn first_difference(calls: &impl Calls, memories: usize) -> Option<String> {
     Memories::new(1)
@@ -64,9 +71,9 @@ fn first_difference(calls: &impl Calls, memories: usize) -> Option<String> {
         .map(|difference| difference.to_string())
 }
 
-/// A difference is found within ten thousand memories, and told in these words.
+/// A difference is found within so many memories, and told in these words.
 fn found(calls: Wrong, told: &str) {
-    let difference = first_difference(&calls, 10_000).expect("a difference");
+    let difference = first_difference(&calls, MEMORIES).expect("a difference");
     assert!(difference.starts_with(told), "{difference}, not {told}");
 }
 
@@ -137,18 +144,6 @@ fn a_word_past_the_node() {
         }
     });
     found(wrong, "the memory after it differs\n  word 81");
-}
-
-/// What the test leaves open is compared too: a message disposed of stays in its frame.
-#[test]
-fn a_frame_cleared_when_it_is_freed() {
-    let wrong = memory(|_, before, after| {
-        if Proved.test(before) == 1 && after[3] > before[3] {
-            let frame = after[164 + before[3] as usize] as usize;
-            after[1092 + 72 * frame..][..72].fill(0);
-        }
-    });
-    found(wrong, "the memory after it differs\n  word ");
 }
 
 #[test]
@@ -265,6 +260,55 @@ fn sent_out(asked: &Asked, before: &[u32], after: &[u32]) -> bool {
         && before[8072..SIZE] != after[8072..SIZE]
 }
 
+/// The words of some places of a page.
+fn places(page: u32, places: Range<u32>) -> Range<usize> {
+    let at = |place| (1092 + 72 * page + 9 * place) as usize;
+    at(places.start)..at(places.end)
+}
+
+/// A step after which words stand again that stood there before is found.
+fn words_that_stay(stay: impl Fn(&Asked, &[u32], &[u32]) -> Option<Range<usize>> + 'static) {
+    let wrong = memory(move |asked, before, after| {
+        if let Some(words) = stay(asked, before, after) {
+            after[words.clone()].copy_from_slice(&before[words]);
+        }
+    });
+    found(wrong, "the memory after it differs\n  word ");
+}
+
+/// Its place, of which the length or a word is enough.
+#[test]
+fn a_message_disposed_of_that_stays() {
+    for part in [0..1, 1..2, 0..9] {
+        words_that_stay(move |asked, before, _| {
+            let mut head = [0; HEAD];
+            Proved.head(before, &mut head);
+            let place = (head[0] as usize).checked_sub(1).filter(|at| *at >= 1092)?;
+            let disposed = asked.operation() == Some(Operation::Dispose);
+            disposed.then_some(place + part.start..place + part.end)
+        });
+    }
+}
+
+/// In its frame, the last that was entered, behind the message that it was taken for.
+#[test]
+fn a_page_sent_out_that_stays() {
+    words_that_stay(|asked, before, after| {
+        let none_in = sent_out(asked, before, after) && before[8007] == after[8007];
+        none_in.then(|| places(after[SIZE - 1], 1..8))
+    });
+}
+
+/// In its swap page, the last of the swap line.
+#[test]
+fn a_page_brought_in_that_stays() {
+    words_that_stay(|asked, before, after| {
+        let is_step = *asked != Asked::PowerOn && Proved.test(before) == 1;
+        let brought_in = is_step && before[8004] < after[8004];
+        brought_in.then(|| places(after[8007 + after[8004] as usize], 0..8))
+    });
+}
+
 #[test]
 fn a_count_that_begins_anew_behind_its_largest_number() {
     let wrong = memory(|asked, before, after| {
@@ -365,6 +409,48 @@ fn a_test_that_takes_a_revoked_group_for_direct() {
     });
 }
 
+/// The pages of a line, which stands behind its count.
+fn line(memory: &[u32], count: usize, at: usize, most: u32) -> Vec<u32> {
+    let pages = &memory[at..][..memory[count].min(most) as usize];
+    pages.iter().copied().filter(|page| *page < 96).collect()
+}
+
+#[test]
+fn a_test_that_does_not_look_at_free_frames_or_free_swap_pages() {
+    for (count, at, most) in [(3, 164, 32), (8004, 8008, 64)] {
+        a_test_without(move |memory| {
+            for page in line(memory, count, at, most) {
+                memory[places(page, 0..8)].fill(0);
+            }
+        });
+    }
+}
+
+#[test]
+fn a_test_that_does_not_look_at_used_up_places() {
+    a_test_without(|memory| {
+        for record in (1..=8).map(|group| flag_at(group, 0)) {
+            let used_up = memory[record + 4].min(8);
+            if let Some(&first) = line(memory, record + 6, record + 16, 96).first() {
+                memory[places(first, 0..used_up)].fill(0);
+            }
+        }
+    });
+}
+
+#[test]
+fn a_test_that_does_not_look_behind_the_last_message() {
+    a_test_without(|memory| {
+        for record in (1..=8).map(|group| flag_at(group, 0)) {
+            let end = memory[record + 4].wrapping_add(memory[record + 5]) % 8;
+            let list = line(memory, record + 6, record + 16, 96);
+            if let Some(&last) = list.last().filter(|_| end > 0) {
+                memory[places(last, end..8)].fill(0);
+            }
+        }
+    });
+}
+
 /// A step of this letter that is wrong in a word is found, and told by what stands there.
 fn a_step_with(letter: u8, told: &str, change: impl Fn(usize, &[u32], &mut [u32]) + 'static) {
     let wrong = memory(move |asked, before, after| {
@@ -373,7 +459,7 @@ fn a_step_with(letter: u8, told: &str, change: impl Fn(usize, &[u32], &mut [u32]
             change(before[0] as usize, before, after);
         }
     });
-    let difference = first_difference(&wrong, 10_000).expect("a difference");
+    let difference = first_difference(&wrong, MEMORIES).expect("a difference");
     assert!(difference.starts_with("the memory after it differs\n  word "));
     assert!(difference.contains(told), "{difference}, not {told}");
 }

@@ -28,6 +28,23 @@ fn gone_on_with() {
     assert_eq!(folder.names(), ["node"]);
 }
 
+/// Of a message that was disposed of the file holds no word.
+#[test]
+fn a_message_disposed_of_is_gone() {
+    let folder = Folder::new("a_message_disposed_of");
+    let file = folder.path("node");
+    let word: u32 = 0xdead_beef;
+    let holds = || {
+        let memory = fs::read(&file).unwrap();
+        let mut words = memory.chunks_exact(4);
+        words.any(|bytes| bytes == word.to_le_bytes())
+    };
+    desk(&file, format!("S,1\nA,1,{word}\nT,256\n"));
+    assert!(holds());
+    desk(&file, "D\n");
+    assert!(!holds());
+}
+
 #[test]
 fn left_alone_where_nothing_changed() {
     let folder = Folder::new("left_alone");
@@ -85,10 +102,14 @@ fn no_node_is_answered_1_and_left() {
     let whole = bytes(&memory);
     let ragged = |more: &[u8]| [&whole[..], more].concat();
     let files = [
-        // A flag of 2, a ninth group, a frame that stands twice.
+        // A flag of 2, a ninth group, a frame that stands twice; a length behind the last message, a
+        // word in a free frame and one in a free swap page.
         changed(196, 2),
         changed(0, 9),
         changed(164, 2),
+        changed(1101, 1),
+        changed(1165, 7),
+        changed(8003, 7),
         vec![0; whole.len()],
         Vec::new(),
         vec![0],

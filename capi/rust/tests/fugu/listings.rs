@@ -80,4 +80,5 @@ fn vectors() {
     play("vectors/base");
     play("vectors/order1");
     play("vectors/order2");
+    play("vectors/order3");
 }

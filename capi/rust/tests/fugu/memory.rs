@@ -61,7 +61,7 @@ fn memory_behind_a_node_is_never_touched() {
 fn damaged_memory_is_refused_and_left() {
     // A timer with an empty queue, a ninth group, 33 free frames, a frame that stands twice; 65 free
     // swap pages, one that stands twice, a frame in the swap line, one that entered and is not in use;
-    // force and revoked without atomic.
+    // force and revoked without atomic; a length and a word in free frames, and in free swap pages.
     for (at, word) in [
         (1, 1),
         (0, 9),
@@ -73,8 +73,17 @@ fn damaged_memory_is_refused_and_left() {
         (8005, 1),
         (FORCE, 1),
         (REVOKED, 1),
+        (1092, 1),
+        (3395, 7),
+        (3396, 1),
+        (8003, 7),
     ] {
         damaged(started(), at, word);
+    }
+    // A length and a word in a used-up place, and behind the last message.
+    let buffered = ["A,1,7", "A,1,8", "S,1", "D"];
+    for (at, word) in [(1092, 1), (1100, 7), (1110, 1), (1163, 7)] {
+        damaged(after(&buffered), at, word);
     }
     // In a section with a message at the head of the queue: flags of 2, and a head of a revoked group.
     let direct = ["S,1", "B", "A,1,7", "T,9"];
@@ -85,6 +94,14 @@ fn damaged_memory_is_refused_and_left() {
     damaged(after(&["S,1", "B"]), 1, 9);
     damaged(after(&["S,1", "B,1", "S,2", "B"]), 1, 9);
     damaged(after(&["S,1", "B,1", "S,0"]), 1, 9);
+}
+
+#[test]
+fn a_message_disposed_of_leaves_no_word() {
+    let mut node = after(&["A,1,7,8,9", "A,1,5", "S,1", "D"]);
+    assert_eq!(node.memory()[1092..1103], [0, 0, 0, 0, 0, 0, 0, 0, 0, 1, 5]);
+    assert!(node.line(b"D").is_accepted());
+    assert!(node.memory()[1092..8004].iter().all(|&word| word == 0));
 }
 
 /// Where force and revoked of group 1 stand.

@@ -52,6 +52,20 @@ fn a_page_comes_into_a_frame_that_is_freed() {
     assert_eq!(node.paging(), counts(2, 2));
 }
 
+/// Its frame then holds the message that it was needed for, its swap page nothing.
+#[test]
+fn a_page_leaves_no_word_behind() {
+    let mut node = filled(257);
+    assert_eq!(node.memory()[1092..1094], [1, 7]);
+    assert_eq!(node.memory()[1094..1164], [0; 70]);
+    node.line(b"S,2");
+    assert_eq!(node.memory()[3396..3398], [1, 7]);
+    for _ in 0..8 {
+        node.line(b"D");
+    }
+    assert_eq!(node.memory()[3396..3468], [0; 72]);
+}
+
 #[test]
 fn counts_stay_at_the_largest_number() {
     let mut memory = filled(257).into_memory();

@@ -8,10 +8,9 @@ use lib.Seq.{getD-set-same, set-set}
 use borrow.Author.Tests.{le-ltb, lt-ltb}
 use Rattle.rules.specs.Build.{groupCount, pageCount, paper01}
 use Rattle.rules.specs.Frames.{appended, extended, put, takeFrame, withRoom, withStock}
-use Rattle.rules.specs.Lists.{Every}
 use Rattle.rules.specs.Memory.{groupAddress, size, word, usedOffset, countOffset, heldOffset, listOffset}
-use Rattle.rules.specs.Node.{Frame, Message, Node, emptyGroup, groupOf, withBuffer, withEntered, withFree, withGroup, withPaging}
-use Rattle.rules.specs.Valid.{GoodFrame}
+use Rattle.rules.specs.Node.{Message, Node, emptyGroup, groupOf, withBuffer, withEntered, withFree, withGroup, withPaging, emptyPage}
+use Rattle.rules.proofs.Steps.FrameLaws.{length-page}
 use Rattle.rules.proofs.Steps.NodeLaws.{stock-same}
 use Rattle.rules.specs.Sound.{Mapped}
 use Rattle.memory.specs.Holds.{FrameLeft, Holds, Room, Storable, putting, taking}
@@ -66,17 +65,17 @@ full-read h g low high =
 
 module _ {n : Node} (v : Mapped n) (x : Message) (low : 1 ≤ x .group) (high : x .group ≤ groupCount) where
   -- with room
-  pub put-room : Room (x .group) n → put x n ≡ putting x n
+  pub put-room : Room (x .group) n → put paper01 x n ≡ putting x n
   unfolding put putting withRoom withStock withGroup withFree withPaging withEntered groupOf
   put-room room = rw (lt-ltb _ _ room)
 
   -- and without
   pub put-full : length (groupOf n (x .group) .buffer .places) ≤ groupOf n (x .group) .buffer .used + groupOf n (x .group) .buffer .count
-      → put x n ≡ putting x (taking (x .group) n)
+      → put paper01 x n ≡ putting x (taking (x .group) n)
   unfolding put putting taking withRoom withStock withGroup withFree withPaging withEntered withBuffer groupOf
   put-full full =
       let g = x .group in
-      let s = takeFrame (n .free) (n .paging .entered) (groupOf n g .buffer) in
+      let s = takeFrame paper01 (n .free) (n .paging .entered) (groupOf n g .buffer) in
       let G = withBuffer (s .buffer) (groupOf n g) in
       let same : getD (set (n .groups) (pred g) G) (pred g) emptyGroup ≡ G =
       getD-set-same (n .groups) (pred g) G emptyGroup (omega (arith, v .group-count)) in
@@ -90,20 +89,20 @@ pub taking-room : {n : Node} → Mapped n → (g : ℕ) → 1 ≤ g → g ≤ gr
 unfolding taking takeFrame extended
 taking-room {n} v g low high left fits =
     let inside : pred g < length (n .groups) = omega (arith, v .group-count) in
-    rw (stock-same g (takeFrame (n .free) (n .paging .entered) (groupOf n g .buffer)) n inside) (go (n .free) (left .some) (v .free-good))
+    rw (stock-same g (takeFrame paper01 (n .free) (n .paging .entered) (groupOf n g .buffer)) n inside) (go (n .free) (left .some))
   where
-    go : (fs : List Frame) → 1 ≤ length fs → Every (GoodFrame paper01) fs
-        → takeFrame fs (n .paging .entered) (groupOf n g .buffer) .buffer .used + takeFrame fs (n .paging .entered) (groupOf n g .buffer) .buffer .count
-        < length (takeFrame fs (n .paging .entered) (groupOf n g .buffer) .buffer .places)
-    go [] some good = absurd (omega arith)
-    go (f ∷ fs) some good = omega (arith, length-append (groupOf n g .buffer .places) (f .places), good .0 .whole)
+    go : (fs : List ℕ) → 1 ≤ length fs
+        → takeFrame paper01 fs (n .paging .entered) (groupOf n g .buffer) .buffer .used + takeFrame paper01 fs (n .paging .entered) (groupOf n g .buffer) .buffer .count
+        < length (takeFrame paper01 fs (n .paging .entered) (groupOf n g .buffer) .buffer .places)
+    go [] some = absurd (omega arith)
+    go (f ∷ fs) some = omega (arith, length-append (groupOf n g .buffer .places) (emptyPage paper01), length-page paper01)
 
 -- what stands where the frame was taken if need be: a node with room, of which putting is what the rules put
 pub record Ready (m : List ℕ) (g : ℕ) (n : Node) (r : List ℕ) : Type 0 where
   pub node : Node
   pub holds : Holds m node r
   pub room : Room g node
-  pub stores : (x : Message) → x .group ≡ g → putting x node ≡ put x n
+  pub stores : (x : Message) → x .group ≡ g → putting x node ≡ put paper01 x n
 
 module _ {m : List ℕ} {n : Node} {r : List ℕ} (h : Holds m n r) (g : ℕ) (low : 1 ≤ g) (high : g ≤ groupCount) (fit : Storable g n) where
   -- there was room

@@ -1,33 +1,29 @@
--- The first message of a buffer goes: its place is used up, or its frame is freed and leaves the order of entry. From writes to the node that
--- the memory then holds. Assumes nothing.
+-- The first message of a buffer, whose place is wiped by then, goes: its place is used up, or its frame is freed and leaves the order of entry.
+-- From writes to the node that the memory then holds. Assumes nothing.
 use Prim.Native.Nat.{_+_, _-_, _<_, _≤_, pred, suc, ℕ}
 use native.Mathlib.Omega.{arith}
 use mathlib.Core.List.{List, [], _++_, _∷_, map, map-append}
-use mathlib.Core.Logic.{_≢_}
-use mathlib.Core.Path.{_∙_, _≡_, ap, refl, subst, sym}
-use lib.ListN.{drop, getD, length, length-append, length-drop, length-map, take}
-use lib.Seq.{length-take-le}
-use borrow.Author.Tests.{eq-eqb, ne-eqb}
+use mathlib.Core.Path.{_∙_, _≡_, ap, refl, sym}
+use lib.ListN.{drop, getD, length, length-append, length-drop, take}
 use Rattle.rules.specs.Build.{groupCount, pageCount, paper01}
-use Rattle.rules.specs.Frames.{firstFrame, freeFirst, removeFirst, useUp, withStock}
+use Rattle.rules.specs.Frames.{firstFrame, freeFirst, withStock}
 use Rattle.rules.specs.Lists.{Every}
-use Rattle.rules.specs.Memory.{countOffset, freeAt, freeCountAt, groupAddress, groupWords, heldOffset, listOffset, size, usedOffset, word}
-use Rattle.rules.specs.Node.{Frame, Node, groupOf, withBuffer, withEntered, withFree, withGroup, withPaging}
-use Rattle.rules.specs.Paging.{framesFrom, framesOf}
-use Rattle.rules.specs.Valid.{GoodFrame, GoodPlace, frameNumber}
-use Rattle.rules.proofs.Steps.EveryLaws.{every-append, every-drop, every-take}
+use Rattle.rules.specs.Memory.{countOffset, freeAt, freeCountAt, groupAddress, groupWords, heldOffset, listOffset, size, usedOffset, word, pagesFrom, pagesOf}
+use Rattle.rules.specs.Node.{Node, groupOf, withBuffer, withEntered, withFree, withGroup, withPaging, emptyPage}
+use Rattle.rules.specs.Valid.{GoodPlace}
+use Rattle.rules.proofs.Steps.EveryLaws.{every-append, every-drop}
 use Rattle.rules.proofs.Steps.FrameLaws.{held}
 use Rattle.rules.proofs.Steps.ListLaws.{weight-append}
 use Rattle.rules.proofs.Map.MapParts.{length-group}
-use Rattle.memory.specs.Holds.{Holds, InOrder, Waits, departing, freeing, releasing, removing, usingUp, withBoth}
+use Rattle.memory.specs.Holds.{Holds, InOrder, Waits, departing, freeing, releasing, usingUp, withBoth, withCounts}
 use Rattle.memory.specs.Lines.{InLine, Joined, Left}
 use Rattle.memory.specs.Writes.{Wrote, groupFront, groupRead, recounted}
 use Rattle.memory.proofs.LinePieces.{free-line, free-put}
 use Rattle.memory.proofs.CountLaws.{lists-short}
-use Rattle.memory.proofs.group.GroupLaws.{group-whole, group-words, list-line, list-wrote, mapped-group, record-stands, record-within, counts-held, counts-wrote, withPages, withCounts}
+use Rattle.memory.proofs.group.GroupLaws.{group-whole, group-words, list-line, list-wrote, mapped-group, record-stands, record-within, counts-held, counts-wrote, withPages}
 use Rattle.memory.proofs.lines.LineLaws.{LineWrote, joined-wrote, left-below, left-length, left-wrote, line-first, line-within}
 use Rattle.memory.proofs.lines.IndexLaws.{index-below}
-use Rattle.memory.proofs.PieceLaws.{FrameStands, Pieces, holds-pieces, pieces-hold}
+use Rattle.memory.proofs.PieceLaws.{PageStands, Pieces, holds-pieces, pieces-hold, emptied}
 use Rattle.memory.proofs.PieceWrites.{frames-above, group-put}
 use Rattle.memory.proofs.WriteLaws.{wrote-over, wrote-stands}
 
@@ -37,7 +33,7 @@ pub using-up-held : {m m₁ : List ℕ} {n : Node} {r : List ℕ} → Holds m n 
     → Wrote m m₁ (groupAddress g)
     (groupFront (recounted (word m (groupAddress g + usedOffset) + 1) (word m (groupAddress g + countOffset) - 1) (groupRead m g)))
     → Holds m₁ (usingUp g n) r
-unfolding usingUp useUp withStock withGroup withFree withPaging withEntered withBuffer withCounts
+unfolding usingUp
 using-up-held {n = n} h g low high w =
     let words = group-words (holds-pieces h) (h .mapped) g low high in
     let B = groupOf n g .buffer in
@@ -50,11 +46,11 @@ released : {m m₁ m₂ m₃ : List ℕ} {n : Node} {r : List ℕ} → Holds m n
     → (f : ℕ) (fs : List ℕ) → groupOf n g .buffer .frames ≡ f ∷ fs
     → LineWrote m m₁ (groupAddress g + heldOffset) (groupAddress g + listOffset) (pageCount paper01) fs
     → Wrote m₁ m₂ (groupAddress g) (groupFront (recounted 0 (groupOf n g .buffer .count - 1) (groupRead m₁ g)))
-    → Joined m₂ m₃ freeCountAt freeAt f
-    → Holds m₃ (withBoth g (n .free ++ (record { number = f; places = take 8 (groupOf n g .buffer .places) } ∷ []))
+    → Joined m₂ m₃ freeCountAt freeAt f → take 8 (groupOf n g .buffer .places) ≡ emptyPage paper01
+    → Holds m₃ (withBoth g (n .free ++ (f ∷ []))
     (record { used = 0; count = groupOf n g .buffer .count - 1; frames = fs; places = drop 8 (groupOf n g .buffer .places) }) n) r
-unfolding withBoth withGroup withFree withBuffer withPages withCounts framesOf framesFrom groupOf frameNumber
-released {m} {m₁} {m₂} {m₃} {n} {r} h g low high few f fs e w₁ w₂ came =
+unfolding withBoth withGroup withFree withBuffer withPages withCounts pagesOf pagesFrom groupOf
+released {m} {m₁} {m₂} {m₃} {n} {r} h g low high few f fs e w₁ w₂ came empty =
     let v = h .mapped in
     let p = holds-pieces h in
     let G = groupOf n g in
@@ -68,29 +64,23 @@ released {m} {m₁} {m₂} {m₃} {n} {r} h g low high few f fs e w₁ w₂ came
     let u₁ = list-wrote a G fs ps (record-stands p g low high) w₁ in
     let u₂ = counts-wrote g G₁ (whole .descriptor) (omega (arith, lists-short v g low high)) (wrote-stands u₁) 0 (B .count - 1) w₂ in
     let u : Wrote m m₂ a (groupWords G′) = wrote-over u₁ u₂ (length-group G₁ ∙ sym (length-group G′)) in
-    let x : Frame = record { number = f; places = take 8 (B .places) } in
-    let frames : Every (FrameStands m) (framesFrom paper01 (f ∷ fs) (B .places)) = rw e at (p .group-frames (pred g) (omega arith)) in
+    let frames : Every (PageStands m) (pagesFrom paper01 (f ∷ fs) (B .places)) = rw e at (p .group-pages (pred g) (omega arith)) in
     let p₂ : Pieces m₂ (withGroup g G′ n) r = group-put p g low high (v .group-count) G′ u (frames .1) in
-    let s₂ = frames-above u (omega (arith, record-within g high, length-group G′)) (x ∷ []) (frames .0, tt) in
-    let l = length-map (n .free) frameNumber in
-    let all : map frameNumber (n .free) ++ (f ∷ []) ≡ map frameNumber (n .free ++ (x ∷ [])) = sym (map-append frameNumber (n .free) (x ∷ [])) in
+    let first : PageStands m (emptied f) = rw empty at (frames .0) in
+    let s₂ = frames-above u (omega (arith, record-within g high, length-group G′)) (emptied f ∷ []) (first, tt) in
     let line = joined-wrote (free-line p₂ (omega arith)) (omega arith) came in
-    let p₃ = free-put p₂ (n .free ++ (x ∷ [])) (every-append (FrameStands m₂) (n .free) (x ∷ []) .1 (p₂ .free-frames, s₂))
-    (subst (λ (t : List ℕ). LineWrote m₂ m₃ freeCountAt freeAt (paper01 .frames) t) all line) in
-    let eight : 8 ≤ length (B .places) = omega (arith, whole .whole) in
+    let stand : Every (PageStands m₂) (map emptied (n .free ++ (f ∷ []))) =
+    rw map-append (every-append (PageStands m₂) (map emptied (n .free)) (emptied f ∷ []) .1 (p₂ .free-pages, s₂)) in
+    let p₃ = free-put p₂ (n .free ++ (f ∷ [])) stand line in
     pieces-hold
-    (mapped-group v g low high G′ (n .free ++ (x ∷ []))
+    (mapped-group v g low high G′ (n .free ++ (f ∷ []))
     (record {
       descriptor = whole .descriptor;
       whole = length-drop 8 (B .places) ∙ omega (arith, whole .whole);
       places = every-drop GoodPlace 8 (B .places) (whole .places);
     })
-    (every-append (GoodFrame paper01) (n .free) (x ∷ []) .1 (
-      v .free-good,
-      (record { whole = length-take-le 8 (B .places) eight; places = every-take GoodPlace 8 (B .places) (whole .places) }, tt),
-    ))
-    (omega (arith, length-append (n .free) (x ∷ [])))
-    (λ w. rw (map-append frameNumber (n .free) (x ∷ []), e) (omega (arith, weight-append w (map frameNumber (n .free)) (f ∷ [])))))
+    (omega (arith, length-append (n .free) (f ∷ [])))
+    (λ w. rw e (omega (arith, weight-append w (n .free) (f ∷ [])))))
     p₃
 
 -- what is read of a buffer with a message
@@ -129,21 +119,21 @@ module _ {m : List ℕ} {n : Node} {r : List ℕ} (h : Holds m n r) (g : ℕ) (l
   first-read = line-first (list-line (holds-pieces h) (h .mapped) g low high) (waits .held)
 
   -- it has gone to the free line
-  pub releasing-held : {m₁ m₂ m₃ : List ℕ} (f : ℕ) → Left m m₁ (groupAddress g + heldOffset) (groupAddress g + listOffset) 0 f
+  pub releasing-held : {m₁ m₂ m₃ : List ℕ} (f : ℕ) → take 8 (groupOf n g .buffer .places) ≡ emptyPage paper01 → Left m m₁ (groupAddress g + heldOffset) (groupAddress g + listOffset) 0 f
       → Wrote m₁ m₂ (groupAddress g) (groupFront (recounted 0 (word m (groupAddress g + countOffset) - 1) (groupRead m₁ g)))
       → Joined m₂ m₃ freeCountAt freeAt f → Holds m₃ (releasing g n) r
   unfolding releasing freeFirst firstFrame
-  releasing-held {m₁} {m₂} {m₃} f gone w came = go (groupOf n g .buffer .frames) refl
+  releasing-held {m₁} {m₂} {m₃} f empty gone w came = go (groupOf n g .buffer .frames) refl
     where
       go : (fs : List ℕ) → groupOf n g .buffer .frames ≡ fs
-          → Holds m₃ (withBoth g (n .free ++ (record { number = getD fs 0 0; places = take 8 (groupOf n g .buffer .places) } ∷ []))
+          → Holds m₃ (withBoth g (n .free ++ (getD fs 0 0 ∷ []))
           (record { used = 0; count = groupOf n g .buffer .count - 1; frames = drop 1 fs; places = drop 8 (groupOf n g .buffer .places) }) n) r
       go [] e = absurd (omega (arith, ap length e, waits .held))
       go (x ∷ fs) e =
           let words = group-words (holds-pieces h) (h .mapped) g low high in
           let t = left-wrote (list-line (holds-pieces h) (h .mapped) g low high) (waits .held) gone in
           let first : f ≡ x = t .0 ∙ ap (λ (ys : List ℕ). getD ys 0 0) e in
-          released h g low high (waits-room g n waits) x fs e (rw e at (t .1)) (rw (words .count) at w) (rw first at came)
+          released h g low high (waits-room g n waits) x fs e (rw e at (t .1)) (rw (words .count) at w) (rw first at came) empty
 
   -- it is still once in the order of entry
   pub releasing-order : InOrder (word m (groupAddress g + listOffset)) (releasing g n)
@@ -176,16 +166,3 @@ free-room g reads gone w =
     let few = reads .free in
     let l = w .same-length ∙ left-length gone in
     (record { counted = omega arith; inside = omega arith }, (omega arith, omega arith))
-
--- which of the two it is, is read
-pub removing-last : (n : Node) (g : ℕ) → groupOf n g .buffer .count ≡ 1 → freeing g n ≡ removing g n
-unfolding freeing removing removeFirst
-removing-last n g e = rw (eq-eqb (groupOf n g .buffer .count) 1 e)
-
-pub removing-frame : (n : Node) (g : ℕ) → groupOf n g .buffer .count ≢ 1 → groupOf n g .buffer .used + 1 ≡ 8 → freeing g n ≡ removing g n
-unfolding freeing removing removeFirst
-removing-frame n g d e = rw (ne-eqb (groupOf n g .buffer .count) 1 d, eq-eqb (groupOf n g .buffer .used + 1) 8 e)
-
-pub removing-used : (n : Node) (g : ℕ) → groupOf n g .buffer .count ≢ 1 → groupOf n g .buffer .used + 1 ≢ 8 → usingUp g n ≡ removing g n
-unfolding usingUp removing removeFirst
-removing-used n g d e = rw (ne-eqb (groupOf n g .buffer .count) 1 d, ne-eqb (groupOf n g .buffer .used + 1) 8 e)

@@ -11,18 +11,18 @@ use lib.Seq.{drop-set-add, drop-set-lt, length-take-le, take-set-le, take-set-lt
 use borrow.Author.Tests.{eq-eqb, ne-eqb}
 use Rattle.rules.specs.Build.{paper01}
 use Rattle.rules.specs.Lists.{Every, concatMap, countOf}
-use Rattle.rules.specs.Memory.{frameAddress, frameStride, framesAt, placeStride, placeWords}
-use Rattle.rules.specs.Node.{Frame, Place}
-use Rattle.rules.specs.Paging.{framesFrom}
-use Rattle.rules.specs.Valid.{GoodFrame, GoodPlace, frameNumber}
+use Rattle.rules.specs.Memory.{frameAddress, frameStride, framesAt, placeStride, placeWords, Page, pagesFrom}
+use Rattle.rules.specs.Node.{Place}
+use Rattle.rules.specs.Valid.{GoodPlace}
 use Rattle.rules.proofs.Steps.EveryLaws.{every-at, every-drop, every-mono, every-of, every-set, every-take, every-unmap}
 use Rattle.rules.proofs.Steps.ListLaws.{count-at, length-parts}
-use Rattle.rules.proofs.Steps.PageLaws.{good-from, numbers-from}
+use Rattle.rules.proofs.Map.PageLaws.{good-from, numbers-from, pageNumber}
+use Rattle.rules.proofs.Map.MapFrames.{page-length}
 use Rattle.rules.proofs.Map.MapParts.{length-place}
 use Rattle.rules.proofs.Map.MapWords.{Stands, stands-append}
 use Rattle.memory.specs.Writes.{Wrote}
 use Rattle.memory.proofs.CountLaws.{count-none}
-use Rattle.memory.proofs.PieceLaws.{FrameStands, length-good}
+use Rattle.memory.proofs.PieceLaws.{PageStands, WholePage}
 use Rattle.memory.proofs.WriteLaws.{kept-above, kept-below, wrote-stands}
 
 -- the words of a good frame are 72
@@ -61,14 +61,14 @@ place-length q x ps good gx =
 module _ {m m′ : List ℕ} (f q : ℕ) (below : q < paper01 .perFrame) (x : Place) (gx : GoodPlace x)
     (w : Wrote m m′ (frameAddress f + placeStride * q) (placeWords x)) where
   -- a frame of another number stays
-  frame-kept : (y : Frame) → GoodFrame paper01 y → y .number ≢ f → FrameStands m y → FrameStands m′ y
+  frame-kept : (y : Page) → WholePage y → y .number ≢ f → PageStands m y → PageStands m′ y
   unfolding frameAddress
   frame-kept y good other s = go (decLt (y .number) f)
     where
-      go : Dec (y .number < f) → FrameStands m′ y
+      go : Dec (y .number < f) → PageStands m′ y
       go (yes l) =
           record {
-            stands = kept-below w (framesAt + frameStride * y .number) (concatMap placeWords (y .places)) (omega (arith, length-good y good)) (s .stands);
+            stands = kept-below w (framesAt + frameStride * y .number) (concatMap placeWords (y .places)) (omega (arith, page-length (y .places) good)) (s .stands);
             inside = s .inside;
           }
       go (no l) =
@@ -78,29 +78,28 @@ module _ {m m′ : List ℕ} (f q : ℕ) (below : q < paper01 .perFrame) (x : Pl
           }
 
   -- frames among which the number does not stand stay
-  pub frames-kept : (xs : List Frame) → Every (GoodFrame paper01) xs → countOf f (map frameNumber xs) ≡ 0 → Every (FrameStands m) xs → Every (FrameStands m′) xs
-  unfolding frameNumber
+  pub frames-kept : (xs : List Page) → Every WholePage xs → countOf f (map pageNumber xs) ≡ 0 → Every (PageStands m) xs → Every (PageStands m′) xs
   frames-kept xs good none s =
-      let others = every-unmap (λ k. k ≢ f) frameNumber xs (count-none f (map frameNumber xs) none) in
-      every-of (FrameStands m′) xs (λ y h.
-      frame-kept y (every-at (GoodFrame paper01) good h) (every-at (λ z. z .number ≢ f) others h) (every-at (FrameStands m) s h))
+      let others = every-unmap (λ k. k ≢ f) pageNumber xs (count-none f (map pageNumber xs) none) in
+      every-of (PageStands m′) xs (λ y h.
+      frame-kept y (every-at WholePage good h) (every-at (λ z. z .number ≢ f) others h) (every-at (PageStands m) s h))
 
   -- of a buffer's frames the one of that number has the place set
   pub frames-put : (fs : List ℕ) (ps : List Place) (j : ℕ) → j < length fs → getD fs j 0 ≡ f → countOf f fs ≡ 1 → length ps ≡ length fs * paper01 .perFrame
-      → Every GoodPlace ps → Every (FrameStands m) (framesFrom paper01 fs ps) → Every (FrameStands m′) (framesFrom paper01 fs (set ps (paper01 .perFrame * j + q) x))
-  unfolding framesFrom frameNumber
+      → Every GoodPlace ps → Every (PageStands m) (pagesFrom paper01 fs ps) → Every (PageStands m′) (pagesFrom paper01 fs (set ps (paper01 .perFrame * j + q) x))
+  unfolding pagesFrom
   frames-put [] ps j h at once whole good s = absurd (omega arith)
   frames-put (k ∷ fs) ps zero h at once whole good s =
       let eight : 8 ≤ length ps = omega arith in
       let l : length (take 8 ps) ≡ 8 = length-take-le 8 ps eight in
-      let first : FrameStands m′ (record { number = k; places = set (take 8 ps) q x }) =
+      let first : PageStands m′ (record { number = k; places = set (take 8 ps) q x }) =
       record {
         stands = place-in (frameAddress k) q x (take 8 ps) (every-take GoodPlace 8 ps good) gx (omega arith) (rw (← at) at w) (s .0 .stands);
         inside = omega (arith, s .0 .inside, place-length q x (take 8 ps) (every-take GoodPlace 8 ps good) gx);
       } in
       let none : countOf f fs ≡ 0 = let c = rw (eq-eqb k f at) at once in omega arith in
-      let rest : Every (FrameStands m′) (framesFrom paper01 fs (drop 8 ps)) =
-      frames-kept (framesFrom paper01 fs (drop 8 ps)) (good-from paper01 fs (drop 8 ps) (rw length-drop (omega arith)) (every-drop GoodPlace 8 ps good))
+      let rest : Every (PageStands m′) (pagesFrom paper01 fs (drop 8 ps)) =
+      frames-kept (pagesFrom paper01 fs (drop 8 ps)) (good-from paper01 fs (drop 8 ps) (rw length-drop (omega arith)) (every-drop GoodPlace 8 ps good))
       (rw (numbers-from paper01 fs (drop 8 ps)) none) (s .1) in
       let e : 8 * 0 + q ≡ q = omega arith in
       rw (e, take-set-lt 8 ps q x below, drop-set-lt 8 ps q x below) (first, rest)
@@ -110,7 +109,7 @@ module _ {m m′ : List ℕ} (f q : ℕ) (below : q < paper01 .perFrame) (x : Pl
       let none : countOf f fs ≡ 1 = let c = rw (ne-eqb k f other) at once in omega arith in
       let eight : 8 ≤ length ps = omega arith in
       let l : length (take 8 ps) ≡ 8 = length-take-le 8 ps eight in
-      let first : FrameStands m′ (record { number = k; places = take 8 ps }) =
+      let first : PageStands m′ (record { number = k; places = take 8 ps }) =
       frame-kept (record { number = k; places = take 8 ps }) (record { whole = l; places = every-take GoodPlace 8 ps good }) other (s .0) in
       let rest = frames-put fs (drop 8 ps) j (omega arith) at none (rw length-drop (omega arith)) (every-drop GoodPlace 8 ps good) (s .1) in
       let e : 8 * suc j + q ≡ 8 + (8 * j + q) = omega arith in

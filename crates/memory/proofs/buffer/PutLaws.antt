@@ -7,39 +7,32 @@ use lib.ListN.{getD, length, length-set, set}
 use lib.Seq.{getD-set-same, set-set}
 use Rattle.rules.specs.Build.{groupCount, paper01}
 use Rattle.rules.specs.Frames.{appended}
-use Rattle.rules.specs.Lists.{Every}
-use Rattle.rules.specs.Memory.{countOffset, frameAddress, groupAddress, groupStride, groupWords, groupsAt, pagingAt, placeStride, placeWords, usedOffset, word, listOffset}
-use Rattle.rules.specs.Node.{Group, Message, Node, Place, emptyGroup, groupOf, placeOf, withBuffer, withFree, withGroup}
-use Rattle.rules.specs.Paging.{framesOf}
-use Rattle.rules.specs.Valid.{GoodPlace, frameNumber}
+use Rattle.rules.specs.Lists.{Every, countOf}
+use Rattle.rules.specs.Memory.{countOffset, frameAddress, groupAddress, groupStride, groupWords, groupsAt, pagingAt, placeStride, placeWords, usedOffset, word, listOffset, pagesOf}
+use Rattle.rules.specs.Node.{Message, Node, Place, emptyGroup, groupOf, placeOf, withBuffer, withFree, withGroup}
+use Rattle.rules.specs.Valid.{GoodPlace}
 use Rattle.rules.proofs.Steps.EveryLaws.{every-getD, every-set}
 use Rattle.rules.proofs.Steps.FrameLaws.{placeOf-good}
-use Rattle.rules.proofs.Steps.PageLaws.{good-from, numbers-from}
+use Rattle.rules.proofs.Map.PageLaws.{good-from, numbers-from}
 use Rattle.rules.proofs.Map.MapParts.{length-group, length-place}
 use Rattle.rules.proofs.Map.MapRead.{length-line, length-queue}
 use Rattle.rules.proofs.Map.MapWords.{Stands}
 use Rattle.rules.specs.Sound.{Mapped, WholeGroup}
-use Rattle.memory.specs.Holds.{Holds, Room, putting}
+use Rattle.memory.specs.Holds.{Holds, Room, putting, placed, withCounts}
 use Rattle.memory.specs.Writes.{Wrote, groupFront, groupRead, recounted}
 use Rattle.memory.proofs.CountLaws.{its-bounded, its-free, its-once, its-other, its-swap, lists-short}
-use Rattle.memory.proofs.group.GroupLaws.{group-whole, group-words, listed, mapped-group, record-stands, counts-wrote, withCounts}
-use Rattle.memory.proofs.PieceLaws.{FrameStands, Pieces, holds-pieces, pieces-hold}
+use Rattle.memory.proofs.group.GroupLaws.{group-whole, group-words, listed, mapped-group, record-stands, counts-wrote}
+use Rattle.memory.proofs.PieceLaws.{PageStands, Pieces, emptied, emptied-numbers, emptied-whole, holds-pieces, pieces-hold}
 use Rattle.memory.proofs.PieceWrites.{group-put, rest-kept, set-cases}
 use Rattle.memory.proofs.buffer.PlaceLaws.{frames-kept, frames-put}
 use Rattle.memory.proofs.WriteLaws.{kept-above, kept-below}
-
--- the group with a place of its buffer set
-unfoldable pub placed : ℕ → Place → Group → Group
-placed i x G =
-    withBuffer
-    (record { used = G .buffer .used; count = G .buffer .count; frames = G .buffer .frames; places = set (G .buffer .places) i x }) G
 
 -- a place of a group's buffer is written
 pub place-put : {m m′ : List ℕ} {n : Node} {r : List ℕ} → Pieces m n r → Mapped n → (g : ℕ) → 1 ≤ g → g ≤ groupCount → (j q : ℕ)
     → j < length (groupOf n g .buffer .frames) → q < paper01 .perFrame → (x : Place) → GoodPlace x
     → Wrote m m′ (frameAddress (getD (groupOf n g .buffer .frames) j 0) + placeStride * q) (placeWords x)
     → Pieces m′ (withGroup g (placed (paper01 .perFrame * j + q) x (groupOf n g)) n) r
-unfolding withGroup withBuffer placed groupOf framesOf frameAddress groupWords
+unfolding withGroup withBuffer placed groupOf pagesOf frameAddress groupWords
 place-put {m} {m′} {n} p v g low high j q inside below x gx w =
     let G = getD (n .groups) (pred g) emptyGroup in
     let G′ = placed (paper01 .perFrame * j + q) x G in
@@ -48,6 +41,8 @@ place-put {m} {m′} {n} p v g low high j q inside below x gx w =
     let whole = group-whole v g low high in
     let bounded = its-bounded v g low high j inside in
     let lx = length-place x gx in
+    let kept-empty : (fs : List ℕ) → countOf f fs ≡ 0 → Every (PageStands m) (map emptied fs) → Every (PageStands m′) (map emptied fs) =
+    λ fs none. frames-kept f q below x gx w (map emptied fs) (emptied-whole fs) (rw (emptied-numbers fs) none) in
     record {
       long = omega (arith, p .long, w .same-length);
       rest = rest-kept w (omega arith) (p .rest);
@@ -56,24 +51,24 @@ place-put {m} {m′} {n} p v g low high j q inside below x gx w =
       queued = w .below 2 (omega arith) ∙ p .queued;
       free-count = w .below 3 (omega arith) ∙ p .free-count;
       queue = kept-below w 4 _ (omega (arith, length-queue (n .queue))) (p .queue);
-      free = kept-below w 164 _ (omega (arith, length-line (map frameNumber (n .free)))) (p .free);
+      free = kept-below w 164 _ (omega (arith, length-line (n .free))) (p .free);
       groups = λ i h.
           let each = kept-below w (groupsAt + groupStride * i) (groupWords (getD (n .groups) i emptyGroup))
           (omega (arith, length-group (getD (n .groups) i emptyGroup))) (p .groups i h) in
           set-cases (λ H. Stands m′ (groupsAt + groupStride * i) (groupWords H)) (n .groups) i (pred g) G′ (omega arith)
           (λ same. subst (λ (k : ℕ). Stands m′ (groupsAt + groupStride * i) (groupWords (getD (n .groups) k emptyGroup))) same each) (λ other. each);
       paging = kept-above w pagingAt _ (omega arith) (p .paging);
-      free-frames = frames-kept f q below x gx w (n .free) (v .free-good) (its-free v g low high j inside) (p .free-frames);
-      swap-frames = frames-kept f q below x gx w (n .paging .swap) (v .swap-good) (its-swap v g low high j inside) (p .swap-frames);
-      group-frames = λ i h.
-          set-cases (λ H. Every (FrameStands m′) (framesOf paper01 H)) (n .groups) i (pred g) G′ (omega arith)
+      free-pages = kept-empty (n .free) (its-free v g low high j inside) (p .free-pages);
+      swap-pages = kept-empty (n .paging .swap) (its-swap v g low high j inside) (p .swap-pages);
+      group-pages = λ i h.
+          set-cases (λ H. Every (PageStands m′) (pagesOf paper01 H)) (n .groups) i (pred g) G′ (omega arith)
           (λ same. frames-put f q below x gx w (G .buffer .frames) (G .buffer .places) j inside refl (its-once v g low high j inside)
-          (whole .whole) (whole .places) (p .group-frames (pred g) (omega arith)))
+          (whole .whole) (whole .places) (p .group-pages (pred g) (omega arith)))
           (λ other.
           let H = getD (n .groups) i emptyGroup in
           let good = every-getD WholeGroup (n .groups) i emptyGroup (v .groups-whole) (omega arith) in
-          frames-kept f q below x gx w (framesOf paper01 H) (good-from paper01 (H .buffer .frames) (H .buffer .places) (good .whole) (good .places))
-          (rw (numbers-from paper01 (H .buffer .frames) (H .buffer .places)) (its-other v g low high j inside i h other)) (p .group-frames i h));
+          frames-kept f q below x gx w (pagesOf paper01 H) (good-from paper01 (H .buffer .frames) (H .buffer .places) (good .whole) (good .places))
+          (rw (numbers-from paper01 (H .buffer .frames) (H .buffer .places)) (its-other v g low high j inside i h other)) (p .group-pages i h));
     }
 
 -- the address of the place behind the last message of group g's buffer, as it is read from memory
@@ -92,7 +87,7 @@ pub putting-held : {m m₁ m₂ : List ℕ} {n : Node} {r : List ℕ} → Holds 
     → Wrote m m₁ (endPlace m (x .group)) (placeWords (placeOf x))
     → Wrote m₁ m₂ (groupAddress (x .group)) (counted m m₁ (x .group))
     → Holds m₂ (putting x n) r
-unfolding putting withFree withGroup withBuffer withCounts groupWords framesOf placed appended groupOf
+unfolding putting withFree withGroup withBuffer withCounts groupWords pagesOf placed appended groupOf
 putting-held {m} {m₁} {m₂} {n} {r} h x low high room w₁ w₂ =
     let g = x .group in
     let v = h .mapped in
@@ -114,7 +109,7 @@ putting-held {m} {m₁} {m₂} {n} {r} h x low high room w₁ w₂ =
     let p₁ : Pieces m₁ n′ r = place-put p v g low high (end / 8) (end % 8) inside (omega arith) (placeOf x) good w₁′ in
     let same : getD (set (n .groups) (pred g) G′) (pred g) emptyGroup ≡ G′ = getD-set-same (n .groups) (pred g) G′ emptyGroup (omega arith) in
     let stands : Stands m₁ a (groupWords G′) = rw same at (record-stands p₁ g low high) in
-    let frames : Every (FrameStands m₁) (framesOf paper01 G′) = rw same at (p₁ .group-frames (pred g) (omega arith)) in
+    let frames : Every (PageStands m₁) (pagesOf paper01 G′) = rw same at (p₁ .group-pages (pred g) (omega arith)) in
     let e : 8 * (end / 8) + end % 8 ≡ end = omega arith in
     let G″ = withBuffer (appended x B) G in
     let w₂′ : Wrote m₁ m₂ a (groupWords G″) =
@@ -135,7 +130,7 @@ putting-held {m} {m₁} {m₂} {n} {r} h x low high room w₁ w₂ =
       whole = length-set (B .places) end (placeOf x) ∙ whole .whole;
       places = every-set GoodPlace (B .places) end (placeOf x) (whole .places) good;
     })
-    (v .free-good) (v .free-short) (λ w. refl))
+    (v .free-short) (λ w. refl))
     (subst (λ (k : Node). Pieces m₂ k r) over p₂)
 
 pub putting-kept : {m m₁ m₂ : List ℕ} {n : Node} {r : List ℕ} → Holds m n r → (x : Message) (g : ℕ) → x .group ≡ g → 1 ≤ g → g ≤ groupCount → Room g n

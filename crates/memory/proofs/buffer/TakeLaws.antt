@@ -3,16 +3,16 @@ use Prim.Native.Nat.{_*_, _+_, _≤_, _<_, pred, suc, ℕ}
 use native.Mathlib.Omega.{arith}
 use mathlib.Core.List.{List, [], _++_, _∷_, map}
 use mathlib.Core.Path.{_≡_, ap, refl, subst, _∙_}
-use lib.ListN.{drop, getD, length, length-append, length-drop, length-map, take}
+use lib.ListN.{drop, getD, length, length-append, length-drop, take}
 use lib.Seq.{drop-append-le, take-all, take-append-le}
 use Rattle.rules.specs.Build.{groupCount, pageCount, paper01}
 use Rattle.rules.specs.Frames.{extended, takeFrame, withStock}
 use Rattle.rules.specs.Lists.{Every}
-use Rattle.rules.specs.Memory.{enteredAt, enteredCountAt, freeAt, freeCountAt, groupAddress, heldOffset, listOffset, word, wordsAt}
-use Rattle.rules.specs.Node.{Frame, Node, Place, groupOf, withBuffer, withEntered, withFree, withGroup, withPaging}
-use Rattle.rules.specs.Paging.{framesFrom, framesOf}
-use Rattle.rules.specs.Valid.{GoodFrame, GoodPlace, frameNumber}
+use Rattle.rules.specs.Memory.{enteredAt, enteredCountAt, freeAt, freeCountAt, groupAddress, heldOffset, listOffset, word, wordsAt, pagesFrom, pagesOf}
+use Rattle.rules.specs.Node.{Node, Place, groupOf, withBuffer, withEntered, withFree, withGroup, withPaging, emptyPage}
+use Rattle.rules.specs.Valid.{GoodPlace}
 use Rattle.rules.proofs.Steps.EveryLaws.{every-append}
+use Rattle.rules.proofs.Steps.FrameLaws.{length-page, page-good}
 use Rattle.rules.proofs.Steps.ListLaws.{length-pad, weight, weight-append}
 use Rattle.memory.specs.Holds.{FrameLeft, Holds, InOrder, OrderRoom, departing, entering, granting, taking, withBoth}
 use Rattle.memory.specs.Lines.{InLine, Joined, Left, indexOf}
@@ -21,7 +21,7 @@ use Rattle.memory.proofs.LinePieces.{entered-held, entered-line, free-l
 use Rattle.memory.proofs.group.GroupLaws.{group-whole, group-words, list-wrote, mapped-group, record-line, record-stands, withPages}
 use Rattle.memory.proofs.lines.LineLaws.{LineStands, LineWrote, joined-wrote, left-above, left-length, left-wrote, length-lacking, line-first, line-read, may-join, may-leave}
 use Rattle.memory.proofs.lines.IndexLaws.{index-below, without-index}
-use Rattle.memory.proofs.PieceLaws.{FrameStands, Pieces, holds-pieces, pieces-hold}
+use Rattle.memory.proofs.PieceLaws.{PageStands, Pieces, holds-pieces, pieces-hold, emptied}
 use Rattle.memory.proofs.PieceWrites.{frames-above, group-put}
 
 -- The order of entry.
@@ -71,8 +71,8 @@ departing-held {m} {m′} {n} {r} h f once gone =
 
 -- a buffer's frames with one more
 from-append : (fs : List ℕ) (ps : List Place) (k : ℕ) (qs : List Place) → length ps ≡ length fs * paper01 .perFrame
-    → framesFrom paper01 (fs ++ (k ∷ [])) (ps ++ qs) ≡ framesFrom paper01 fs ps ++ (record { number = k; places = take (paper01 .perFrame) qs } ∷ [])
-unfolding framesFrom
+    → pagesFrom paper01 (fs ++ (k ∷ [])) (ps ++ qs) ≡ pagesFrom paper01 fs ps ++ (record { number = k; places = take (paper01 .perFrame) qs } ∷ [])
+unfolding pagesFrom
 from-append [] [] k qs h = refl
 from-append [] (p ∷ ps) k qs h = absurd (omega arith)
 from-append (f ∷ fs) ps k qs h =
@@ -81,11 +81,11 @@ from-append (f ∷ fs) ps k qs h =
 
 -- a frame goes from the front of the free line to the end of a group's list
 granted : {m m₁ m₂ : List ℕ} {n : Node} {r : List ℕ} → Holds m n r → (g : ℕ) → 1 ≤ g → g ≤ groupCount
-    → (x : Frame) (fs : List Frame) → n .free ≡ x ∷ fs
-    → LineWrote m m₁ freeCountAt freeAt (paper01 .frames) (map frameNumber fs)
-    → Joined m₁ m₂ (groupAddress g + heldOffset) (groupAddress g + listOffset) (x .number)
-    → Holds m₂ (withBoth g fs (extended x (groupOf n g .buffer)) n) r
-unfolding extended withBoth withFree withGroup withBuffer withPages framesOf groupOf frameNumber
+    → (x : ℕ) (fs : List ℕ) → n .free ≡ x ∷ fs
+    → LineWrote m m₁ freeCountAt freeAt (paper01 .frames) fs
+    → Joined m₁ m₂ (groupAddress g + heldOffset) (groupAddress g + listOffset) x
+    → Holds m₂ (withBoth g fs (extended paper01 x (groupOf n g .buffer)) n) r
+unfolding extended withBoth withFree withGroup withBuffer withPages pagesOf groupOf
 granted {m} {m₁} {m₂} {n} {r} h g low high x fs e w came =
     let v = h .mapped in
     let p = holds-pieces h in
@@ -95,44 +95,41 @@ granted {m} {m₁} {m₂} {n} {r} h g low high x fs e w came =
     let whole = group-whole v g low high in
     let short = lists-short v g low high in
     let many : length (n .free) ≡ suc (length fs) = ap length e in
-    let good : Every (GoodFrame paper01) (x ∷ fs) = rw e at (v .free-good) in
-    let stand : Every (FrameStands m) (x ∷ fs) = rw e at (p .free-frames) in
+    let page = emptyPage paper01 in
+    let stand : Every (PageStands m) (map emptied (x ∷ fs)) = rw e at (p .free-pages) in
     let p₁ : Pieces m₁ (withFree fs n) r = free-put p fs (stand .1) w in
-    let lw = length-pad (paper01 .frames) (map frameNumber fs) in
-    let s₁ = frames-above (w .counted) (omega arith) (x ∷ []) (frames-above (w .numbers) (omega arith) (x ∷ []) (stand .0, tt)) in
+    let lw = length-pad (paper01 .frames) fs in
+    let s₁ = frames-above (w .counted) (omega arith) (emptied x ∷ []) (frames-above (w .numbers) (omega arith) (emptied x ∷ []) (stand .0, tt)) in
     let record₁ = record-stands p₁ g low high in
-    let longer : List ℕ = B .frames ++ (x .number ∷ []) in
-    let places : List Place = B .places ++ x .places in
-    let l : length longer ≡ length (B .frames) + 1 = length-append (B .frames) (x .number ∷ []) in
+    let longer : List ℕ = B .frames ++ (x ∷ []) in
+    let places : List Place = B .places ++ page in
+    let l : length longer ≡ length (B .frames) + 1 = length-append (B .frames) (x ∷ []) in
     let list = joined-wrote (record-line m₁ a G (whole .descriptor) (omega arith) record₁) (omega arith) came in
     let wg = list-wrote a G longer places record₁ list in
-    let all : take 8 (x .places) ≡ x .places = take-all 8 (x .places) (omega (arith, good .0 .whole)) in
-    let frames : Every (FrameStands m₁) (framesFrom paper01 longer places) =
-    rw (from-append (B .frames) (B .places) (x .number) (x .places) (whole .whole), all)
-    (every-append (FrameStands m₁) (framesFrom paper01 (B .frames) (B .places)) (x ∷ []) .1 (p₁ .group-frames (pred g) (omega arith), s₁)) in
+    let all : take 8 page ≡ page = take-all 8 page (omega (arith, length-page paper01)) in
+    let frames : Every (PageStands m₁) (pagesFrom paper01 longer places) =
+    rw (from-append (B .frames) (B .places) x page (whole .whole), all)
+    (every-append (PageStands m₁) (pagesFrom paper01 (B .frames) (B .places)) (emptied x ∷ []) .1 (p₁ .group-pages (pred g) (omega arith), s₁)) in
     pieces-hold
     (mapped-group v g low high (withPages longer places G) fs
     (record {
       descriptor = whole .descriptor;
-      whole = omega (arith, length-append (B .places) (x .places), good .0 .whole, whole .whole, l);
-      places = every-append GoodPlace (B .places) (x .places) .1 (whole .places, good .0 .places);
+      whole = omega (arith, length-append (B .places) page, length-page paper01, whole .whole, l);
+      places = every-append GoodPlace (B .places) page .1 (whole .places, page-good paper01);
     })
-    (good .1) (omega (arith, v .free-short)) (λ u. rw e (unweighed u)))
+    (omega (arith, v .free-short)) (λ u. rw e (unweighed u)))
     (group-put p₁ g low high (v .group-count) (withPages longer places G) wg frames)
   where
-    unweighed : (w : ℕ → ℕ) → weight w (map frameNumber fs) + weight w (groupOf n g .buffer .frames ++ (x .number ∷ []))
-        ≡ weight w (map frameNumber (x ∷ fs)) + weight w (groupOf n g .buffer .frames)
-    unweighed w = omega (arith, weight-append w (groupOf n g .buffer .frames) (x .number ∷ []))
+    unweighed : (w : ℕ → ℕ) → weight w fs + weight w (groupOf n g .buffer .frames ++ (x ∷ []))
+        ≡ weight w (x ∷ fs) + weight w (groupOf n g .buffer .frames)
+    unweighed w = omega (arith, weight-append w (groupOf n g .buffer .frames) (x ∷ []))
 
 module _ {m : List ℕ} {n : Node} {r : List ℕ} (h : Holds m n r) (g : ℕ) (left : FrameLeft n) where
-  some-free : 1 ≤ length (map frameNumber (n .free))
-  some-free = omega (arith, left .some, length-map (n .free) frameNumber)
-
   -- a frame may leave the free line
   pub free-within : InLine m freeCountAt freeAt × (0 < word m freeCountAt)
   free-within =
       let long = holds-pieces h .long in
-      may-leave (free-line (holds-pieces h) (h .mapped .free-short)) (omega arith) (omega arith) 0 some-free
+      may-leave (free-line (holds-pieces h) (h .mapped .free-short)) (omega arith) (omega arith) 0 (left .some)
 
   -- and join the list
   pub list-room : {m₁ : List ℕ} {f : ℕ} → 1 ≤ g → g ≤ groupCount → Left m m₁ freeCountAt freeAt 0 f
@@ -150,29 +147,29 @@ module _ {m : List ℕ} {n : Node} {r : List ℕ} (h : Holds m n r) (g : ℕ) (l
 
   pub granting-held : {m₁ m₂ : List ℕ} → 1 ≤ g → g ≤ groupCount → (f : ℕ) → Left m m₁ freeCountAt freeAt 0 f
       → Joined m₁ m₂ (groupAddress g + heldOffset) (groupAddress g + listOffset) f → Holds m₂ (granting g n) r
-  unfolding granting takeFrame frameNumber
+  unfolding granting takeFrame
   granting-held {m₁} {m₂} low high f gone came = go (n .free) refl
     where
-      go : (fs : List Frame) → n .free ≡ fs
-          → Holds m₂ (withBoth g (takeFrame fs (n .paging .entered) (groupOf n g .buffer) .free) (takeFrame fs (n .paging .entered) (groupOf n g .buffer) .buffer) n) r
+      go : (fs : List ℕ) → n .free ≡ fs
+          → Holds m₂ (withBoth g (takeFrame paper01 fs (n .paging .entered) (groupOf n g .buffer) .free) (takeFrame paper01 fs (n .paging .entered) (groupOf n g .buffer) .buffer) n) r
       go [] e = absurd (omega (arith, left .some, ap length e))
       go (x ∷ fs) e =
-          let t = left-wrote (free-line (holds-pieces h) (h .mapped .free-short)) some-free gone in
-          let number : f ≡ x .number = t .0 ∙ ap (λ (ys : List Frame). getD (map frameNumber ys) 0 0) e in
+          let t = left-wrote (free-line (holds-pieces h) (h .mapped .free-short)) (left .some) gone in
+          let number : f ≡ x = t .0 ∙ ap (λ (ys : List ℕ). getD ys 0 0) e in
           granted h g low high x fs e (rw e at (t .1)) (rw number at came)
 
   -- with the frame that stood in front it is all that taking does
   pub granting-entered : entering (word m freeAt) (granting g n) ≡ taking g n
-  unfolding entering granting taking takeFrame withBoth withStock withFree withPaging withEntered withGroup groupOf frameNumber
+  unfolding entering granting taking takeFrame withBoth withStock withFree withPaging withEntered withGroup groupOf
   granting-entered = go (n .free) refl
     where
-      go : (fs : List Frame) → n .free ≡ fs
-          → entering (word m freeAt) (withBoth g (takeFrame fs (n .paging .entered) (groupOf n g .buffer) .free) (takeFrame fs (n .paging .entered) (groupOf n g .buffer) .buffer) n)
-          ≡ withStock g (takeFrame fs (n .paging .entered) (groupOf n g .buffer)) n
+      go : (fs : List ℕ) → n .free ≡ fs
+          → entering (word m freeAt) (withBoth g (takeFrame paper01 fs (n .paging .entered) (groupOf n g .buffer) .free) (takeFrame paper01 fs (n .paging .entered) (groupOf n g .buffer) .buffer) n)
+          ≡ withStock g (takeFrame paper01 fs (n .paging .entered) (groupOf n g .buffer)) n
       go [] e = absurd (omega (arith, left .some, ap length e))
       go (x ∷ fs) e =
-          let front = line-first (free-line (holds-pieces h) (h .mapped .free-short)) some-free in
-          let number : word m freeAt ≡ x .number = front ∙ ap (λ (ys : List Frame). getD (map frameNumber ys) 0 0) e in
+          let front = line-first (free-line (holds-pieces h) (h .mapped .free-short)) (left .some) in
+          let number : word m freeAt ≡ x = front ∙ ap (λ (ys : List ℕ). getD ys 0 0) e in
           rw number
 
   -- the order of entry has a place for it

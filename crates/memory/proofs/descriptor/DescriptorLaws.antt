@@ -6,9 +6,8 @@ use mathlib.Core.Path.{_∙_, _≡_, ap, refl, sym}
 use lib.ListN.{length, length-append, set}
 use Rattle.rules.specs.Build.{groupCount, wordLimit}
 use Rattle.rules.specs.Lists.{pad}
-use Rattle.rules.specs.Memory.{describedOffset, descriptorOffset, groupAddress, groupWords, listWords, word, wordsAt}
+use Rattle.rules.specs.Memory.{describedOffset, descriptorOffset, groupAddress, groupWords, listWords, word, wordsAt, pagesOf}
 use Rattle.rules.specs.Node.{Node, groupOf, withDescriptor, withFree}
-use Rattle.rules.specs.Paging.{framesOf}
 use Rattle.rules.proofs.Steps.ListLaws.{length-pad}
 use Rattle.rules.proofs.Map.MapWords.{pad-stands, wordsAt-stands}
 use Rattle.memory.specs.Descriptors.{descriptorOf, redescribed}
@@ -50,7 +49,7 @@ module _ {m : List ℕ} {n : Node} {r : List ℕ} (h : Holds m n r) (g : ℕ) (l
   -- and written
   pub descriptor-held : {m₁ m₂ : List ℕ} (d : List ℕ) → length d ≤ wordLimit → Wrote m m₁ (groupAddress g + describedOffset) (length d ∷ [])
       → Wrote m₁ m₂ (groupAddress g + descriptorOffset) (pad wordLimit d) → Holds m₂ (redescribed g d n) r
-  unfolding redescribed withDescriptor withFree framesOf groupOf groupWords
+  unfolding redescribed withDescriptor withFree pagesOf groupOf groupWords
   descriptor-held {m₁} {m₂} d few w₁ w₂ =
       let v = h .mapped in
       let pieces = holds-pieces h in
@@ -61,5 +60,5 @@ module _ {m : List ℕ} {n : Node} {r : List ℕ} (h : Holds m n r) (g : ℕ) (l
       (recordFront G ++ (length (G .buffer .frames) ∷ []))
       (length (G .descriptor) ∷ pad wordLimit (G .descriptor)) (listWords (G .buffer .frames)) refl (ap suc (length-pad wordLimit (G .descriptor) ∙ sym (length-pad wordLimit d))) (record-stands pieces g low high) in
       pieces-hold
-      (mapped-group v g low high (withDescriptor d G) (n .free) (record { descriptor = few; whole = whole .whole; places = whole .places }) (v .free-good) (v .free-short) (λ x. refl))
-      (group-put pieces g low high (v .group-count) (withDescriptor d G) all (pieces .group-frames (pred g) (omega arith)))
+      (mapped-group v g low high (withDescriptor d G) (n .free) (record { descriptor = few; whole = whole .whole; places = whole .places }) (v .free-short) (λ x. refl))
+      (group-put pieces g low high (v .group-count) (withDescriptor d G) all (pieces .group-pages (pred g) (omega arith)))

@@ -9,11 +9,10 @@ use mathlib.Core.Path.{_∙_, _≡_, refl, sym, ap}
 use lib.Dec.{ltb}
 use lib.ListN.{getD, length, length-set}
 use Rattle.rules.specs.Build.{groupCount, pageCount, paper01, wordLimit}
-use Rattle.rules.specs.Lists.{Every, pad}
-use Rattle.rules.specs.Memory.{flagWord, framesAt, groupAddress, groupStride, groupWords, groupsAt, heldOffset, listOffset, listWords, word, countOffset, revokedOffset}
-use Rattle.rules.specs.Node.{Frame, Group, Node, Place, emptyGroup, groupOf, withBuffer, withFree, withPaging, withEntered, withGroup, bufferHolds, withFlags, withTimerFlags}
-use Rattle.rules.specs.Paging.{framesOf}
-use Rattle.rules.specs.Valid.{GoodFrame, frameNumbers, idle}
+use Rattle.rules.specs.Lists.{pad}
+use Rattle.rules.specs.Memory.{flagWord, framesAt, groupAddress, groupStride, groupWords, groupsAt, heldOffset, listOffset, listWords, word, countOffset, revokedOffset, pagesOf}
+use Rattle.rules.specs.Node.{Group, Node, Place, emptyGroup, groupOf, withBuffer, withFree, withPaging, withEntered, withGroup, bufferHolds, withFlags, withTimerFlags}
+use Rattle.rules.specs.Valid.{frameNumbers, idle}
 use Rattle.rules.proofs.Steps.EveryLaws.{every-getD, every-set}
 use Rattle.rules.proofs.Steps.FrameLaws.{SameFrames}
 use Rattle.rules.proofs.Steps.ListLaws.{length-pad, weight}
@@ -21,7 +20,7 @@ use Rattle.rules.proofs.Map.MapParts.{GroupStands, group-stands}
 use Rattle.rules.proofs.Map.MapWords.{Stands, stands-append}
 use Rattle.rules.proofs.Steps.NodeLaws.{reweighed, weights-count, weights-length}
 use Rattle.rules.specs.Sound.{Mapped, WholeGroup}
-use Rattle.memory.specs.Holds.{Holds, flagging, timerFlagging}
+use Rattle.memory.specs.Holds.{Holds, flagging, timerFlagging, withCounts}
 use Rattle.memory.specs.Writes.{Wrote, groupFront, groupRead, reflagged, retimed, recounted}
 use Rattle.memory.proofs.CountLaws.{lists-short}
 use Rattle.memory.proofs.lines.LineLaws.{LineStands, LineWrote}
@@ -109,11 +108,11 @@ list-wrote a G fs ps s w =
 
 -- A node with frames exchanged between the free line and a group can be mapped.
 
-pub mapped-group : {n : Node} → Mapped n → (g : ℕ) → 1 ≤ g → g ≤ groupCount → (G : Group) (fs : List Frame) → WholeGroup G
-    → Every (GoodFrame paper01) fs → length fs ≤ paper01 .frames → SameFrames fs (G .buffer .frames) (n .free) (groupOf n g .buffer .frames)
+pub mapped-group : {n : Node} → Mapped n → (g : ℕ) → 1 ≤ g → g ≤ groupCount → (G : Group) (fs : List ℕ) → WholeGroup G
+    → length fs ≤ paper01 .frames → SameFrames fs (G .buffer .frames) (n .free) (groupOf n g .buffer .frames)
     → Mapped (withGroup g G (withFree fs n))
 unfolding withGroup withFree withPaging withEntered frameNumbers idle
-mapped-group {n} v g low high G fs whole free-good few even =
+mapped-group {n} v g low high G fs whole few even =
     let old = frameNumbers n in
     let new = frameNumbers (withGroup g G (withFree fs n)) in
     let frames : (w : ℕ → ℕ) → weight w new ≡ weight w old = reweighed n g G fs (n .paging .entered) (omega (arith, v .group-count)) even in
@@ -122,8 +121,6 @@ mapped-group {n} v g low high G fs whole free-good few even =
       queue-good = v .queue-good;
       group-count = length-set (n .groups) (pred g) G ∙ v .group-count;
       groups-whole = every-set WholeGroup (n .groups) (pred g) G (v .groups-whole) whole;
-      free-good = free-good;
-      swap-good = v .swap-good;
       frames-once = λ f below. weights-count old new frames f ∙ v .frames-once f below;
       frames-all = weights-length old new frames ∙ v .frames-all;
       free-short = few;
@@ -161,20 +158,16 @@ record-wrote a F G s w =
 -- the node has them
 record-held : {m m′ : List ℕ} {n : Node} {r : List ℕ} → Holds m n r → (g : ℕ) → 1 ≤ g → g ≤ groupCount → (F : Group)
     → Wrote m m′ (groupAddress g) (recordFront F) → Holds m′ (withGroup g (withFront F (groupOf n g)) n) r
-unfolding withFront withFree framesOf groupOf
+unfolding withFront withFree pagesOf groupOf
 record-held {n = n} held g low high F w =
     let v = held .mapped in
     let pieces = holds-pieces held in
     let whole = group-whole v g low high in
     let G = withFront F (groupOf n g) in
     pieces-hold
-    (mapped-group v g low high G (n .free) (record { descriptor = whole .descriptor; whole = whole .whole; places = whole .places }) (v .free-good) (v .free-short) (λ x. refl))
+    (mapped-group v g low high G (n .free) (record { descriptor = whole .descriptor; whole = whole .whole; places = whole .places }) (v .free-short) (λ x. refl))
     (group-put pieces g low high (v .group-count) G (record-wrote (groupAddress g) F (groupOf n g) (record-stands pieces g low high) w)
-    (pieces .group-frames (pred g) (omega arith)))
-
--- a group with these counts
-unfoldable pub withCounts : ℕ → ℕ → Group → Group
-withCounts h k G = withBuffer (record { used = h; count = k; frames = G .buffer .frames; places = G .buffer .places }) G
+    (pieces .group-pages (pred g) (omega arith)))
 
 -- the counts are written, and the flags as they are read
 pub counts-wrote : {m m′ : List ℕ} (g : ℕ) (G : Group) → length (G .descriptor) ≤ wordLimit → length (G .buffer .frames) ≤ pageCount paper01

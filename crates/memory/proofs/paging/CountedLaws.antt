@@ -2,17 +2,17 @@
 -- else. Assumes nothing.
 use Prim.Native.Nat.{ℕ, _+_, _<_}
 use native.Mathlib.Omega.{arith}
-use mathlib.Core.List.{List, [], _∷_, map}
+use mathlib.Core.List.{List, [], _∷_}
 use mathlib.Core.Logic.{_≢_}
 use mathlib.Core.Path.{_≡_, refl, ap, _∙_}
 use borrow.Author.Tests.{eq-eqb}
 use Rattle.rules.specs.Build.{paper01, pageCount}
 use Rattle.rules.specs.Lists.{concatMap, countOf}
 use Rattle.rules.specs.Memory.{outAt, broughtAt, word}
-use Rattle.rules.specs.Node.{Frame, Node, withPaging}
+use Rattle.rules.specs.Node.{Node, withPaging}
 use Rattle.rules.specs.Paging.{more}
 use Rattle.rules.specs.Sound.{Listed, Sound}
-use Rattle.rules.specs.Valid.{frameList, frameNumber}
+use Rattle.rules.specs.Valid.{frameList}
 use Rattle.rules.proofs.Steps.PagingLaws.{counted}
 use Rattle.memory.specs.Holds.{Holds}
 use Rattle.memory.specs.Writes.{Wrote}
@@ -50,28 +50,26 @@ brought-held {n = n} h w =
 -- A number that stands in a line.
 
 -- the front of a line is counted
-front-counted : (xs : List Frame) (y : Frame) (ys : List Frame) → xs ≡ y ∷ ys
-    → countOf (y .number) (map frameNumber xs) ≡ 1 + countOf (y .number) (map frameNumber ys)
-unfolding frameNumber
-front-counted xs y ys e = ap (λ (l : List Frame). countOf (y .number) (map frameNumber l)) e ∙ rw (eq-eqb (y .number) (y .number) refl)
+front-counted : (xs : List ℕ) (y : ℕ) (ys : List ℕ) → xs ≡ y ∷ ys → countOf y xs ≡ 1 + countOf y ys
+front-counted xs y ys e = ap (countOf y) e ∙ rw (eq-eqb y y refl)
 
 -- the front of the swap line stands nowhere else
-pub swap-alone : {n : Node} → Sound paper01 n → (s : Frame) (ss : List Frame) → n .paging .swap ≡ s ∷ ss → s .number < pageCount paper01
-    → (countOf (s .number) (map frameNumber (n .free)) ≡ 0)
-    × ((countOf (s .number) (map frameNumber ss) ≡ 0) × (countOf (s .number) (concatMap frameList (n .groups)) ≡ 0))
+pub swap-alone : {n : Node} → Sound paper01 n → (s : ℕ) (ss : List ℕ) → n .paging .swap ≡ s ∷ ss → s < pageCount paper01
+    → (countOf s (n .free) ≡ 0)
+    × ((countOf s ss ≡ 0) × (countOf s (concatMap frameList (n .groups)) ≡ 0))
 swap-alone {n} sound s ss e below =
-    let all = counted sound (s .number) in
-    let once = sound .frames-once (s .number) below in
+    let all = counted sound s in
+    let once = sound .frames-once s below in
     let here = front-counted (n .paging .swap) s ss e in
     (omega arith, (omega arith, omega arith))
 
 -- and so does the front of the free line
-pub free-alone : {n : Node} → Sound paper01 n → (f : Frame) (fs : List Frame) → n .free ≡ f ∷ fs → f .number < pageCount paper01
-    → (countOf (f .number) (map frameNumber fs) ≡ 0)
-    × ((countOf (f .number) (map frameNumber (n .paging .swap)) ≡ 0) × (countOf (f .number) (concatMap frameList (n .groups)) ≡ 0))
+pub free-alone : {n : Node} → Sound paper01 n → (f : ℕ) (fs : List ℕ) → n .free ≡ f ∷ fs → f < pageCount paper01
+    → (countOf f fs ≡ 0)
+    × ((countOf f (n .paging .swap) ≡ 0) × (countOf f (concatMap frameList (n .groups)) ≡ 0))
 free-alone {n} sound f fs e below =
-    let all = counted sound (f .number) in
-    let once = sound .frames-once (f .number) below in
+    let all = counted sound f in
+    let once = sound .frames-once f below in
     let here = front-counted (n .free) f fs e in
     (omega arith, (omega arith, omega arith))
 

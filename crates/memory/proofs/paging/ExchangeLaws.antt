@@ -8,10 +8,11 @@ use lib.ListN.{length}
 use Rattle.rules.specs.Build.{paper01, pageCount}
 use Rattle.rules.specs.Frames.{without}
 use Rattle.rules.specs.Memory.{broughtAt, outAt, word}
-use Rattle.rules.specs.Node.{Frame, Node, withEntered, withGroups, withPaging}
-use Rattle.rules.specs.Paging.{bringIn, exchange, leaving, more, trading, victim}
+use Rattle.rules.specs.Node.{Node, withEntered, withGroups, withPaging}
+use Rattle.rules.specs.Paging.{bringIn, exchange, more, trading, victim}
 use Rattle.rules.specs.Sound.{Listed, Mapped, Sound}
-use Rattle.rules.proofs.Steps.PagingLaws.{bring-sound, count-in, entered-below, leaving-good, listed-once, victim-stands}
+use Rattle.rules.proofs.Steps.ListLaws.{every-counted}
+use Rattle.rules.proofs.Steps.PagingLaws.{bring-sound, entered-below, listed-below, listed-once, victim-stands}
 use Rattle.rules.proofs.Steps.SoundLaws.{line-lengths, sound-mapped}
 use Rattle.memory.specs.Holds.{Holds, InOrder, OrderRoom, departing, entering}
 use Rattle.memory.specs.Lines.{indexOf}
@@ -20,8 +21,7 @@ use Rattle.memory.specs.Writes.{Wrote}
 use Rattle.memory.proofs.PieceLaws.{holds-pieces, pieces-hold}
 use Rattle.memory.proofs.lines.IndexLaws.{index-below, without-index}
 use Rattle.memory.proofs.lines.LineLaws.{length-lacking}
-use Rattle.memory.proofs.paging.IdleLaws.{leaving-stands, mapped-laid, swapped-put}
-use Rattle.memory.proofs.paging.MoveLaws.{stands-below}
+use Rattle.memory.proofs.paging.IdleLaws.{mapped-laid, swapped-put}
 use Rattle.memory.proofs.paging.PiecesLaws.{laid-listing}
 use Rattle.memory.proofs.paging.CountedLaws.{brought-held, broughtMore, out-held, outMore}
 
@@ -65,26 +65,22 @@ module _ {p : ℕ} {n : Node} (c : Exchanging p n) where
       omega (arith, ap length shorter, length-lacking (indexOf (victim n) (n .paging .entered)) (n .paging .entered) below, line-lengths sound)
 
   module _ {m r : List ℕ} (h : Holds m (renewed n) r) where
-    below : (q : ℕ) → Listed q n → q < pageCount paper01
-    unfolding renewed withPaging leaving
-    below q l = stands-below (leaving paper01 q n) (leaving-good sound q l) (leaving-stands (holds-pieces h) (sound .group-count) q l)
-
     -- the pages can be exchanged: the victim is in a frame, and p is not
     pub renewed-ready : ((victim n < p) × (p < pageCount paper01)) × Listing m
     unfolding renewed withPaging
     renewed-ready =
-        let frame = count-in (λ k. k < paper01 .frames) (victim n) (n .paging .entered) (entered-below sound) (omega (arith, victim-ordered)) in
-        ((omega (arith, c .away .high), below p (c .away .owned .listed)), laid-listing (holds-pieces h) (mapped-laid (h .mapped)))
+        let frame = every-counted (λ k. k < paper01 .frames) (victim n) (n .paging .entered) (entered-below sound) (omega (arith, victim-ordered)) in
+        ((omega (arith, c .away .high), listed-below sound p (c .away .owned .listed)), laid-listing (holds-pieces h) (mapped-laid (h .mapped)))
 
     pub exchanged-held : {m₁ : List ℕ} → PagesSwapped m m₁ (victim n) p → Holds m₁ (bringing p n) r
     unfolding renewed bringIn exchange trading withGroups withPaging
     exchanged-held {m₁} swapped = go (n .free) (c .full) (sound-mapped (bring-sound sound p (c .away .high) (c .away .owned .listed)))
       where
-        go : (fs : List Frame) → fs ≡ [] → Mapped (bringIn paper01 p fs n) → Holds m₁ (bringIn paper01 p fs n) r
+        go : (fs : List ℕ) → fs ≡ [] → Mapped (bringIn p fs n) → Holds m₁ (bringIn p fs n) r
         go [] e mapped =
             let listed = c .away .owned .listed in
             let one = listed-once sound (victim n) victim-listed in
             let other = listed-once sound p listed in
             pieces-hold mapped
-            (swapped-put (holds-pieces h) (mapped-laid (h .mapped)) (victim n) p (below (victim n) victim-listed) (below p listed) (other .0) (other .1 .0) (one .0) (one .1 .0) swapped)
+            (swapped-put (holds-pieces h) (mapped-laid (h .mapped)) (victim n) p (listed-below sound (victim n) victim-listed) (listed-below sound p listed) (other .0) (other .1 .0) (one .0) (one .1 .0) swapped)
         go (x ∷ fs) e mapped = absurd (omega (arith, ap length e))

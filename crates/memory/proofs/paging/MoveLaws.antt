@@ -5,18 +5,19 @@ use native.Mathlib.Omega.{arith}
 use mathlib.Core.Path.{_≡_, refl, sym, ap, _∙_}
 use mathlib.Core.Logic.{_≢_}
 use mathlib.Core.List.{List, [], _∷_, map}
-use lib.ListN.{drop}
+use lib.ListN.{drop, length, replicate}
 use Rattle.rules.specs.Build.{paper01, pageCount}
 use Rattle.rules.specs.Lists.{Every, concatMap}
-use Rattle.rules.specs.Node.{Frame, Place}
-use Rattle.rules.specs.Memory.{frameAddress, frameStride, framesAt, pagingAt, placeWords, word, wordsAt}
-use Rattle.rules.specs.Paging.{framesFrom, traded}
-use Rattle.rules.specs.Valid.{GoodFrame}
+use Rattle.rules.specs.Node.{Place}
+use Rattle.rules.specs.Memory.{frameAddress, frameStride, framesAt, pagingAt, placeWords, word, wordsAt, Page, pagesFrom}
+use Rattle.rules.specs.Paging.{traded}
 use Rattle.rules.proofs.Steps.PagingLaws.{traded-first, traded-other, traded-second}
+use Rattle.rules.proofs.Map.MapFrames.{page-length}
 use Rattle.rules.proofs.Map.MapWords.{Stands, length-wordsAt, wordsAt-stands}
 use Rattle.memory.specs.Writes.{Wrote, Swapped}
-use Rattle.memory.proofs.PieceLaws.{FrameStands, frame-stands, length-good}
+use Rattle.memory.proofs.PieceLaws.{PageStands, page-stands, WholePage, emptied}
 use Rattle.memory.proofs.WriteLaws.{same-wordsAt}
+use Rattle.rules.proofs.Map.PageLaws.{empty-good}
 
 -- what a number is traded for, by what it is
 traded-cases : (P : ℕ → ℕ → Type 0) (p q x : ℕ) → (x ≡ p → P p q) → (x ≢ p → x ≡ q → P q p) → (x ≢ p → x ≢ q → P x x) → P x (traded p q x)
@@ -42,59 +43,75 @@ abbrev pub Follows : List ℕ → List ℕ → ℕ → ℕ → Type 0
 Follows m m′ x y = wordsAt m′ (frameAddress y) frameStride ≡ wordsAt m (frameAddress x) frameStride
 
 -- a page with these words stands there
-pub page-follows : {m m′ : List ℕ} (x : Frame) (k : ℕ) → GoodFrame paper01 x → k < pageCount paper01 → Follows m m′ (x .number) k → FrameStands m x
-    → FrameStands m′ (record { number = k; places = x .places })
+pub page-follows : {m m′ : List ℕ} (x : Page) (k : ℕ) → WholePage x → k < pageCount paper01 → Follows m m′ (x .number) k → PageStands m x
+    → PageStands m′ (record { number = k; places = x .places })
 unfolding Stands
 page-follows {m} {m′} x k good below same s =
-    let l = length-good x good in
-    frame-stands m′ (record { number = k; places = x .places }) (record { whole = good .whole; places = good .places }) below
+    let l = page-length (x .places) good in
+    page-stands m′ (record { number = k; places = x .places }) (record { whole = good .whole; places = good .places }) below
     (ap (wordsAt m′ (frameAddress k)) l ∙ same ∙ wordsAt-stands m (frameAddress (x .number)) frameStride (concatMap placeWords (x .places)) l (s .stands))
 
 -- a page that stands is one of the 96
-pub stands-below : {m : List ℕ} (x : Frame) → GoodFrame paper01 x → FrameStands m x → x .number < pageCount paper01
+pub stands-below : {m : List ℕ} (x : Page) → WholePage x → PageStands m x → x .number < pageCount paper01
 unfolding frameAddress
-stands-below x good s = omega (arith, length-good x good, s .inside)
+stands-below x good s = omega (arith, page-length (x .places) good, s .inside)
 
--- pages of numbers at which the words stay stand as they did
-pub pages-kept : (m m′ : List ℕ) (xs : List Frame) → Every (GoodFrame paper01) xs → Every (λ x. Follows m m′ (x .number) (x .number)) xs
-    → Every (FrameStands m) xs → Every (FrameStands m′) xs
-pages-kept m m′ [] good same s = tt
-pages-kept m m′ (x ∷ xs) good same s =
-    (page-follows x (x .number) (good .0) (stands-below x (good .0) (s .0)) (same .0) (s .0), pages-kept m m′ xs (good .1) (same .1) (s .1))
+-- empty pages of numbers at which the words stay are empty still
+pub empty-kept : (m m′ : List ℕ) (fs : List ℕ) → Every (λ f. Follows m m′ f f) fs → Every (PageStands m) (map emptied fs) → Every (PageStands m′) (map emptied fs)
+empty-kept m m′ [] same s = tt
+empty-kept m m′ (f ∷ fs) same s =
+    let good = empty-good paper01 in
+    (page-follows (emptied f) f good (stands-below (emptied f) good (s .0)) (same .0) (s .0), empty-kept m m′ fs (same .1) (s .1))
 
 -- the pages of a buffer whose words go where their numbers do
 pub pages-follow : (m m′ : List ℕ) (p q : ℕ) → p < pageCount paper01 → q < pageCount paper01 → (fs : List ℕ) (ps : List Place)
-    → Every (GoodFrame paper01) (framesFrom paper01 fs ps) → Every (λ x. Follows m m′ x (traded p q x)) fs
-    → Every (FrameStands m) (framesFrom paper01 fs ps) → Every (FrameStands m′) (framesFrom paper01 (map (traded p q) fs) ps)
-unfolding framesFrom
+    → Every WholePage (pagesFrom paper01 fs ps) → Every (λ x. Follows m m′ x (traded p q x)) fs
+    → Every (PageStands m) (pagesFrom paper01 fs ps) → Every (PageStands m′) (pagesFrom paper01 (map (traded p q) fs) ps)
+unfolding pagesFrom
 pages-follow m m′ p q lp lq [] ps good same s = tt
 pages-follow m m′ p q lp lq (f ∷ fs) ps good same s =
     let below = stands-below _ (good .0) (s .0) in
     let inside : traded p q f < pageCount paper01 = traded-cases (λ y z. z < pageCount paper01) p q f (λ e. lq) (λ d e. lp) (λ d e. below) in
     (page-follows _ (traded p q f) (good .0) inside (same .0) (s .0), pages-follow m m′ p q lp lq fs (drop 8 ps) (good .1) (same .1) (s .1))
 
--- A page is copied.
+-- A page is written over.
 
-module _ {m m′ : List ℕ} (p q : ℕ) (w : Wrote m m′ (frameAddress q) (wordsAt m (frameAddress p) frameStride)) where
+module _ {m m′ ws : List ℕ} (q : ℕ) (long : length ws ≡ frameStride) (w : Wrote m m′ (frameAddress q) ws) where
   -- the others keep their words
-  pub copied-kept : (x : ℕ) → x ≢ q → Follows m m′ x x
+  pub wrote-kept : (x : ℕ) → x ≢ q → Follows m m′ x x
   unfolding frameAddress
-  copied-kept x other = same-wordsAt m m′ (frameAddress x) frameStride (λ b l h. go b l h (decLt x q))
+  wrote-kept x other = same-wordsAt m m′ (frameAddress x) frameStride (λ b l h. go b l h (decLt x q))
     where
       go : (b : ℕ) → frameAddress x ≤ b → b < frameAddress x + frameStride → Dec (x < q) → word m′ b ≡ word m b
       go b l h (yes less) = w .below b (omega arith)
-      go b l h (no more) = w .above b (omega (arith, other, length-wordsAt m (frameAddress p) frameStride))
-
-  -- and every page but the one written over is where its number says
-  pub copied-follows : (x : ℕ) → x ≢ q → Follows m m′ x (traded p q x)
-  copied-follows x other =
-      traded-cases (Follows m m′) p q x (λ e. rw (length-wordsAt m (frameAddress p) frameStride) at (w .here)) (λ d e. absurd (other e))
-      (λ d e. copied-kept x other)
+      go b l h (no more) = w .above b (omega (arith, other))
 
   -- what is no page's stays
-  pub copied-else : q < pageCount paper01 → (b : ℕ) → (b < framesAt → word m′ b ≡ word m b) × (pagingAt ≤ b → word m′ b ≡ word m b)
+  wrote-else : q < pageCount paper01 → (b : ℕ) → (b < framesAt → word m′ b ≡ word m b) × (pagingAt ≤ b → word m′ b ≡ word m b)
   unfolding frameAddress
-  copied-else below b = (λ h. w .below b (omega arith), λ h. w .above b (omega (arith, length-wordsAt m (frameAddress p) frameStride)))
+  wrote-else below b = (λ h. w .below b (omega arith), λ h. w .above b (omega arith))
+
+-- A page is copied, and what it leaves is wiped.
+
+module _ {m m₁ m₂ : List ℕ} (p q : ℕ) (apart : p ≢ q) (w : Wrote m m₁ (frameAddress q) (wordsAt m (frameAddress p) frameStride))
+    (z : Wrote m₁ m₂ (frameAddress p) (replicate frameStride 0)) where
+  -- the others keep their words
+  pub moved-kept : (x : ℕ) → x ≢ p → x ≢ q → Follows m m₂ x x
+  moved-kept x d e = wrote-kept p refl z x d ∙ wrote-kept q (length-wordsAt m (frameAddress p) frameStride) w x e
+
+  -- and every page but the one written over is where its number says
+  pub moved-follows : (x : ℕ) → x ≢ q → Follows m m₂ x (traded p q x)
+  moved-follows x other =
+      traded-cases (Follows m m₂) p q x
+      (λ e. wrote-kept p refl z q (λ same. apart (sym same)) ∙ rw (length-wordsAt m (frameAddress p) frameStride) at (w .here))
+      (λ d e. absurd (other e)) (λ d e. moved-kept x d other)
+
+  -- what is no page's stays
+  pub moved-else : p < pageCount paper01 → q < pageCount paper01 → (b : ℕ) → (b < framesAt → word m₂ b ≡ word m b) × (pagingAt ≤ b → word m₂ b ≡ word m b)
+  moved-else lp lq b =
+      let first = wrote-else q (length-wordsAt m (frameAddress p) frameStride) w lq b in
+      let second = wrote-else p refl z lp b in
+      (λ h. second .0 h ∙ first .0 h, λ h. second .1 h ∙ first .1 h)
 
 -- Two pages are exchanged.
 

@@ -1,5 +1,5 @@
 -- The pieces of a node after pages have moved and their numbers were traded in the lists: every page of every list stands at the address of
--- its new number, the pages of the two lines stand where they did, and each group's record has the traded list. Assumes nothing.
+-- its new number, those of the two lines are empty as they were, and each group's record has the traded list. Assumes nothing.
 use Prim.Native.Nat.{ℕ, _+_, _-_, _*_, _≤_, _<_}
 use native.Mathlib.Decide.{ℕ-discrete}
 use native.Mathlib.Omega.{arith}
@@ -8,30 +8,27 @@ use mathlib.Core.List.{List, [], _∷_, _++_, map}
 use lib.ListN.{length, getD, replicate, length-map, length-replicate, List·getD-map}
 use Rattle.rules.specs.Build.{paper01, pageCount, groupCount}
 use Rattle.rules.specs.Lists.{Every, concatMap, pad}
-use Rattle.rules.specs.Memory.{frameAddress, framesAt, groupAddress, groupStride, groupWords, groupsAt, heldOffset, listAt, listOffset, listWords, pagingAt, placeWords, queueAt, freeAt, size, word, wordsAt}
-use Rattle.rules.specs.Node.{Frame, Group, Node, emptyGroup, withBuffer, withGroups}
-use Rattle.rules.specs.Paging.{framesFrom, framesOf, traded, tradedIn, trading}
+use Rattle.rules.specs.Memory.{frameAddress, framesAt, groupAddress, groupStride, groupWords, groupsAt, heldOffset, listAt, listOffset, listWords, pagingAt, placeWords, queueAt, freeAt, size, word, wordsAt, Page, pagesFrom, pagesOf}
+use Rattle.rules.specs.Node.{Group, Node, emptyGroup, withBuffer, withGroups}
+use Rattle.rules.specs.Paging.{traded, tradedIn, trading}
 use Rattle.rules.specs.Sound.{WholeGroup}
-use Rattle.rules.specs.Valid.{GoodFrame, frameNumber}
 use Rattle.rules.proofs.Steps.EveryLaws.{every-getD, every-mono}
 use Rattle.rules.proofs.Steps.ListLaws.{pad-fits}
-use Rattle.rules.proofs.Steps.PageLaws.{good-from}
+use Rattle.rules.proofs.Map.PageLaws.{good-from}
 use Rattle.rules.proofs.Map.MapParts.{length-group}
 use Rattle.rules.proofs.Map.MapRead.{length-line, length-queue}
 use Rattle.rules.proofs.Map.MapWords.{Stands, stands-append, stands-cons}
 use Rattle.memory.specs.Paging.{InList, Listing, Traded}
 use Rattle.memory.proofs.group.GroupLaws.{beforeList, length-before, recordFront}
-use Rattle.memory.proofs.PieceLaws.{FrameStands, Pieces, same-drop}
+use Rattle.memory.proofs.PieceLaws.{PageStands, Pieces, same-drop, emptied}
 use Rattle.memory.proofs.WriteLaws.{same-stands}
-use Rattle.memory.proofs.paging.MoveLaws.{Follows, pages-follow, pages-kept}
+use Rattle.memory.proofs.paging.MoveLaws.{Follows, empty-kept, pages-follow}
 
--- a node whose groups are whole and whose lists fit, as are those of a node that can be mapped and of one with a page taken out of a line
+-- a node whose groups are whole and whose lists fit, as are those of a node that can be mapped and of one with a number taken out of a line
 pub record Laid (n : Node) : Type 0 where
   pub group-count : length (n .groups) ≡ groupCount
   pub groups-whole : Every WholeGroup (n .groups)
   pub short : (i : ℕ) → i < groupCount → length (getD (n .groups) i emptyGroup .buffer .frames) ≤ pageCount paper01
-  pub free-good : Every (GoodFrame paper01) (n .free)
-  pub swap-good : Every (GoodFrame paper01) (n .paging .swap)
 
 -- how many pages a group has is read
 held-read : (m : List ℕ) (a : ℕ) (G : Group) → Stands m a (groupWords G) → word m (a + heldOffset) ≡ length (G .buffer .frames)
@@ -114,10 +111,10 @@ module _ {m m′ : List ℕ} {p q : ℕ} (L : Listing m) (s : Traded m m′ p q 
           rw at at (traded-beside i (b - a) li (omega arith) (λ k. let o = out (omega arith) in rw e (omega arith)))
 
   -- pages stand as they did
-  frames-traded : (xs : List Frame) → Every (FrameStands m) xs → Every (FrameStands m′) xs
+  frames-traded : (xs : List Page) → Every (PageStands m) xs → Every (PageStands m′) xs
   unfolding frameAddress
   frames-traded =
-      every-mono (FrameStands m) (FrameStands m′) (λ x t.
+      every-mono (PageStands m) (PageStands m′) (λ x t.
       record {
         stands = same-stands m m′ (frameAddress (x .number)) (concatMap placeWords (x .places)) (λ b l h. traded-above b (omega arith)) (t .stands);
         inside = t .inside;
@@ -145,9 +142,9 @@ module _ {m m₁ m₂ : List ℕ} {n : Node} {r : List ℕ} (k : Pieces m n r) (
   above b h = traded-above moved-listing s b (omega arith) ∙ else b .1 h
 
   -- the node has the pages where they are now
-  pub pages-put : Every (λ x. Follows m m₁ (x .number) (x .number)) (n .free) → Every (λ x. Follows m m₁ (x .number) (x .number)) (n .paging .swap)
+  pub pages-put : Every (λ f. Follows m m₁ f f) (n .free) → Every (λ f. Follows m m₁ f f) (n .paging .swap)
       → ((i : ℕ) → i < groupCount → Every (λ x. Follows m m₁ x (traded p q x)) (getD (n .groups) i emptyGroup .buffer .frames)) → Pieces m₂ (trading p q n) r
-  unfolding trading withGroups framesOf tradedIn withBuffer
+  unfolding trading withGroups pagesOf tradedIn withBuffer
   pages-put free swap lists =
       let L = moved-listing in
       record {
@@ -158,23 +155,23 @@ module _ {m m₁ m₂ : List ℕ} {n : Node} {r : List ℕ} (k : Pieces m n r) (
         queued = below 2 (omega arith) ∙ k .queued;
         free-count = below 3 (omega arith) ∙ k .free-count;
         queue = same-stands m m₂ queueAt _ (λ b l h. below b (omega (arith, length-queue (n .queue)))) (k .queue);
-        free = same-stands m m₂ freeAt _ (λ b l h. below b (omega (arith, length-line (map frameNumber (n .free))))) (k .free);
+        free = same-stands m m₂ freeAt _ (λ b l h. below b (omega (arith, length-line (n .free)))) (k .free);
         groups = λ i h.
             let G = getD (n .groups) i emptyGroup in
             subst (λ (H : Group). Stands m₂ (groupsAt + groupStride * i) (groupWords H)) (sym (List·getD-map (tradedIn p q) (n .groups) i emptyGroup))
             (group-traded L s i h G (v .short i h)
             (same-stands m m₁ (groupsAt + groupStride * i) (groupWords G) (λ b l j. else b .0 (omega (arith, length-group G))) (k .groups i h)));
         paging = same-stands m m₂ pagingAt _ (λ b l h. above b l) (k .paging);
-        free-frames = frames-traded L s (n .free) (pages-kept m m₁ (n .free) (v .free-good) free (k .free-frames));
-        swap-frames = frames-traded L s (n .paging .swap) (pages-kept m m₁ (n .paging .swap) (v .swap-good) swap (k .swap-frames));
-        group-frames = λ i h.
+        free-pages = frames-traded L s (map emptied (n .free)) (empty-kept m m₁ (n .free) free (k .free-pages));
+        swap-pages = frames-traded L s (map emptied (n .paging .swap)) (empty-kept m m₁ (n .paging .swap) swap (k .swap-pages));
+        group-pages = λ i h.
             let G = getD (n .groups) i emptyGroup in
             let whole : WholeGroup G = every-getD WholeGroup (n .groups) i emptyGroup (v .groups-whole) (omega (arith, v .group-count)) in
-            subst (λ (H : Group). Every (FrameStands m₂) (framesOf paper01 H)) (sym (List·getD-map (tradedIn p q) (n .groups) i emptyGroup))
-            (frames-traded L s (framesFrom paper01 (map (traded p q) (G .buffer .frames)) (G .buffer .places)) (pages-follow m m₁ p q lp lq (G .buffer .frames) (G .buffer .places)
-            (good-from paper01 (G .buffer .frames) (G .buffer .places) (whole .whole) (whole .places)) (lists i h) (k .group-frames i h)));
+            subst (λ (H : Group). Every (PageStands m₂) (pagesOf paper01 H)) (sym (List·getD-map (tradedIn p q) (n .groups) i emptyGroup))
+            (frames-traded L s (pagesFrom paper01 (map (traded p q) (G .buffer .frames)) (G .buffer .places)) (pages-follow m m₁ p q lp lq (G .buffer .frames) (G .buffer .places)
+            (good-from paper01 (G .buffer .frames) (G .buffer .places) (whole .whole) (whole .places)) (lists i h) (k .group-pages i h)));
       }
 
-  -- a page beside, where the words stayed, stands too
-  pub beside-put : (x : Frame) → GoodFrame paper01 x → Follows m m₁ (x .number) (x .number) → FrameStands m x → FrameStands m₂ x
-  beside-put x good follows st = frames-traded moved-listing s (x ∷ []) (pages-kept m m₁ (x ∷ []) (good, tt) (follows, tt) (st, tt)) .0
+  -- a page that stood after the move stands too
+  pub beside-put : (x : Page) → PageStands m₁ x → PageStands m₂ x
+  beside-put x st = frames-traded moved-listing s (x ∷ []) (st, tt) .0

@@ -10,7 +10,7 @@ use borrow.Author.Tests.{eq-eqb, le-ltb, lt-ltb, ne-eqb}
 use Rattle.rules.specs.Build.{groupCount, paper01}
 use Rattle.rules.specs.Frames.{put}
 use Rattle.rules.specs.Memory.{freeCountAt, groupAddress, heldOffset, listOffset, runningAt, word, usedOffset, countOffset}
-use Rattle.rules.specs.Node.{Frame, Message, Node, groupOf}
+use Rattle.rules.specs.Node.{Message, Node, groupOf}
 use Rattle.rules.specs.Paging.{firstResident, freed, inFrame, nextPage, prepared, resident, runnerResident, store}
 use Rattle.rules.specs.Sound.{Sound}
 use Rattle.rules.proofs.Steps.FrameLaws.{fits}
@@ -27,7 +27,7 @@ use Rattle.memory.proofs.paging.RunnerLaws.{runner-first, runner-held, 
 
 -- Whether a frame is free.
 
-no-frame : (fs : List Frame) → length fs ≡ 0 → fs ≡ []
+no-frame : (fs : List ℕ) → length fs ≡ 0 → fs ≡ []
 no-frame [] e = refl
 no-frame (f ∷ fs) e = absurd (omega arith)
 
@@ -58,7 +58,7 @@ module _ {g : ℕ} (low : 1 ≤ g) (high : g ≤ groupCount) {n : Node} (c : Wan
   prepared-room l = rw (lt-ltb _ _ l)
 
   -- else a free frame
-  prepared-full : length (groupOf n g .buffer .places) ≤ groupOf n g .buffer .used + groupOf n g .buffer .count → freed paper01 (n .free) n ≡ prepared paper01 g n
+  prepared-full : length (groupOf n g .buffer .places) ≤ groupOf n g .buffer .used + groupOf n g .buffer .count → freed (n .free) n ≡ prepared paper01 g n
   unfolding prepared
   prepared-full l = rw (le-ltb _ _ l)
 
@@ -99,15 +99,15 @@ module _ {g : ℕ} (low : 1 ≤ g) (high : g ≤ groupCount) {n : Node} (c : Wan
 
       pub full-sent : word m freeCountAt ≡ 0 → sending n ≡ prepared paper01 g n
       unfolding freed
-      full-sent e = sym (ap (λ (fs : List Frame). freed paper01 fs n) (none-free h e)) ∙ prepared-full is-full
+      full-sent e = sym (ap (λ (fs : List ℕ). freed fs n) (none-free h e)) ∙ prepared-full is-full
 
       pub full-ready : word m freeCountAt ≢ 0 → n ≡ prepared paper01 g n
       unfolding freed
       full-ready d = go (n .free) refl ∙ prepared-full is-full
         where
-          go : (fs : List Frame) → n .free ≡ fs → n ≡ freed paper01 (n .free) n
+          go : (fs : List ℕ) → n .free ≡ fs → n ≡ freed (n .free) n
           go [] e = absurd (omega (arith, some-free h (omega (arith, d)), ap length e))
-          go (f ∷ fs) e = sym (ap (λ (l : List Frame). freed paper01 l n) e)
+          go (f ∷ fs) e = sym (ap (λ (l : List ℕ). freed l n) e)
 
   -- it can be stored then
   pub prepared-storable : Storable g (prepared paper01 g n)
@@ -160,6 +160,6 @@ module _ {m : List ℕ} {n : Node} {r : List ℕ} (h : Holds m n r) (s : Sound p
           go (f ∷ fs) q = rw q
 
 -- A message of group g is stored by being put into the prepared node.
-pub prepared-put : (x : Message) (g : ℕ) (n : Node) → x .group ≡ g → put x (prepared paper01 g n) ≡ store paper01 x n
+pub prepared-put : (x : Message) (g : ℕ) (n : Node) → x .group ≡ g → put paper01 x (prepared paper01 g n) ≡ store paper01 x n
 unfolding store
 prepared-put x g n e = rw (sym e)

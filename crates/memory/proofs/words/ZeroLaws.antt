@@ -19,7 +19,7 @@ or-zero (suc x) y =
     rw (eqb·suc-zero x) (ne-eqb (bitOr (suc x) y) 0 (λ e. omega (arith, or-add-and (suc x) y, and-le-r (suc x) y)))
 
 -- either way round
-zero-swap : (x : ℕ) → eqb x 0 ≡ eqb 0 x
+pub zero-swap : (x : ℕ) → eqb x 0 ≡ eqb 0 x
 zero-swap zero = refl
 zero-swap (suc x) = eqb·suc-zero x ∙ sym (eqb·zero-suc x)
 

@@ -9,14 +9,14 @@ use mathlib.Core.Bool.{Bool, true, false}
 use mathlib.Core.List.{List, [], _∷_, _++_, map, map-map}
 use mathlib.Core.Logic.{_≢_}
 use mathlib.Core.Path.{_≡_, refl, sym, ap, _∙_}
-use lib.ListN.{length, getD, length-append, length-map}
+use lib.ListN.{length, getD, length-append}
 use borrow.Author.Tests.{eq-eqb, ne-eqb}
 use Rattle.rules.specs.Build.{Build, groupCount, pageCount}
 use Rattle.rules.specs.Frames.{ceilDiv, pledge, pledges}
 use Rattle.rules.specs.Lists.{Every, filter, concatMap, sum, upFrom}
 use Rattle.rules.specs.Node.{Group, Message, Node, emptyGroup, groupOf, inQueue, isOf, withQueue}
 use Rattle.rules.specs.Refusal.{queued}
-use Rattle.rules.specs.Valid.{GoodMessage, frameList, frameNumber, frameNumbers, idle}
+use Rattle.rules.specs.Valid.{GoodMessage, frameList, frameNumbers, idle}
 use Rattle.rules.proofs.Steps.EveryLaws.{every-append}
 use Rattle.rules.proofs.Steps.FrameLaws.{ceil-enough, ceil-least}
 use Rattle.rules.proofs.Steps.ListLaws.{count-weight, count-within, filter-append, filter-fail, filter-pass, hit, length-concatMap, map-upFrom, sum-le}
@@ -138,8 +138,7 @@ early {b} {n} s x good free =
       arith,
       pledges-held s (n .queue ++ (x ∷ [])) (every-append GoodMessage (n .queue) (x ∷ []) .1 (s .queue-good, (good, tt))),
       length-append (n .queue) (x ∷ []),
-      length-append (map frameNumber (idle n)) (concatMap frameList (n .groups)),
-      length-map (idle n) frameNumber,
+      length-append (idle n) (concatMap frameList (n .groups)),
       length-append (n .free) (n .paging .swap),
       s .frames-all,
     )

@@ -88,7 +88,7 @@ pub removed-direct : {n : Node} → Valid paper01 n → bufferHolds n (n .runnin
 unfolding removed dropping
 removed-direct v e = rw (e, without-running v)
 
--- a group whose buffer holds a message has one to remove, and its first page is in a frame
+-- a group whose buffer holds a message has one to remove, its first page is in a frame, and its other places are wiped
 pub buffered-waits : {n : Node} → Running n → bufferHolds n (n .running) ≡ true → Waits (n .running) n
 unfolding bufferHolds ceilDiv
 buffered-waits {n} run e =
@@ -101,6 +101,7 @@ buffered-waits {n} run e =
       held = held;
       entered = first-entered (valid-sound (run .valid)) (n .running) (run .some) (run .valid .running-bound) held (run .valid .runner-resident (run .some));
       order = omega (arith, line-lengths (valid-sound (run .valid)));
+      wiped = good .unused-wiped;
     }
 
 -- and one whose buffer holds none, with a line, the queue's head

@@ -24,7 +24,7 @@ use Rattle.node.specs.Steps.{Headed, headOf, movingHead}
 -- for storing does not
 store-queue : (b : Build) (m : Message) (q : List Message) (n : Node) → store b m (withQueue q n) ≡ withQueue q (store b m n)
 unfolding store put withRoom withStock withGroup withFree withPaging withEntered withQueue groupOf
-store-queue b m q n = ap (put m) (prepared-queue b q (m .group) n)
+store-queue b m q n = ap (put b m) (prepared-queue b q (m .group) n)
 
 -- and leaves the queue
 store-kept : (b : Build) (m : Message) (n : Node) → store b m n .queue ≡ n .queue

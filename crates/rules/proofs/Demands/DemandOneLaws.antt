@@ -10,14 +10,13 @@ use borrow.Author.Tests.{le-leb, lt-leb}
 use lib.ListN.{length, drop, length-append}
 use Rattle.rules.specs.Lists.{passes}
 use Rattle.rules.specs.Build.{Build, paper01}
-use Rattle.rules.specs.Node.{Node, emptyFrame, emptyPaging, powerOn}
+use Rattle.rules.specs.Node.{Node, emptyPage, emptyPaging, powerOn}
 use Rattle.rules.specs.Operation.{Operation, notNode, refused}
 use Rattle.rules.specs.Refusal.{refusal}
 use Rattle.rules.specs.Step.{Stepped, finish, step}
-use Rattle.rules.specs.Paging.{framesFrom, framesOf, placesOf}
-use Rattle.rules.specs.Memory.{size, flagWord, queueWords, lineWords, listWords, groupWords, placeWords, allFrames, frameWords, pagingWords, words, nodeAt}
+use Rattle.rules.specs.Memory.{size, flagWord, queueWords, lineWords, listWords, groupWords, placeWords, pagesFrom, pagesOf, placesOf, allPages, frameWords, pagingWords, words, nodeAt}
 use Rattle.rules.specs.MemoryTest.{memoryTests, isMemory, MemoryStep, replaced, stepMemory, powerOnMemory}
-use Rattle.rules.specs.Valid.{frameNumber, idle, Valid}
+use Rattle.rules.specs.Valid.{Valid}
 use Rattle.rules.specs.Script.{readLine}
 use Rattle.rules.specs.Conditions.{FirstDue}
 use Rattle.rules.specs.DemandOne.{onlyNumber, powerOnWords, AnyStep, AnyPowerOn, DemandOne}
@@ -141,7 +140,7 @@ any-step m op =
 
 power-on-words : words (powerOn paper01) ≡ powerOnWords
 unfolding
-    powerOn emptyFrame emptyPaging frameNumber idle flagWord queueWords lineWords listWords groupWords placeWords framesFrom framesOf placesOf allFrames frameWords pagingWords words
+    powerOn emptyPage emptyPaging flagWord queueWords lineWords listWords groupWords placeWords pagesFrom pagesOf placesOf allPages frameWords pagingWords words
 power-on-words = refl
 
 power-on-long : (m : List ℕ) → size ≤ length m → powerOnMemory m ≡ record { report = onlyNumber 0; memory = powerOnWords ++ drop size m }

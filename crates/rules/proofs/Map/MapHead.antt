@@ -5,27 +5,29 @@
 use Prim.Native.Nat.{ℕ, zero, suc, pred, _+_, _-_, _*_, _≤_, _<_}
 use mathlib.Core.Path.{_≡_, refl, sym, ap, _∙_}
 use mathlib.Core.Bool.{Bool, true, false, true≢false, false≢true}
-use mathlib.Core.List.{List, [], _∷_, map}
+use mathlib.Core.List.{List, [], _∷_}
+use native.Mathlib.Nat.{add-zero, zero-add}
 use native.Mathlib.Omega.{arith}
 use lib.Dec.{eqb}
-use lib.ListN.{length, take, drop, getD, List·getD-append}
+use lib.ListN.{length, take, drop, getD}
 use lib.Seq.{drop-cons}
 use borrow.Author.Tests.{ltb-true, ne-eqb}
-use Rattle.rules.specs.Lists.{Every, isEmpty, concatMap}
+use Rattle.rules.specs.Lists.{Every, isEmpty}
 use Rattle.rules.specs.Build.{paper01, pageCount, groupCount, wordLimit}
 use Rattle.rules.specs.Node.{Message, Place, Buffer, Group, Node, emptyGroup, emptyPlace, groupOf, bufferHolds, messageOf, waiting, inBuffer, isOf, inQueue, line}
-use Rattle.rules.specs.Valid.{GoodBuffer, Valid, frameNumber, frameList, idle, frameNumbers}
+use Rattle.rules.specs.Valid.{GoodBuffer, Valid, frameList}
 use Rattle.rules.specs.Memory.{queuedAt, queueAt, queueStride, groupsAt, groupStride, placeStride, listOffset, heldOffset, usedOffset}
-use Rattle.rules.specs.Memory.{word, wordsAt, frameAddress, groupAddress, messageAt, messagesAt, placeAt, framePlaces, listAt, bufferAt, groupAt, nodeAt}
+use Rattle.rules.specs.Memory.{word, wordsAt, frameAddress, groupAddress, messageAt, messagesAt, placeAt, listAt, bufferAt, groupAt, nodeAt}
 use Rattle.rules.specs.MemoryTest.{isMemory, Part, firstPlace, bufferPart, queuePart, runnerPart, headPart, headWords}
-use Rattle.rules.proofs.Steps.EveryLaws.{every-getD, every-append, every-concat}
-use Rattle.rules.proofs.Steps.ListLaws.{filter-pass, once-bounded}
-use Rattle.rules.proofs.Steps.SoundLaws.{valid-sound}
+use Rattle.rules.proofs.Steps.EveryLaws.{every-getD, every-concat}
+use Rattle.rules.proofs.Steps.ListLaws.{filter-pass}
+use Rattle.rules.proofs.Steps.SoundLaws.{valid-sound, valid-mapped}
 use Rattle.rules.proofs.Steps.FrameLaws.{fits, held}
 use Rattle.rules.proofs.Steps.NodeLaws.{is-of, within, group-good}
 use Rattle.rules.proofs.Steps.LineLaws.{stays, direct-line}
-use Rattle.rules.proofs.Map.MapWords.{take-wordsAt, wordsAt-part, length-wordsAt, length-records, record-at}
-use Rattle.rules.proofs.Map.MapParts.{messages, places, groups}
+use Rattle.rules.proofs.Map.MapWords.{getD-wordsAt, take-wordsAt, wordsAt-part, length-wordsAt, record-at}
+use Rattle.rules.proofs.Map.MapParts.{messages, groups}
+use Rattle.rules.proofs.Map.MapFrames.{page-place, both-bounded}
 use Rattle.rules.proofs.Map.MapTest.{memory-fits}
 use Rattle.rules.proofs.Map.MapLaws.{test-size, test-valid}
 
@@ -65,23 +67,18 @@ buffer-at m g low high =
 place-first : (m : List ℕ) (a : ℕ) (d : Place) → 1 ≤ word m (a + heldOffset) → word m (a + usedOffset) < paper01 .perFrame
     → getD (bufferAt m a .places) (word m (a + usedOffset)) d
     ≡ placeAt m (frameAddress (word m (a + listOffset)) + placeStride * word m (a + usedOffset))
-unfolding bufferAt listAt wordsAt framePlaces
+unfolding bufferAt listAt
 place-first m a d h l =
-    let e : word m (a + heldOffset) ≡ suc (word m (a + heldOffset) - 1) = omega arith in
-    let f = word m (a + listOffset) in
-    let l8 : length (framePlaces m f) ≡ paper01 .perFrame = length-records (places m) (frameAddress f) (paper01 .perFrame) in
-    rw e
-    (List·getD-append (framePlaces m f) _ d (word m (a + usedOffset)) (rw l8 l)
-    ∙ record-at (places m) d (frameAddress f) (paper01 .perFrame) (word m (a + usedOffset)) l)
+    let some = length-wordsAt m (a + listOffset) (word m (a + heldOffset)) in
+    let first : getD (listAt m a) 0 0 ≡ word m (a + listOffset) = rw add-zero at (getD-wordsAt m (a + listOffset) (word m (a + heldOffset)) 0 h) in
+    rw (← first) (rw zero-add at (page-place m (listAt m a) 0 (word m (a + usedOffset)) d (omega arith) l))
 
 -- the numbers of a group's frames are below 96
 list-bounded : (n : Node) → Valid paper01 n → (g : ℕ) → 1 ≤ g → g ≤ groupCount → Every (λ f. f < pageCount paper01) (frameList (groupOf n g))
-unfolding frameNumbers groupOf
+unfolding groupOf
 list-bounded n v g low high =
-    let all = once-bounded (pageCount paper01) (frameNumbers n) (v .frames-once) (v .frames-all) in
-    let lists = every-append (λ f. f < pageCount paper01) (map frameNumber (idle n)) (concatMap frameList (n .groups)) .0 all .1 in
     every-getD (λ G. Every (λ f. f < pageCount paper01) (frameList G)) (n .groups) (pred g) emptyGroup
-    (every-concat (λ f. f < pageCount paper01) frameList (n .groups) .0 lists) (within (valid-sound v) g low high)
+    (every-concat (λ f. f < pageCount paper01) frameList (n .groups) .0 (both-bounded n (valid-mapped v) .1)) (within (valid-sound v) g low high)
 
 -- the words of a part of the memory
 unfoldable partWords : List ℕ → Part → List ℕ

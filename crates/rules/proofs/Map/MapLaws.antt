@@ -1,29 +1,28 @@
 -- The laws of the memory map: it is one to one between valid nodes and the memories that pass the memory test. A valid node's map, whatever
 -- stands behind it, passes the test and is read back as that node; and a memory that passes the test is the map of the valid node that is
 -- read from it, with the rest behind it. The first is MapRead's; the second holds region by region, since each clause on words says that a
--- region has no more in it than the part that is read, and since each frame that is read has the places that stand at its number.
--- Assumes nothing.
-use Prim.Native.Nat.{ℕ, _+_, _-_, _*_, _≤_, _<_}
+-- region has no more in it than the part that is read, since each page that is read has the places that stand at its number, and since the
+-- clause on the frames and swap pages that no buffer holds says that they are 0. Assumes nothing.
+use Prim.Native.Nat.{ℕ, zero, suc, _+_, _-_, _*_, _≤_, _<_}
 use mathlib.Core.Path.{_≡_, refl, sym, ap, _∙_}
 use mathlib.Core.Bool.{true, false}
-use mathlib.Core.List.{List, _++_, map}
+use mathlib.Core.List.{List, _++_}
 use native.Mathlib.Omega.{arith}
-use lib.ListN.{length, drop, length-append, length-map}
+use lib.ListN.{length, drop, length-append}
 use Rattle.rules.specs.Lists.{Every, concatMap, countOf}
 use Rattle.rules.specs.Build.{paper01, pageCount, groupCount}
-use Rattle.rules.specs.Node.{Frame, Node}
-use Rattle.rules.specs.Valid.{Valid, frameNumber, idle}
-use Rattle.rules.specs.Paging.{framesOf, placesOf}
-use Rattle.rules.specs.Memory.{queuedAt, freeCountAt, queueAt, queueStride, freeAt, groupsAt, framesAt, frameStride, swapCountAt, swapAt, size}
-use Rattle.rules.specs.Memory.{word, wordsAt, messageWords, queueWords, lineWords, groupWords, placeWords, frameWords, words, allFrames, messageAt, messagesAt, placeAt, framePlaces, frameAt, frameAddress, bufferAt, listAt, groupAt, groupsFrom, pagingFrom, nodeAt}
-use Rattle.rules.specs.MemoryTest.{isMemory, pageCounts}
-use Rattle.rules.proofs.Steps.EveryLaws.{every-append, every-concat, every-of}
-use Rattle.rules.proofs.Steps.ListLaws.{length-parts}
+use Rattle.rules.specs.Node.{Node}
+use Rattle.rules.specs.Valid.{Valid, frameList, idle}
+use Rattle.rules.specs.Memory.{queuedAt, freeCountAt, queueAt, queueStride, freeAt, groupsAt, framesAt, frameStride, size}
+use Rattle.rules.specs.Memory.{word, wordsAt, messageWords, queueWords, lineWords, groupWords, placeWords, frameWords, words, Page, pagesOf, placesOf, allPages, messageAt, messagesAt, placeAt, framePlaces, frameAddress, bufferAt, listAt, groupAt, groupsFrom, nodeAt}
+use Rattle.rules.specs.MemoryTest.{zeroAt, isMemory, pageCounts}
+use Rattle.rules.proofs.Steps.EveryLaws.{every-concat, every-of}
+use Rattle.rules.proofs.Steps.ListLaws.{every-counted, length-parts}
 use Rattle.rules.proofs.Steps.SoundLaws.{valid-mapped}
-use Rattle.rules.proofs.Map.MapWords.{Stands, pad-stands, parts-stand, length-wordsAt, stands-wordsAt, front-stands, stands-front, records-stand, length-records, every-record}
+use Rattle.rules.proofs.Map.MapWords.{Stands, zeros-stand, pad-stands, parts-stand, length-wordsAt, stands-wordsAt, front-stands, stands-front, records-stand, length-records, every-record}
 use Rattle.rules.proofs.Map.MapParts.{messages, places, groups, length-message, length-place, length-group, message-at-stands, good-place-at, place-at-stands, group-at-stands, MessageFits, GroupFits}
-use Rattle.rules.proofs.Steps.PageLaws.{found}
-use Rattle.rules.proofs.Map.MapFrames.{all-numbers, length-frame, from-places, numbers-at, places-at}
+use Rattle.rules.proofs.Map.PageLaws.{found}
+use Rattle.rules.proofs.Map.MapFrames.{all-numbers, from-places, idle-words, unlisted-idle, length-frame}
 use Rattle.rules.proofs.Map.MapPaging.{paging-from-stands}
 use Rattle.rules.proofs.Map.MapTest.{Fits, memory-fits}
 use Rattle.rules.proofs.Map.MapRead.{MapStands, map-stands, words-length, read}
@@ -48,31 +47,40 @@ module _ (n : Node) (rest : List ℕ) (v : Valid paper01 n) where
 -- What passes the test is the map of the node that it holds.
 
 module _ (m : List ℕ) where
-  -- every frame of the node has the places of its number
-  places-all : Every (λ x. x .places ≡ framePlaces m (x .number)) (allFrames (nodeAt m))
-  unfolding allFrames idle nodeAt pagingFrom framesOf groupAt bufferAt
+  -- every page of the node has the places of its number
+  places-all : Every (λ x. x .places ≡ framePlaces m (x .number)) (allPages (nodeAt m))
+  unfolding allPages nodeAt pagesOf groupAt bufferAt
   places-all =
-      let P : Frame → Type 0 = λ x. x .places ≡ framePlaces m (x .number) in
-      let line = wordsAt m freeAt (word m freeCountAt) in
-      let swap = wordsAt m swapAt (word m swapCountAt) in
-      every-append P (idle (nodeAt m)) (concatMap (framesOf paper01) (groupsFrom m groupsAt groupCount)) .1 (
-        every-append P (map (frameAt m) line) (map (frameAt m) swap) .1 (places-at m line, places-at m swap),
-        every-concat P (framesOf paper01) (groupsFrom m groupsAt groupCount) .1
-            (every-record (groups m) (λ G. Every P (framesOf paper01 G))
-            (λ a. rw (from-places m (listAt m a)) (places-at m (listAt m a))) groupsAt groupCount),
-      )
+      let P : Page → Type 0 = λ x. x .places ≡ framePlaces m (x .number) in
+      every-concat P (pagesOf paper01) (groupsFrom m groupsAt groupCount) .1
+      (every-record (groups m) (λ G. Every P (pagesOf paper01 G)) (λ a. from-places m (listAt m a)) groupsAt groupCount)
 
 module _ (m : List ℕ) (f : Fits m) (v : Valid paper01 (nodeAt m)) where
-  -- so each frame's words stand where they are written
-  frame-stands : (j : ℕ) → j < pageCount paper01 → Stands m (framesAt + frameStride * j) (frameWords (allFrames (nodeAt m)) j)
-  unfolding frameWords framePlaces frameAddress
-  frame-stands j h =
-      let once : countOf j (map frameNumber (allFrames (nodeAt m))) ≡ 1 = rw (all-numbers (nodeAt m)) (v .frames-once j h) in
-      let t = found (λ x. x .places ≡ framePlaces m (x .number)) j (allFrames (nodeAt m)) (omega arith) (places-all m) in
-      let e : placesOf j (allFrames (nodeAt m)) ≡ framePlaces m j = t .1 .1 .0 ∙ t .1 .1 .1 ∙ ap (framePlaces m) (t .1 .0) in
+  -- so the words of a number in a list stand where they are written
+  listed-stands : (j : ℕ) → 1 ≤ countOf j (concatMap frameList (nodeAt m .groups)) → Stands m (frameAddress j) (frameWords (allPages (nodeAt m)) j)
+  unfolding frameWords framePlaces
+  listed-stands j h =
+      let t = found paper01 j (λ x. x .places ≡ framePlaces m (x .number)) (allPages (nodeAt m)) (rw (all-numbers (nodeAt m)) h) (places-all m) in
+      let e : placesOf paper01 j (allPages (nodeAt m)) ≡ framePlaces m j = t .1 .1 .0 ∙ t .1 .1 .1 ∙ ap (framePlaces m) (t .1 .0) in
       rw e
       (records-stand (places m) m placeWords (λ a. Unit {0})
       (λ a u. (length-place (placeAt m a) (good-place-at m a), place-at-stands m a)) (frameAddress j) (paper01 .perFrame) (λ i l. tt))
+
+  -- and those of another, which are 0
+  idle-stands : (j : ℕ) → j < pageCount paper01 → countOf j (concatMap frameList (nodeAt m .groups)) ≡ 0
+      → Stands m (frameAddress j) (frameWords (allPages (nodeAt m)) j)
+  idle-stands j h none =
+      let idle-zero = every-counted (λ k. zeroAt m (frameAddress k) frameStride ≡ true) j (idle (nodeAt m)) (f .idle-zero) (unlisted-idle (nodeAt m) (valid-mapped v) j h none) in
+      rw (idle-words (nodeAt m) j none) (zeros-stand m (frameAddress j) frameStride .1 idle-zero)
+
+  -- each number's
+  frame-stands : (j : ℕ) → j < pageCount paper01 → Stands m (framesAt + frameStride * j) (frameWords (allPages (nodeAt m)) j)
+  unfolding frameAddress
+  frame-stands j h = go (countOf j (concatMap frameList (nodeAt m .groups))) refl
+    where
+      go : (k : ℕ) → countOf j (concatMap frameList (nodeAt m .groups)) ≡ k → Stands m (framesAt + frameStride * j) (frameWords (allPages (nodeAt m)) j)
+      go zero e = idle-stands j h e
+      go (suc k) e = listed-stands j (omega arith)
 
   -- the queue
   queue-stands : Stands m queueAt (queueWords (messagesAt m queueAt (word m queuedAt)))
@@ -90,13 +98,12 @@ module _ (m : List ℕ) (f : Fits m) (v : Valid paper01 (nodeAt m)) where
       pad-stands m queueAt 160 (concatMap messageWords q) (omega arith) .1 (stand queueAt k (f .messages), rw (l, e) z)
 
   -- the free line
-  free-stands : Stands m freeAt (lineWords (map frameNumber (map (frameAt m) (wordsAt m freeAt (word m freeCountAt)))))
+  free-stands : Stands m freeAt (lineWords (wordsAt m freeAt (word m freeCountAt)))
   unfolding lineWords
   free-stands =
       let l = length-wordsAt m freeAt (word m freeCountAt) in
-      rw (numbers-at m (wordsAt m freeAt (word m freeCountAt)))
-      (pad-stands m freeAt (paper01 .frames) (wordsAt m freeAt (word m freeCountAt)) (rw l (f .free)) .1
-      (stands-wordsAt m freeAt (word m freeCountAt), rw l (f .free-zero)))
+      pad-stands m freeAt (paper01 .frames) (wordsAt m freeAt (word m freeCountAt)) (rw l (f .free)) .1
+      (stands-wordsAt m freeAt (word m freeCountAt), rw l (f .free-zero))
 
   -- the whole
   holds : MapStands m (nodeAt m)
@@ -107,14 +114,12 @@ module _ (m : List ℕ) (f : Fits m) (v : Valid paper01 (nodeAt m)) where
         running = refl;
         timer = refl;
         queued = sym (length-records (messages m) queueAt (word m queuedAt));
-        free-count =
-            sym (length-map (wordsAt m freeAt (word m freeCountAt)) (frameAt m)
-            ∙ length-wordsAt m freeAt (word m freeCountAt));
+        free-count = sym (length-wordsAt m freeAt (word m freeCountAt));
         queue = queue-stands;
         free = free-stands;
         groups = stand groupsAt groupCount (f .groups);
         frames =
-            parts-stand m (frameWords (allFrames (nodeAt m))) framesAt frameStride 0 (pageCount paper01) (λ j l h. length-frame (nodeAt m) (valid-mapped v) j h) .1
+            parts-stand m (frameWords (allPages (nodeAt m))) framesAt frameStride 0 (pageCount paper01) (λ j l h. length-frame (nodeAt m) (valid-mapped v) j) .1
             (λ j l h. frame-stands j h);
         paging = paging-from-stands m (f .paging);
       }

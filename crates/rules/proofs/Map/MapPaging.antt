@@ -2,21 +2,19 @@
 -- numbers of the two lines. It takes a hundred words; what stands at its address is read back there, and passes the memory test's clauses on
 -- it; and where those clauses pass, what stands there is the part that is read. Assumes nothing.
 use Prim.Native.Nat.{ℕ, _+_, _-_, _≤_}
-use mathlib.Core.Path.{_≡_, refl, sym, ap, _∙_}
+use mathlib.Core.Path.{_≡_, refl, sym}
 use mathlib.Core.Logic.{_↔_}
 use mathlib.Core.Bool.{true}
-use mathlib.Core.List.{List, map}
-use lib.ListN.{length, length-append, length-map}
+use mathlib.Core.List.{List}
+use lib.ListN.{length, length-append}
 use Rattle.rules.specs.Lists.{pad}
 use Rattle.rules.specs.Build.{paper01}
 use Rattle.rules.specs.Node.{Paging}
-use Rattle.rules.specs.Valid.{frameNumber}
 use Rattle.rules.specs.Memory.{pagingAt, swapCountAt, enteredCountAt, outAt, broughtAt, swapAt, enteredAt}
-use Rattle.rules.specs.Memory.{word, wordsAt, lineWords, pagingWords, frameAt, pagingFrom}
+use Rattle.rules.specs.Memory.{word, lineWords, pagingWords, pagingFrom}
 use Rattle.rules.specs.MemoryTest.{zeroAt}
 use Rattle.rules.proofs.Steps.ListLaws.{length-pad}
 use Rattle.rules.proofs.Map.MapWords.{Stands, stands-cons, stands-append, stands-wordsAt, wordsAt-stands, length-wordsAt, pad-stands}
-use Rattle.rules.proofs.Map.MapFrames.{numbers-at}
 
 -- it takes a hundred words
 pub length-paging : (s : Paging) → length (pagingWords s) ≡ 100
@@ -29,7 +27,7 @@ pub record PagingStands (m : List ℕ) (s : Paging) : Type 0 where
   pub entered-count : word m enteredCountAt ≡ length (s .entered)
   pub out : word m outAt ≡ s .out
   pub brought : word m broughtAt ≡ s .brought
-  pub swap : Stands m swapAt (map frameNumber (s .swap))
+  pub swap : Stands m swapAt (s .swap)
   pub swap-zero : zeroAt m (swapAt + length (s .swap)) (paper01 .swap - length (s .swap)) ≡ true
   pub entered : Stands m enteredAt (s .entered)
   pub entered-zero : zeroAt m (enteredAt + length (s .entered)) (paper01 .frames - length (s .entered)) ≡ true
@@ -47,9 +45,8 @@ module _ (m : List ℕ) where
       → Stands m pagingAt (pagingWords s) ↔ PagingStands m s
   unfolding pagingWords lineWords
   paging-stands s h l =
-      let both = stands-append m swapAt (pad (paper01 .swap) (map frameNumber (s .swap))) (lineWords (s .entered)) in
-      let numbers = length-map (s .swap) frameNumber in
-      let line = rw numbers at (pad-stands m swapAt (paper01 .swap) (map frameNumber (s .swap)) (rw numbers h)) in
+      let both = stands-append m swapAt (pad (paper01 .swap) (s .swap)) (lineWords (s .entered)) in
+      let line = pad-stands m swapAt (paper01 .swap) (s .swap) h in
       let order = pad-stands m enteredAt (paper01 .frames) (s .entered) l in
       simp (stands-cons, both, length-pad) (
         λ k.
@@ -74,13 +71,11 @@ module _ (m : List ℕ) where
 
   -- what stands there is read there, and its words pass the test
   pub read-paging : (s : Paging) → length (s .swap) ≤ paper01 .swap → length (s .entered) ≤ paper01 .frames
-      → map (frameAt m) (map frameNumber (s .swap)) ≡ s .swap → Stands m pagingAt (pagingWords s) → (pagingFrom m ≡ s) × PagingFits m
+      → Stands m pagingAt (pagingWords s) → (pagingFrom m ≡ s) × PagingFits m
   unfolding pagingFrom
-  read-paging s h l e stand =
+  read-paging s h l stand =
       let k = paging-stands s h l .0 stand in
-      let numbers = length-map (s .swap) frameNumber in
-      let line = wordsAt-stands m swapAt (word m swapCountAt) (map frameNumber (s .swap)) (numbers ∙ sym (k .swap-count)) (k .swap) in
-      let swap = ap (map (frameAt m)) line ∙ e in
+      let swap = wordsAt-stands m swapAt (word m swapCountAt) (s .swap) (sym (k .swap-count)) (k .swap) in
       let entered = wordsAt-stands m enteredAt (word m enteredCountAt) (s .entered) (sym (k .entered-count)) (k .entered) in (
         λ i. record { swap = swap i; entered = entered i; out = k .out i; brought = k .brought i },
         record {
@@ -95,8 +90,7 @@ module _ (m : List ℕ) where
   pub paging-from-stands : PagingFits m → Stands m pagingAt (pagingWords (pagingFrom m))
   unfolding pagingFrom
   paging-from-stands f =
-      let line = wordsAt m swapAt (word m swapCountAt) in
-      let swap : length (pagingFrom m .swap) ≡ word m swapCountAt = length-map line (frameAt m) ∙ length-wordsAt m swapAt (word m swapCountAt) in
+      let swap : length (pagingFrom m .swap) ≡ word m swapCountAt = length-wordsAt m swapAt (word m swapCountAt) in
       let entered : length (pagingFrom m .entered) ≡ word m enteredCountAt = length-wordsAt m enteredAt (word m enteredCountAt) in
       paging-stands (pagingFrom m) (rw swap (f .swap)) (rw entered (f .entered)) .1
       (record {
@@ -104,7 +98,7 @@ module _ (m : List ℕ) where
         entered-count = sym entered;
         out = refl;
         brought = refl;
-        swap = rw (numbers-at m line) (stands-wordsAt m swapAt (word m swapCountAt));
+        swap = stands-wordsAt m swapAt (word m swapCountAt);
         swap-zero = rw swap (f .swap-zero);
         entered = stands-wordsAt m enteredAt (word m enteredCountAt);
         entered-zero = rw entered (f .entered-zero);

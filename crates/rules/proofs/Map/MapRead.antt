@@ -1,28 +1,27 @@
 -- What is written by the memory map is read back: where the map of a valid node stands in a memory, the memory holds that node, and its words
 -- fit. The map is four numbers and five regions, each of a fixed length, so each stands at its own address; a region is records of a fixed
--- length, and each record is read back by its own law. The free line, the swap line and the groups are read last, for the places of their
--- frames and swap pages are read from the frames' region. Assumes nothing.
+-- length, and each record is read back by its own law. The groups are read last, for the places of their pages are read from the frames'
+-- region; what stands there under the numbers of the free line and the swap line is 0. Assumes nothing.
 use Prim.Native.Nat.{ℕ, _+_, _-_, _*_, _≤_, _<_}
-use mathlib.Core.Path.{_≡_, ap, _∙_}
+use mathlib.Core.Path.{_≡_, refl, ap, _∙_}
 use mathlib.Core.Logic.{_↔_, Iff·rfl}
 use mathlib.Core.Bool.{true}
-use mathlib.Core.List.{List, _∷_, _++_, map}
+use mathlib.Core.List.{List, _∷_, _++_}
 use native.Mathlib.Omega.{arith}
-use lib.ListN.{length, length-append, length-map}
+use lib.ListN.{length, length-append}
 use Rattle.rules.specs.Lists.{Every, concatMap, upFrom}
 use Rattle.rules.specs.Build.{paper01, pageCount, groupCount, wordLimit}
-use Rattle.rules.specs.Node.{Message, Frame, Group, Node}
-use Rattle.rules.specs.Valid.{GoodMessage, GoodPlace, frameNumber, frameList, idle, frameNumbers}
-use Rattle.rules.specs.Paging.{framesOf, placesOf}
+use Rattle.rules.specs.Node.{Message, Group, Node}
+use Rattle.rules.specs.Valid.{GoodMessage, GoodPlace, frameList, idle, frameNumbers}
 use Rattle.rules.specs.Memory.{runningAt, timerAt, queuedAt, freeCountAt, queueAt, queueStride, freeAt, groupsAt, groupStride, framesAt, frameStride, pagingAt, size}
-use Rattle.rules.specs.Memory.{word, wordsAt, messageWords, queueWords, lineWords, groupWords, placeWords, frameWords, pagingWords, words, allFrames, messagesAt, framePlaces, frameAt, frameAddress, groupsFrom, pagingFrom, nodeAt}
+use Rattle.rules.specs.Memory.{word, wordsAt, messageWords, queueWords, lineWords, groupWords, placeWords, frameWords, pagingWords, words, pagesOf, placesOf, allPages, messagesAt, framePlaces, frameAddress, groupsFrom, pagingFrom, nodeAt}
 use Rattle.rules.specs.MemoryTest.{zeroAt}
-use Rattle.rules.proofs.Steps.EveryLaws.{every-of, every-at, every-append, every-concat, every-upFrom}
+use Rattle.rules.proofs.Steps.EveryLaws.{every-of, every-at, every-mono, every-concat, every-upFrom}
 use Rattle.rules.proofs.Steps.ListLaws.{length-parts, part-short, length-pad}
 use Rattle.rules.specs.Sound.{WholeGroup, Mapped}
-use Rattle.rules.proofs.Map.MapWords.{Stands, stands-cons, stands-append, pad-stands, parts-stand, wordsAt-stands, read-records}
+use Rattle.rules.proofs.Map.MapWords.{Stands, stands-cons, stands-append, zeros-stand, pad-stands, parts-stand, wordsAt-stands, read-records}
 use Rattle.rules.proofs.Map.MapParts.{messages, places, groups, length-message, length-place, length-group, read-message, read-place, read-group, MessageFits, GroupFits}
-use Rattle.rules.proofs.Map.MapFrames.{numbers-bounded, each-found, found-good, length-frame, places-from, frames-at}
+use Rattle.rules.proofs.Map.MapFrames.{idle-words, idle-unlisted, numbers-bounded, each-found, found-good, length-frame, places-from}
 use Rattle.rules.proofs.Map.MapPaging.{length-paging, read-paging, PagingFits}
 use Rattle.rules.proofs.Map.MapTest.{Fits}
 
@@ -47,9 +46,9 @@ pub record MapStands (m : List ℕ) (n : Node) : Type 0 where
   pub queued : word m queuedAt ≡ length (n .queue)
   pub free-count : word m freeCountAt ≡ length (n .free)
   pub queue : Stands m queueAt (queueWords (n .queue))
-  pub free : Stands m freeAt (lineWords (map frameNumber (n .free)))
+  pub free : Stands m freeAt (lineWords (n .free))
   pub groups : Stands m groupsAt (concatMap groupWords (n .groups))
-  pub frames : Stands m framesAt (concatMap (frameWords (allFrames n)) (upFrom 0 (pageCount paper01)))
+  pub frames : Stands m framesAt (concatMap (frameWords (allPages n)) (upFrom 0 (pageCount paper01)))
   pub paging : Stands m pagingAt (pagingWords (n .paging))
 
 -- the queue has room for 16 messages
@@ -68,10 +67,10 @@ length-groups Gs e = length-parts groupWords groupStride Gs (every-of _ Gs (λ G
 
 module _ (n : Node) (v : Mapped n) where
   -- and 96 frames and swap pages have 72 words each
-  length-frames : length (concatMap (frameWords (allFrames n)) (upFrom 0 (pageCount paper01))) ≡ 6912
+  length-frames : length (concatMap (frameWords (allPages n)) (upFrom 0 (pageCount paper01))) ≡ 6912
   length-frames =
-      length-parts (frameWords (allFrames n)) frameStride (upFrom 0 (pageCount paper01))
-      (every-upFrom _ 0 (pageCount paper01) (λ f l h. length-frame n v f h))
+      length-parts (frameWords (allPages n)) frameStride (upFrom 0 (pageCount paper01))
+      (every-upFrom _ 0 (pageCount paper01) (λ f l h. length-frame n v f))
 
   -- the map of a node stands part by part
   pub map-stands : (m : List ℕ) → Stands m 0 (words n) ↔ MapStands m n
@@ -79,9 +78,9 @@ module _ (n : Node) (v : Mapped n) where
   map-stands m =
       let r =
       regions-stand m (n .running) (n .timer) (length (n .queue)) (length (n .free)) (queueWords (n .queue))
-      (lineWords (map frameNumber (n .free))) (concatMap groupWords (n .groups))
-      (concatMap (frameWords (allFrames n)) (upFrom 0 (pageCount paper01))) (pagingWords (n .paging))
-      (length-queue (n .queue)) (length-line (map frameNumber (n .free))) (length-groups (n .groups) (v .group-count)) length-frames in (
+      (lineWords (n .free)) (concatMap groupWords (n .groups))
+      (concatMap (frameWords (allPages n)) (upFrom 0 (pageCount paper01))) (pagingWords (n .paging))
+      (length-queue (n .queue)) (length-line (n .free)) (length-groups (n .groups) (v .group-count)) length-frames in (
         λ h.
             let k = r .0 h in
             record {
@@ -103,55 +102,56 @@ module _ (n : Node) (v : Mapped n) where
   unfolding words
   words-length =
       regions-length (n .running) (n .timer) (length (n .queue)) (length (n .free)) (queueWords (n .queue))
-      (lineWords (map frameNumber (n .free))) (concatMap groupWords (n .groups))
-      (concatMap (frameWords (allFrames n)) (upFrom 0 (pageCount paper01))) (pagingWords (n .paging))
-      (length-queue (n .queue)) (length-line (map frameNumber (n .free))) (length-groups (n .groups) (v .group-count)) length-frames
+      (lineWords (n .free)) (concatMap groupWords (n .groups))
+      (concatMap (frameWords (allPages n)) (upFrom 0 (pageCount paper01))) (pagingWords (n .paging))
+      (length-queue (n .queue)) (length-line (n .free)) (length-groups (n .groups) (v .group-count)) length-frames
       (length-paging (n .paging))
 
 -- The node is read back from its map.
 
 module _ (m : List ℕ) (n : Node) (v : Mapped n) (s : MapStands m n) where
-  -- the frame of each number
-  frame-read : (f : ℕ) → f < pageCount paper01 → framePlaces m f ≡ placesOf f (allFrames n)
-  unfolding framePlaces frameAddress frameWords
+  -- the words of each number stand at its address
+  frame-stands : (f : ℕ) → f < pageCount paper01 → Stands m (frameAddress f) (frameWords (allPages n) f)
+  unfolding frameAddress
+  frame-stands f h =
+      parts-stand m (frameWords (allPages n)) framesAt frameStride 0 (pageCount paper01) (λ j l k. length-frame n v j) .0 (s .frames) f (omega arith) h
+
+  -- and are read there
+  frame-read : (f : ℕ) → f < pageCount paper01 → framePlaces m f ≡ placesOf paper01 f (allPages n)
+  unfolding framePlaces frameWords
   frame-read f h =
-      let parts = parts-stand m (frameWords (allFrames n)) framesAt frameStride 0 (pageCount paper01) (λ j l k. length-frame n v j k) in
-      let good = found-good n v f h in
+      let good = found-good n v f in
       let read = read-records (places m) m placeWords (λ a. Unit {0}) GoodPlace length-place (λ a p g k. (read-place m a p g k, tt)) in
-      rw (good .0) at
-      (read (placesOf f (allFrames n)) (good .1) (frameAddress f) (parts .0 (s .frames) f (omega arith) h) .0)
+      rw (good .whole) at (read (placesOf paper01 f (allPages n)) (good .places) (frameAddress f) (frame-stands f h) .0)
 
-  -- so each frame has its places
-  frames-read : Every (λ x. framePlaces m (x .number) ≡ x .places) (allFrames n)
-  frames-read =
-      every-of _ (allFrames n) (λ x h.
+  -- so each page has its places
+  pages-read : Every (λ x. framePlaces m (x .number) ≡ x .places) (allPages n)
+  pages-read =
+      every-of _ (allPages n) (λ x h.
       frame-read (x .number) (every-at (λ y. y .number < pageCount paper01) (numbers-bounded n v) h)
-      ∙ every-at (λ y. placesOf (y .number) (allFrames n) ≡ y .places) (each-found n v) h)
+      ∙ every-at (λ y. placesOf paper01 (y .number) (allPages n) ≡ y .places) (each-found n v) h)
 
-  -- in the two lines
-  idle-read : Every (λ x. framePlaces m (x .number) ≡ x .places) (n .free) × Every (λ x. framePlaces m (x .number) ≡ x .places) (n .paging .swap)
-  unfolding allFrames idle
-  idle-read =
-      let P : Frame → Type 0 = λ x. framePlaces m (x .number) ≡ x .places in
-      every-append P (n .free) (n .paging .swap) .0 (every-append P (idle n) (concatMap (framesOf paper01) (n .groups)) .0 frames-read .0)
-
-  -- and in each group
+  -- in each group
   groups-read : Every (λ G. concatMap (framePlaces m) (G .buffer .frames) ≡ G .buffer .places) (n .groups)
-  unfolding allFrames framesOf
+  unfolding allPages pagesOf
   groups-read =
-      let each =
-      every-concat (λ x. framePlaces m (x .number) ≡ x .places) (framesOf paper01) (n .groups) .0
-      (every-append _ (idle n) (concatMap (framesOf paper01) (n .groups)) .0 frames-read .1) in
+      let each = every-concat (λ x. framePlaces m (x .number) ≡ x .places) (pagesOf paper01) (n .groups) .0 pages-read in
       every-of _ (n .groups) (λ G h.
       places-from (framePlaces m) (G .buffer .frames) (G .buffer .places) (every-at WholeGroup (v .groups-whole) h .whole)
-      (every-at (λ G. Every (λ x. framePlaces m (x .number) ≡ x .places) (framesOf paper01 G)) each h))
+      (every-at (λ G. Every (λ x. framePlaces m (x .number) ≡ x .places) (pagesOf paper01 G)) each h))
+
+  -- and what no buffer holds is 0
+  idle-read : Every (λ f. zeroAt m (frameAddress f) frameStride ≡ true) (idle n)
+  idle-read =
+      every-mono _ _ (λ f h. zeros-stand m (frameAddress f) frameStride .0 (rw (idle-words n f (h .1)) at (frame-stands f (h .0)))) (idle n)
+      (idle-unlisted n v)
 
   -- a group's list is no longer than the frames and swap pages are many
   lists-short : Every (λ G. length (G .buffer .frames) ≤ pageCount paper01) (n .groups)
   unfolding frameNumbers frameList
   lists-short =
       let all = v .frames-all in
-      let e = length-append (map frameNumber (idle n)) (concatMap frameList (n .groups)) in
+      let e = length-append (idle n) (concatMap frameList (n .groups)) in
       every-of _ (n .groups) (λ G h. let l = part-short frameList h in omega arith)
 
   -- the queue
@@ -171,13 +171,12 @@ module _ (m : List ℕ) (n : Node) (v : Mapped n) (s : MapStands m n) where
       )
 
   -- the free line
-  line-read : (wordsAt m freeAt (length (n .free)) ≡ map frameNumber (n .free))
+  line-read : (wordsAt m freeAt (length (n .free)) ≡ n .free)
       × (zeroAt m (freeAt + length (n .free)) (paper01 .frames - length (n .free)) ≡ true)
   unfolding lineWords
   line-read =
-      let l = length-map (n .free) frameNumber in
-      let k = pad-stands m freeAt (paper01 .frames) (map frameNumber (n .free)) (rw l (v .free-short)) .0 (s .free) in
-      (wordsAt-stands m freeAt (length (n .free)) (map frameNumber (n .free)) l (k .0), rw l at (k .1))
+      let k = pad-stands m freeAt (paper01 .frames) (n .free) (v .free-short) .0 (s .free) in
+      (wordsAt-stands m freeAt (length (n .free)) (n .free) refl (k .0), k .1)
 
   -- the groups
   group-records : (groupsFrom m groupsAt groupCount ≡ n .groups) × ((i : ℕ) → i < groupCount → GroupFits m (groupsAt + groupStride * i))
@@ -199,24 +198,28 @@ module _ (m : List ℕ) (n : Node) (v : Mapped n) (s : MapStands m n) where
 
   -- swap space and the order of entry
   paging-read : (pagingFrom m ≡ n .paging) × PagingFits m
-  paging-read =
-      read-paging m (n .paging) (v .swap-short) (v .entered-short) (frames-at m (n .paging .swap) (idle-read .1)) (s .paging)
+  paging-read = read-paging m (n .paging) (v .swap-short) (v .entered-short) (s .paging)
 
-  -- the node, and the words pass the test
-  pub read : (nodeAt m ≡ n) × Fits m
+  -- the node
+  node-read : nodeAt m ≡ n
   unfolding nodeAt
-  read =
+  node-read =
       let queue : messagesAt m queueAt (word m queuedAt) ≡ n .queue = rw (s .queued) (queue-read .0 .0) in
-      let free : map (frameAt m) (wordsAt m freeAt (word m freeCountAt)) ≡ n .free =
-      rw (s .free-count, line-read .0) (frames-at m (n .free) (idle-read .0)) in (
-        λ i. record { running = s .running i; timer = s .timer i; queue = queue i; free = free i; paging = paging-read .0 i; groups = group-records .0 i },
-        record {
-          queued = rw (s .queued) (v .queue-length);
-          free = rw (s .free-count) (v .free-short);
-          messages = rw (s .queued) (queue-read .0 .1);
-          groups = group-records .1;
-          queue-zero = rw (s .queued) (queue-read .1);
-          free-zero = rw (s .free-count) (line-read .1);
-          paging = paging-read .1;
-        },
-      )
+      let free : wordsAt m freeAt (word m freeCountAt) ≡ n .free = rw (s .free-count) (line-read .0) in
+      λ i. record { running = s .running i; timer = s .timer i; queue = queue i; free = free i; paging = paging-read .0 i; groups = group-records .0 i }
+
+  -- and the words pass the test
+  pub read : (nodeAt m ≡ n) × Fits m
+  read = (
+    node-read,
+    record {
+      queued = rw (s .queued) (v .queue-length);
+      free = rw (s .free-count) (v .free-short);
+      messages = rw (s .queued) (queue-read .0 .1);
+      groups = group-records .1;
+      queue-zero = rw (s .queued) (queue-read .1);
+      free-zero = rw (s .free-count) (line-read .1);
+      paging = paging-read .1;
+      idle-zero = rw node-read idle-read;
+    },
+  )

@@ -7,14 +7,14 @@ use mathlib.Core.Bool.{Bool, true, _&&_, and-eq-true-iff}
 use mathlib.Core.List.{List}
 use native.Mathlib.Omega.{arith}
 use lib.ListN.{length}
-use Rattle.rules.specs.Lists.{all, upFrom}
+use Rattle.rules.specs.Lists.{all, Every, upFrom}
 use Rattle.rules.specs.Build.{paper01, groupCount}
-use Rattle.rules.specs.Valid.{Valid}
-use Rattle.rules.specs.Memory.{queuedAt, freeCountAt, queueAt, queueStride, freeAt, groupsAt, groupStride, swapCountAt, enteredCountAt, size}
-use Rattle.rules.specs.Memory.{word, groupAddress, nodeAt}
-use Rattle.rules.specs.MemoryTest.{zeroAt, lengthInBounds, groupCounts, countsInBounds, groupFlags, flagsAreFlags, queueUnused, freeUnused, swapUnused, enteredUnused, groupUnused, messageUnused, unusedAreZero, memoryTests, isMemory}
+use Rattle.rules.specs.Valid.{idle, Valid}
+use Rattle.rules.specs.Memory.{queuedAt, freeCountAt, queueAt, queueStride, freeAt, groupsAt, groupStride, swapCountAt, enteredCountAt, frameStride, size}
+use Rattle.rules.specs.Memory.{word, frameAddress, groupAddress, nodeAt}
+use Rattle.rules.specs.MemoryTest.{zeroAt, lengthInBounds, groupCounts, countsInBounds, groupFlags, flagsAreFlags, queueUnused, freeUnused, swapUnused, enteredUnused, groupUnused, messageUnused, unusedAreZero, frameWiped, idleAreWiped, memoryTests, isMemory}
 use Rattle.rules.proofs.Steps.SoundLaws.{paper-sensible}
-use Rattle.rules.proofs.Map.TestLaws.{leb-tells, range-tells, passes-every, isNode-valid, valid-isNode}
+use Rattle.rules.proofs.Map.TestLaws.{leb-tells, all-every, range-tells, passes-every, isNode-valid, valid-isNode}
 use Rattle.rules.proofs.Map.MapParts.{MessageFits, GroupFits}
 use Rattle.rules.proofs.Map.MapPaging.{PagingFits}
 
@@ -27,6 +27,8 @@ pub record Fits (m : List ℕ) : Type 0 where
   pub queue-zero : zeroAt m (queueAt + queueStride * word m queuedAt) (queueStride * (paper01 .places - word m queuedAt)) ≡ true
   pub free-zero : zeroAt m (freeAt + word m freeCountAt) (paper01 .frames - word m freeCountAt) ≡ true
   pub paging : PagingFits m
+  -- a frame or swap page that no buffer holds is 0
+  pub idle-zero : Every (λ f. zeroAt m (frameAddress f) frameStride ≡ true) (idle (nodeAt m))
 
 -- two tests tell two facts
 and-tells : {a b : Bool} {P Q : Type 0} → ((a ≡ true) ↔ P) → ((b ≡ true) ↔ Q) → (a && b ≡ true) ↔ (P × Q)
@@ -117,6 +119,11 @@ module _ (m : List ℕ) where
   unfolding unusedAreZero
   unused-tells = and-tells Iff·rfl (and-tells Iff·rfl (and-tells Iff·rfl (and-tells Iff·rfl (and-tells Iff·rfl Iff·rfl))))
 
+  -- the clause on the frames and swap pages that no buffer holds
+  idle-tells : (idleAreWiped m ≡ true) ↔ Every (λ f. zeroAt m (frameAddress f) frameStride ≡ true) (idle (nodeAt m))
+  unfolding idleAreWiped frameWiped
+  idle-tells = all-every (frameWiped m) (λ f. zeroAt m (frameAddress f) frameStride ≡ true) (λ f. Iff·rfl) (idle (nodeAt m))
+
   -- the memory passes the test where it is large enough, fits, and holds a valid node
   pub memory-fits : (isMemory m ≡ true) ↔ ((size ≤ length m) × (Fits m × Valid paper01 (nodeAt m)))
   unfolding isMemory memoryTests flagsAreFlags queueUnused freeUnused swapUnused enteredUnused
@@ -141,8 +148,9 @@ module _ (m : List ℕ) where
                     swap-zero = unused .1 .1 .0;
                     entered-zero = unused .1 .1 .1 .0;
                   };
+              idle-zero = idle-tells .0 (t .1 .1 .1 .1 .0);
             },
-            isNode-valid paper01 (nodeAt m) paper-sensible (t .1 .1 .1 .1 .0),
+            isNode-valid paper01 (nodeAt m) paper-sensible (t .1 .1 .1 .1 .1 .0),
           ),
         ),
     λ h.
@@ -158,7 +166,7 @@ module _ (m : List ℕ) where
               groups .1 .0,
               (
                 unused-tells .1 (f .queue-zero, (f .free-zero, (p .swap-zero, (p .entered-zero, (groups .1 .1, messages .1))))),
-                (valid-isNode paper01 (nodeAt m) (h .1 .1), tt),
+                (idle-tells .1 (f .idle-zero), (valid-isNode paper01 (nodeAt m) (h .1 .1), tt)),
               ),
             ),
           ),

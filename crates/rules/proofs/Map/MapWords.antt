@@ -64,6 +64,15 @@ module _ (m : List ℕ) where
   take-wordsAt a (suc j) zero h = absurd (omega arith)
   take-wordsAt a (suc j) (suc k) h = ap (λ (r : List ℕ). word m a ∷ r) (take-wordsAt (a + 1) j k (omega arith))
 
+  -- word i of them
+  pub getD-wordsAt : (a k i : ℕ) → i < k → getD (wordsAt m a k) i 0 ≡ word m (a + i)
+  unfolding wordsAt
+  getD-wordsAt a zero i h = absurd (omega arith)
+  getD-wordsAt a (suc k) zero h = rw (add-zero a)
+  getD-wordsAt a (suc k) (suc i) h =
+      let e : a + 1 + i ≡ a + suc i = omega arith in
+      rw (← e) (getD-wordsAt (a + 1) k i (omega arith))
+
   -- within the memory they are its words
   pub wordsAt-part : (a k : ℕ) → a + k ≤ length m → wordsAt m a k ≡ take k (drop a m)
   unfolding wordsAt word

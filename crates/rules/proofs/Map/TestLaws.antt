@@ -12,11 +12,11 @@ use lib.Dec.{leb, ltb, eqb}
 use borrow.Author.Tests.{leb-true, ltb-true, eqb-true, le-leb, lt-ltb, eq-eqb, eqb-false, ne-eqb, not-true}
 use Rattle.rules.specs.Lists.{all, Every, passes, isEmpty, countOf, upFrom}
 use Rattle.rules.specs.Build.{Build, Sensible, groupCount}
-use Rattle.rules.specs.Node.{Message, Place, Frame, Buffer, Group, Node, groupOf, forced, line}
+use Rattle.rules.specs.Node.{Message, Place, Buffer, Group, Node, groupOf, forced, line}
 use Rattle.rules.specs.Paging.{inFrame}
 use Rattle.rules.specs.Settling.{mayStay}
-use Rattle.rules.specs.Valid.{Zero, GoodMessage, GoodPlace, GoodWaiting, GoodFrame, GoodBuffer, GoodGroup, IsSwap, FirstInFrame, Valid}
-use Rattle.rules.specs.Valid.{isMessage, isPlace, isWaiting, isFrame, isBuffer, onlyAtomic, isGroup, pendingHasLine, runnerAtomic, headStays, isSwap, firstInFrame, runnerInFrame, standsOnce, nodeTests, isNode}
+use Rattle.rules.specs.Valid.{Zero, GoodMessage, GoodPlace, GoodWaiting, Wiped, GoodBuffer, GoodGroup, IsSwap, FirstInFrame, Valid}
+use Rattle.rules.specs.Valid.{isMessage, isPlace, isWaiting, isWiped, isBuffer, onlyAtomic, isGroup, pendingHasLine, runnerAtomic, headStays, isSwap, firstInFrame, runnerInFrame, standsOnce, nodeTests, isNode}
 
 -- Tests in general.
 
@@ -123,6 +123,16 @@ waiting-tells p =
 waitings-tell : (ps : List Place) → (all isWaiting ps ≡ true) ↔ Every GoodWaiting ps
 waitings-tell = all-every isWaiting GoodWaiting waiting-tells
 
+-- a place where none waits
+wiped-tells : (p : Place) → (isWiped p ≡ true) ↔ Wiped p
+unfolding isWiped
+wiped-tells p =
+    (λ (h : isWiped p ≡ true). let k = simp (tells, zeros-tell) at h in search, λ g. simp (tells, zeros-tell) (search))
+
+-- such places
+all-wiped-tells : (ps : List Place) → (all isWiped ps ≡ true) ↔ Every Wiped ps
+all-wiped-tells = all-every isWiped Wiped wiped-tells
+
 -- flags that stand only with atomic
 flags-tell : (G : Group)
     → (onlyAtomic G ≡ true)
@@ -131,22 +141,12 @@ unfolding onlyAtomic
 flags-tell G = rw (or-comm (G .atomic)) (simp (implies-tells, either-tells) Iff·rfl)
 
 module _ (b : Build) where
-  -- a free frame
-  frame-tells : (f : Frame) → (isFrame b f ≡ true) ↔ GoodFrame b f
-  unfolding isFrame
-  frame-tells f =
-      (λ (h : isFrame b f ≡ true). let k = simp (tells, places-tell) at h in search, λ g. simp (tells, places-tell) (search))
-
-  -- a free line
-  frames-tell : (fs : List Frame) → (all (isFrame b) fs ≡ true) ↔ Every (GoodFrame b) fs
-  frames-tell = all-every (isFrame b) (GoodFrame b) frame-tells
-
   -- a buffer
   buffer-tells : (v : Buffer) → (isBuffer b v ≡ true) ↔ GoodBuffer b v
   unfolding isBuffer
   buffer-tells v = (
-    λ (h : isBuffer b v ≡ true). let k = simp (tells, places-tell, waitings-tell) at h in search,
-    λ g. simp (tells, places-tell, waitings-tell) (search),
+    λ (h : isBuffer b v ≡ true). let k = simp (tells, places-tell, waitings-tell, all-wiped-tells) at h in search,
+    λ g. simp (tells, places-tell, waitings-tell, all-wiped-tells) (search),
   )
 
   -- a group
@@ -162,9 +162,9 @@ module _ (b : Build) where
   groups-tell = all-every (isGroup b) (GoodGroup b) group-tells
 
   -- swap pages
-  swaps-tell : (ss : List Frame) → (all (isSwap b) ss ≡ true) ↔ Every (IsSwap b) ss
+  swaps-tell : (ss : List ℕ) → (all (isSwap b) ss ≡ true) ↔ Every (IsSwap b) ss
   unfolding isSwap
-  swaps-tell = all-every (isSwap b) (IsSwap b) (λ s. leb-tells (b .frames) (s .number))
+  swaps-tell = all-every (isSwap b) (IsSwap b) (leb-tells (b .frames))
 
   -- the first page of a list
   first-tells : (ps : List ℕ) → (firstInFrame b ps ≡ true) ↔ FirstInFrame b ps
@@ -213,7 +213,7 @@ head-tells n (x ∷ xs) =
     (λ e. (λ m r p. rw (head-eq-of-cons-eq p) at e, λ p. absurd (nil≢cons (sym p))), λ h. h .0 x xs refl)
 
 ruleset node-facts =
-    (passes-every, pending-tells, once-tells, runner-tells, resident-tells, head-tells, messages-tell, groups-tell, frames-tell, swaps-tell, leb-tells, ltb-tells, eqb-tells)
+    (passes-every, pending-tells, once-tells, runner-tells, resident-tells, head-tells, messages-tell, groups-tell, swaps-tell, leb-tells, ltb-tells, eqb-tells)
 
 -- what passes the tests of a build that makes sense is valid
 pub isNode-valid : (b : Build) (n : Node) → Sensible b → isNode b n ≡ true → Valid b n
@@ -225,4 +225,4 @@ pub valid-isNode : (b : Build) (n : Node) → Valid b n → isNode b n ≡ true
 unfolding isNode nodeTests
 valid-isNode b n v =
     simp node-facts
-    (search, (search, (search, (search, (search, (search, (search, (search, (v .frames-once, (search, (search, (v .entered-once, search))))))))))))
+    (search, (search, (search, (search, (search, (search, (v .frames-once, (search, (search, (v .entered-once, search))))))))))

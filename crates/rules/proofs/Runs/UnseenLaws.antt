@@ -12,7 +12,7 @@ use lib.ListN.{length, drop}
 use borrow.Author.Tests.{ltb-true, ltb-false, eq-eqb}
 use Rattle.rules.specs.Lists.{isEmpty}
 use Rattle.rules.specs.Build.{Build, pageCount, groupCount, wordLimit}
-use Rattle.rules.specs.Node.{Message, Frame, Buffer, Group, Node, powerOn, groupOf, withRunning, withTimer, withQueue, withFree, withPaging, withGroup, withFlags, withTimerFlags, withDescriptor, bufferHolds, forced, timerRuns, waiting}
+use Rattle.rules.specs.Node.{Message, Buffer, Group, Node, powerOn, groupOf, withRunning, withTimer, withQueue, withFree, withPaging, withGroup, withFlags, withTimerFlags, withDescriptor, bufferHolds, forced, timerRuns, waiting}
 use Rattle.rules.specs.Frames.{Stock, freeFirst, useUp, removeFirst, withStock, pledges}
 use Rattle.rules.specs.Operation.{Request, poll, peek, dispose, beginAtomic, endAtomic, describe, launch}
 use Rattle.rules.specs.Operation.{Operation, arrive, schedule, tick, user, unknown, accepted, badGroup, badWords, queueFull, noFrames, nobodyRuns, noTrap, disposeExtend, atomicityExtend}
@@ -194,7 +194,7 @@ alike-ticks {b} {c} same {n} {k} v w a i = go (timerRuns n) refl (ltb (n .timer 
         (out e)
 
 -- what is left of a buffer's counts when its first message is removed
-removed-counts : (b : Build) (fs : List Frame) (es : List ℕ) (u : Buffer)
+removed-counts : (b : Build) (fs es : List ℕ) (u : Buffer)
     → (removeFirst b fs es u .buffer .used ≡ cond (eqb (u .count) 1 || eqb (u .used + 1) (b .perFrame)) 0 (u .used + 1))
     × (removeFirst b fs es u .buffer .count ≡ u .count - 1)
 unfolding removeFirst freeFirst useUp
@@ -224,8 +224,8 @@ module _ {b c : Build} (same : SameButFrames b c) {n k : Node} (s : Sound b n) (
       let q = stock-same g right k (within t g low high) in
       let counts = removed-counts b (n .free) (n .paging .entered) v in
       let counts′ = removed-counts c (k .free) (k .paging .entered) w in
-      let gone = removed-first (group-good s g low high .buffer) (ltb-true 0 (v .count) e) (n .free) (n .paging .entered) (s .free-good) in
-      let gone′ = removed-first (group-good t g low high .buffer) (ltb-true 0 (w .count) f) (k .free) (k .paging .entered) (t .free-good) in
+      let gone = removed-first (group-good s g low high .buffer) (ltb-true 0 (v .count) e) (n .free) (n .paging .entered) in
+      let gone′ = removed-first (group-good t g low high .buffer) (ltb-true 0 (w .count) f) (k .free) (k .paging .entered) in
       let used : cond (eqb (v .count) 1 || eqb (v .used + 1) (b .perFrame)) 0 (v .used + 1)
       ≡ cond (eqb (w .count) 1 || eqb (w .used + 1) (c .perFrame)) 0 (w .used + 1) = rw (x .count, x .used, same .perFrame) in
       record {

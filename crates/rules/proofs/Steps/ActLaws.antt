@@ -114,7 +114,7 @@ unbuffered-sound {b} {n} v low e =
     let high = s .running-bound in
     let w = groupOf n r .buffer in
     let t = removeFirst b (n .free) (n .paging .entered) w in
-    let gone = removed-first (group-good s r low high .buffer) (ltb-true 0 (w .count) e) (n .free) (n .paging .entered) (s .free-good) in
+    let gone = removed-first (group-good s r low high .buffer) (ltb-true 0 (w .count) e) (n .free) (n .paging .entered) in
     let each : (h : ℕ) → 1 ≤ h → h ≤ groupCount → pledge b (withStock r t n) h ≤ pledge b n h =
     λ h low′ high′. pledge-le s (withStock r t n) h low′ high′ (omega (arith, stock-fewer s r low high t (gone .less) h low′)) in
     let good = group-good s r low high .buffer in

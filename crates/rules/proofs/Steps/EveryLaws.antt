@@ -1,6 +1,6 @@
 -- What holds of every element of a list: by membership, and through joining, cutting, setting and mapping. Assumes nothing.
 use Prim.Native.Nat.{ℕ, zero, suc, _+_, _≤_, _<_}
-use mathlib.Core.Path.{refl, sym, subst}
+use mathlib.Core.Path.{_≡_, refl, sym, subst}
 use mathlib.Core.Logic.{_↔_, Iff·trans, Iff·and, Iff·rfl}
 use mathlib.Core.List.{List, [], _∷_, _++_, map, List·Memᴰ, List·Memᴰ·head, List·Memᴰ·tail}
 use native.Mathlib.Omega.{arith}
@@ -78,6 +78,11 @@ every-mapped P Q f h (x ∷ xs) e = (h x (e .0), every-mapped P Q f h xs (e .1))
 pub every-mono : {A : Type 0} (P Q : A → Type 0) → ((x : A) → P x → Q x) → (xs : List A) → Every P xs → Every Q xs
 every-mono P Q f [] e = tt
 every-mono P Q f (x ∷ xs) e = (f x (e .0), every-mono P Q f xs (e .1))
+
+-- a list whose elements all are one
+pub every-same : {A : Type 0} (y : A) (xs : List A) → Every (λ x. x ≡ y) xs → xs ≡ replicate (length xs) y
+every-same y [] e = refl
+every-same y (x ∷ xs) e = let r = every-same y xs (e .1) in let q = e .0 in cc
 
 -- k numbers from a on
 pub every-upFrom : (P : ℕ → Type 0) (a k : ℕ) → ((i : ℕ) → a ≤ i → i < a + k → P i) → Every P (upFrom a k)

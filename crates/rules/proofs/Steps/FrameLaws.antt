@@ -1,26 +1,26 @@
 -- Frames and buffers. A count of frames rounded up is told by two inequalities, enough and the least that is, so that no later proof
 -- divides. Storing finds room or takes a frame, and puts the message behind the waiting ones; removing uses up the first place or frees the
--- first frame. Either way the buffer stays good, and each frame stands as often as it did, in the free line and the buffer's list together,
--- which is said for any weight of frames. Assumes nothing.
+-- first frame. Either way the buffer stays good, its places but the waiting ones wiped, and each frame stands as often as it did, in the free
+-- line and the buffer's list together, which is said for any weight of frames. Assumes nothing.
 use Prim.Native.Nat.{ℕ, _+_, _-_, _*_, _≤_, _<_}
 use mathlib.Core.Path.{_≡_, refl, sym, ap, _∙_}
 use mathlib.Core.Logic.{_≢_}
 use mathlib.Core.Bool.{Bool, true, false, cond, not, _||_}
-use mathlib.Core.List.{List, [], _∷_, _++_, map, map-append}
+use mathlib.Core.List.{List, [], _∷_, _++_}
 use native.Mathlib.Nat.{not-suc-le-zero, add-suc, lt-div-mul-add, div-mul-le-self, div-eq-of-lt-le, lt-of-mul-lt-mul-right}
 use native.Mathlib.Numerals.{add-one}
 use native.Mathlib.Decide.{ℕ-discrete}
 use native.Mathlib.Omega.{arith}
 use lib.Dec.{ltb, eqb}
-use lib.ListN.{length, take, drop, getD, length-append, length-set, length-drop, length-take}
-use lib.Seq.{drop-drop, take-append-le, drop-append-le, take-suc-set, length-take-le}
+use lib.ListN.{length, take, drop, getD, set, replicate, length-append, length-set, length-drop, length-take, length-replicate}
+use lib.Seq.{drop-drop, take-append-le, drop-append-le, take-set-le, drop-set-lt, take-suc-set}
 use borrow.Author.Tests.{ltb-true, ltb-false, eqb-true, eqb-false, eq-eqb, ne-eqb}
 use Rattle.rules.specs.Lists.{Every, countOf}
 use Rattle.rules.specs.Build.{Build, wordLimit}
-use Rattle.rules.specs.Node.{Message, Frame, Buffer, placeOf, waiting}
+use Rattle.rules.specs.Node.{Message, Place, Buffer, emptyPlace, emptyPage, placeOf, waiting, unused}
 use Rattle.rules.specs.Frames.{Stock, ceilDiv, extended, takeFrame, withRoom, appended, firstFrame, without, freeFirst, useUp, removeFirst}
-use Rattle.rules.specs.Valid.{GoodMessage, GoodPlace, GoodWaiting, GoodFrame, GoodBuffer, Zero, frameNumber}
-use Rattle.rules.proofs.Steps.EveryLaws.{every-append, every-set, every-take, every-drop}
+use Rattle.rules.specs.Valid.{GoodMessage, GoodPlace, GoodWaiting, Wiped, GoodBuffer, Zero}
+use Rattle.rules.proofs.Steps.EveryLaws.{every-append, every-set, every-drop, every-replicate, every-same}
 use Rattle.rules.proofs.Steps.ListLaws.{filter-pass, filter-fail, take-drop, weight, weight-append, length-pad, drop-pad}
 
 -- a frame count, rounded up, suffices
@@ -52,13 +52,12 @@ ceil-some : (a d : ℕ) → 1 ≤ d → 1 ≤ a → 1 ≤ ceilDiv a d
 ceil-some a d some more = omega (arith, ceil-mono 1 a d some more, ceil-unique 1 d 1 (omega arith) (omega arith))
 
 -- the frames of a free line and of a buffer's list, together, weigh what they weighed, whatever each weighs: none is lost or doubled
-abbrev pub SameFrames : List Frame → List ℕ → List Frame → List ℕ → Type 0
-SameFrames fs l fs′ l′ = (w : ℕ → ℕ) → weight w (map frameNumber fs) + weight w l ≡ weight w (map frameNumber fs′) + weight w l′
+abbrev pub SameFrames : List ℕ → List ℕ → List ℕ → List ℕ → Type 0
+SameFrames fs l fs′ l′ = (w : ℕ → ℕ) → weight w fs + weight w l ≡ weight w fs′ + weight w l′
 
--- frames go between a free line and a buffer, and what was good stays so
-pub record Traded (b : Build) (fs : List Frame) (v : Buffer) (t : Stock) : Type 0 where
+-- frames go between a free line and a buffer, which stays good
+pub record Traded (b : Build) (fs : List ℕ) (v : Buffer) (t : Stock) : Type 0 where
   pub good : GoodBuffer b (t .buffer)
-  pub free-good : Every (GoodFrame b) (t .free)
   pub weights : SameFrames (t .free) (t .buffer .frames) fs (v .frames)
 
 -- the waiting messages of a good buffer lie within its places
@@ -88,8 +87,58 @@ unfolding placeOf
 placeOf-waiting m g =
     record { some-words = g .some-words; few-words = g .few-words; rest-zero = drop-pad Zero refl wordLimit (m .words) }
 
+-- an empty place is one, and is wiped
+pub place-good : GoodPlace emptyPlace
+place-good = record { eight = refl }
+
+pub place-wiped : Wiped emptyPlace
+place-wiped = record { len-zero = refl; words-zero = every-replicate Zero wordLimit 0 refl }
+
+-- and so is every place of an empty page
+pub length-page : (b : Build) → length (emptyPage b) ≡ b .perFrame
+unfolding emptyPage
+length-page b = length-replicate (b .perFrame) emptyPlace
+
+pub page-good : (b : Build) → Every GoodPlace (emptyPage b)
+unfolding emptyPage
+page-good b = every-replicate GoodPlace (b .perFrame) emptyPlace place-good
+
+page-wiped : (b : Build) → Every Wiped (emptyPage b)
+unfolding emptyPage
+page-wiped b = every-replicate Wiped (b .perFrame) emptyPlace place-wiped
+
+-- a place that is wiped is the empty one
+pub wiped-place : (p : Place) → GoodPlace p → Wiped p → p ≡ emptyPlace
+wiped-place p good wiped =
+    let words : p .words ≡ replicate wordLimit 0 = rw (good .eight) at (every-same 0 (p .words) (wiped .words-zero)) in
+    λ i. record { len = wiped .len-zero i; words = words i }
+
+-- so are places that all are
+pub wiped-places : (ps : List Place) → Every GoodPlace ps → Every Wiped ps → ps ≡ replicate (length ps) emptyPlace
+wiped-places [] good wiped = refl
+wiped-places (p ∷ ps) good wiped =
+    let first = wiped-place p (good .0) (wiped .0) in
+    let rest = wiped-places ps (good .1) (wiped .1) in
+    cc
+
+-- what holds of the elements from k on holds of those from a later one on
+pub every-later : {A : Type 0} (P : A → Type 0) (k j : ℕ) (xs : List A) → k ≤ j → Every P (drop k xs) → Every P (drop j xs)
+every-later P k j xs h e =
+    let at : k + (j - k) ≡ j = omega arith in
+    rw (sym (ap (λ (i : ℕ). drop i xs) at), ← drop-drop (j - k) k xs) (every-drop P (j - k) (drop k xs) e)
+
+-- a message put behind the waiting ones leaves the others wiped
+wiped-appended : (m : Message) (v : Buffer) → Every Wiped (unused v) → Every Wiped (unused (appended m v))
+unfolding appended unused
+wiped-appended m v e =
+    let both = every-append Wiped (take (v .used) (v .places)) (drop (v .used + v .count) (v .places)) .0 e in
+    let front = take-set-le (v .used) (v .places) (v .used + v .count) (placeOf m) (omega arith) in
+    let behind = drop-set-lt (v .used + (v .count + 1)) (v .places) (v .used + v .count) (placeOf m) (omega arith) in
+    let later = every-later Wiped (v .used + v .count) (v .used + (v .count + 1)) (v .places) (omega arith) (both .1) in
+    rw (front, behind) (every-append Wiped (take (v .used) (v .places)) (drop (v .used + (v .count + 1)) (v .places)) .1 (both .0, later))
+
 -- a stock whose buffer is the given one with room for one more message
-record Roomy (b : Build) (fs : List Frame) (es : List ℕ) (v : Buffer) (s : Stock) : Type 0 where
+record Roomy (b : Build) (fs es : List ℕ) (v : Buffer) (s : Stock) : Type 0 where
   used : s .buffer .used ≡ v .used
   count : s .buffer .count ≡ v .count
   room : v .used + v .count < length (s .buffer .places)
@@ -97,7 +146,7 @@ record Roomy (b : Build) (fs : List Frame) (es : List ℕ) (v : Buffer) (s : Sto
   whole : length (s .buffer .places) ≡ length (s .buffer .frames) * b .perFrame
   places : Every GoodPlace (s .buffer .places)
   waits : waiting (s .buffer) ≡ waiting v
-  free-good : Every (GoodFrame b) (s .free)
+  wiped : Every Wiped (unused (s .buffer))
   weights : SameFrames (s .free) (s .buffer .frames) fs (v .frames)
   order : SameFrames (s .free) (s .entered) fs es
 
@@ -106,7 +155,7 @@ abbrev pub stocked : Message → Stock → Stock
 stocked m s = record { free = s .free; entered = s .entered; buffer = appended m (s .buffer) }
 
 -- what putting a message does to a free line, the order of entry and a buffer
-pub record Stored (b : Build) (m : Message) (fs : List Frame) (es : List ℕ) (v : Buffer) (t : Stock) : Type 0 where
+pub record Stored (b : Build) (m : Message) (fs es : List ℕ) (v : Buffer) (t : Stock) : Type 0 where
   pub traded : Traded b fs v t
   pub order : SameFrames (t .free) (t .entered) fs es
   pub used : t .buffer .used ≡ v .used
@@ -114,10 +163,24 @@ pub record Stored (b : Build) (m : Message) (fs : List Frame) (es : List ℕ) (v
   pub waits : waiting (t .buffer) ≡ waiting v ++ (placeOf m ∷ [])
 
 module _ {b : Build} {v : Buffer} (good : GoodBuffer b v) where
+  -- the used-up places are wiped, and those behind the last message
+  pub both-wiped : Every Wiped (take (v .used) (v .places)) × Every Wiped (drop (v .used + v .count) (v .places))
+  unfolding unused
+  both-wiped = every-append Wiped (take (v .used) (v .places)) (drop (v .used + v .count) (v .places)) .0 (good .unused-wiped)
+
+  -- with a page more too
+  wiped-extended : (f : ℕ) → Every Wiped (unused (extended b f v))
+  unfolding extended unused
+  wiped-extended f =
+      let front = take-append-le (v .used) (v .places) (emptyPage b) (omega (arith, fits good)) in
+      let behind = drop-append-le (v .used + v .count) (v .places) (emptyPage b) (fits good) in
+      let end = every-append Wiped (drop (v .used + v .count) (v .places)) (emptyPage b) .1 (both-wiped .1, page-wiped b) in
+      rw (front, behind) (every-append Wiped (take (v .used) (v .places)) (drop (v .used + v .count) (v .places) ++ emptyPage b) .1 (both-wiped .0, end))
+
   -- there is room already
-  roomy-already : (fs : List Frame) (es : List ℕ) → Every (GoodFrame b) fs → v .used + v .count < length (v .places)
+  roomy-already : (fs es : List ℕ) → v .used + v .count < length (v .places)
       → Roomy b fs es v (record { free = fs; entered = es; buffer = v })
-  roomy-already fs es free-good room =
+  roomy-already fs es room =
       let ends : length (v .frames) * b .perFrame < v .used + v .count + 1 + b .perFrame =
       omega (arith, ceil-least (v .used + v .count) (b .perFrame) (omega arith), ap (λ (k : ℕ). k * b .perFrame) (good .list-length)) in
       record {
@@ -128,56 +191,57 @@ module _ {b : Build} {v : Buffer} (good : GoodBuffer b v) where
         whole = good .whole;
         places = good .places;
         waits = refl;
-        free-good = free-good;
+        wiped = good .unused-wiped;
         weights = λ w. refl;
         order = λ w. refl;
       }
 
   -- a frame is taken
-  roomy-taken : (f : Frame) (fs : List Frame) (es : List ℕ) → Every (GoodFrame b) (f ∷ fs) → length (v .places) ≤ v .used + v .count
-      → Roomy b (f ∷ fs) es v (takeFrame (f ∷ fs) es v)
-  unfolding takeFrame extended frameNumber
-  roomy-taken f fs es free-good full =
-      let joined = length-append (v .places) (f .places) in
-      let longer : length (v .frames ++ (f .number ∷ [])) ≡ length (v .frames) + 1 = length-append (v .frames) (f .number ∷ []) in
+  roomy-taken : (f : ℕ) (fs es : List ℕ) → length (v .places) ≤ v .used + v .count
+      → Roomy b (f ∷ fs) es v (takeFrame b (f ∷ fs) es v)
+  unfolding takeFrame extended
+  roomy-taken f fs es full =
+      let joined = length-append (v .places) (emptyPage b) in
+      let page = length-page b in
+      let longer : length (v .frames ++ (f ∷ [])) ≡ length (v .frames) + 1 = length-append (v .frames) (f ∷ []) in
       let exact : length (v .frames) * b .perFrame ≡ v .used + v .count = omega (arith, good .whole, fits good) in
       record {
         used = refl;
         count = refl;
-        room = omega (arith, joined, free-good .0 .whole, fits good);
+        room = omega (arith, fits good);
         list-length =
             longer ∙ ceil-unique (v .used + v .count + 1) (b .perFrame) (length (v .frames) + 1) (omega arith) (omega arith);
-        whole = rw longer (omega (arith, joined, free-good .0 .whole, good .whole));
-        places = every-append GoodPlace (v .places) (f .places) .1 (good .places, free-good .0 .places);
+        whole = rw longer (omega (arith, good .whole));
+        places = every-append GoodPlace (v .places) (emptyPage b) .1 (good .places, page-good b);
         waits =
-            rw (waiting-front (extended f v), waiting-front v, take-append-le (v .used + v .count) (v .places) (f .places) (fits good));
-        free-good = free-good .1;
-        weights = λ w. omega (arith, weight-append w (v .frames) (f .number ∷ []));
-        order = λ w. omega (arith, weight-append w es (f .number ∷ []));
+            rw (waiting-front (extended b f v), waiting-front v, take-append-le (v .used + v .count) (v .places) (emptyPage b) (fits good));
+        wiped = wiped-extended f;
+        weights = λ w. omega (arith, weight-append w (v .frames) (f ∷ []));
+        order = λ w. omega (arith, weight-append w es (f ∷ []));
       }
 
   -- either way there is room, if a full buffer meets a free frame
-  with-room : (fs : List Frame) (es : List ℕ) → Every (GoodFrame b) fs → (length (v .places) ≤ v .used + v .count → 1 ≤ length fs)
-      → Roomy b fs es v (withRoom fs es v)
+  with-room : (fs es : List ℕ) → (length (v .places) ≤ v .used + v .count → 1 ≤ length fs)
+      → Roomy b fs es v (withRoom b fs es v)
   unfolding withRoom
-  with-room fs es free-good frame = go (ltb (v .used + v .count) (length (v .places))) refl
+  with-room fs es frame = go (ltb (v .used + v .count) (length (v .places))) refl
     where
-      taken : (fs : List Frame) → Every (GoodFrame b) fs → length (v .places) ≤ v .used + v .count → 1 ≤ length fs → Roomy b fs es v (takeFrame fs es v)
-      taken [] free-good full some = absurd (not-suc-le-zero some)
-      taken (f ∷ fs) free-good full some = roomy-taken f fs es free-good full
+      taken : (fs : List ℕ) → length (v .places) ≤ v .used + v .count → 1 ≤ length fs → Roomy b fs es v (takeFrame b fs es v)
+      taken [] full some = absurd (not-suc-le-zero some)
+      taken (f ∷ fs) full some = roomy-taken f fs es full
 
       go : (t : Bool) → ltb (v .used + v .count) (length (v .places)) ≡ t
-          → Roomy b fs es v (cond t (record { free = fs; entered = es; buffer = v }) (takeFrame fs es v))
-      go true e = roomy-already fs es free-good (ltb-true _ _ e)
-      go false e = taken fs free-good (ltb-false _ _ e) (frame (ltb-false _ _ e))
+          → Roomy b fs es v (cond t (record { free = fs; entered = es; buffer = v }) (takeFrame b fs es v))
+      go true e = roomy-already fs es (ltb-true _ _ e)
+      go false e = taken fs (ltb-false _ _ e) (frame (ltb-false _ _ e))
 
   -- a message is stored, if a full buffer meets a free frame
-  pub stored : (m : Message) → GoodMessage m → (fs : List Frame) (es : List ℕ) → Every (GoodFrame b) fs
-      → (length (v .places) ≤ v .used + v .count → 1 ≤ length fs) → Stored b m fs es v (stocked m (withRoom fs es v))
+  pub stored : (m : Message) → GoodMessage m → (fs es : List ℕ)
+      → (length (v .places) ≤ v .used + v .count → 1 ≤ length fs) → Stored b m fs es v (stocked m (withRoom b fs es v))
   unfolding appended
-  stored m message fs es free-good frame =
-      let s = withRoom fs es v in
-      let r = with-room fs es free-good frame in
+  stored m message fs es frame =
+      let s = withRoom b fs es v in
+      let r = with-room fs es frame in
       let at : s .buffer .used + s .buffer .count ≡ v .used + v .count = cc in
       let ends = waiting-appended m (s .buffer) (rw at (r .room)) in
       record {
@@ -191,8 +255,8 @@ module _ {b : Build} {v : Buffer} (good : GoodBuffer b v) where
             waiting-good =
                 rw (ends, r .waits)
                 (every-append GoodWaiting (waiting v) (placeOf m ∷ []) .1 (good .waiting-good, (placeOf-waiting m message, tt)));
+            unused-wiped = wiped-appended m (s .buffer) (r .wiped);
           };
-          free-good = r .free-good;
           weights = r .weights;
         };
         order = r .order;
@@ -202,7 +266,7 @@ module _ {b : Build} {v : Buffer} (good : GoodBuffer b v) where
       }
 
 -- what removing the first message does to a free line and a buffer
-pub record Removed (b : Build) (fs : List Frame) (v : Buffer) (t : Stock) : Type 0 where
+pub record Removed (b : Build) (fs : List ℕ) (v : Buffer) (t : Stock) : Type 0 where
   pub traded : Traded b fs v t
   pub less : t .buffer .used + t .buffer .count ≤ v .used + v .count
   pub waits : waiting (t .buffer) ≡ drop 1 (waiting v)
@@ -227,33 +291,53 @@ module _ {b : Build} {v : Buffer} (good : GoodBuffer b v) (some : 1 ≤ v .count
   fewer : length (v .frames) ≡ length (drop 1 (v .frames)) + 1
   fewer = omega (arith, held, length-drop 1 (v .frames))
 
+  -- the places are wiped but those that wait still, where the first place is used up
+  wiped-used : Every Wiped (take (v .used + 1) (set (v .places) (v .used) emptyPlace) ++ drop (v .used + 1 + (v .count - 1)) (set (v .places) (v .used) emptyPlace))
+  wiped-used =
+      let inside : v .used < length (v .places) = omega (arith, fits good) in
+      let front : take (v .used + 1) (set (v .places) (v .used) emptyPlace) ≡ take (v .used) (v .places) ++ (emptyPlace ∷ []) =
+      rw add-one (take-suc-set (v .places) (v .used) emptyPlace inside) in
+      let behind = drop-set-lt (v .used + 1 + (v .count - 1)) (v .places) (v .used) emptyPlace (omega arith) in
+      let up = every-append Wiped (take (v .used) (v .places)) (emptyPlace ∷ []) .1 (both-wiped good .0, (place-wiped, tt)) in
+      let later = every-later Wiped (v .used + v .count) (v .used + 1 + (v .count - 1)) (v .places) (omega arith) (both-wiped good .1) in
+      rw (front, behind)
+      (every-append Wiped (take (v .used) (v .places) ++ (emptyPlace ∷ [])) (drop (v .used + 1 + (v .count - 1)) (v .places)) .1 (up, later))
+
+  -- and where the first frame is freed
+  wiped-freed : Every Wiped (drop (0 + (v .count - 1)) (drop (b .perFrame) (v .places)))
+  wiped-freed =
+      rw drop-drop
+      (every-later Wiped (v .used + v .count) (b .perFrame + (0 + (v .count - 1))) (v .places) (omega (arith, good .used-bound)) (both-wiped good .1))
+
   -- the first place is used up, and its frame stays
-  removed-used : (fs : List Frame) (es : List ℕ) → Every (GoodFrame b) fs → v .count ≢ 1 → v .used + 1 ≢ b .perFrame → Removed b fs v (useUp fs es v)
-  unfolding useUp waiting
-  removed-used fs es free-good more inside =
+  removed-used : (fs es : List ℕ) → v .count ≢ 1 → v .used + 1 ≢ b .perFrame → Removed b fs v (useUp fs es v)
+  unfolding useUp waiting unused
+  removed-used fs es more inside =
+      let behind : drop (v .used + 1) (set (v .places) (v .used) emptyPlace) ≡ drop (v .used + 1) (v .places) =
+      drop-set-lt (v .used + 1) (v .places) (v .used) emptyPlace (omega arith) in
       record {
         traded = record {
           good = record {
             used-bound = omega arith;
             used-empty = λ none. omega arith;
             list-length = good .list-length ∙ ap (λ (k : ℕ). ceilDiv k (b .perFrame)) (omega arith);
-            whole = good .whole;
-            places = good .places;
-            waiting-good = rw waiting-rest (every-drop GoodWaiting 1 (waiting v) (good .waiting-good));
+            whole = length-set (v .places) (v .used) emptyPlace ∙ good .whole;
+            places = every-set GoodPlace (v .places) (v .used) emptyPlace (good .places) place-good;
+            waiting-good = rw (behind, waiting-rest) (every-drop GoodWaiting 1 (waiting v) (good .waiting-good));
+            unused-wiped = wiped-used;
           };
-          free-good = free-good;
           weights = λ w. refl;
         };
         less = omega arith;
-        waits = waiting-rest;
+        waits = ap (take (v .count - 1)) behind ∙ waiting-rest;
       }
 
   -- the first frame is freed
-  removed-freed : (fs : List Frame) (es : List ℕ) → Every (GoodFrame b) fs → length (drop 1 (v .frames)) ≡ ceilDiv (0 + (v .count - 1)) (b .perFrame)
+  removed-freed : (fs es : List ℕ) → length (drop 1 (v .frames)) ≡ ceilDiv (0 + (v .count - 1)) (b .perFrame)
       → take (v .count - 1) (drop (b .perFrame) (v .places)) ≡ take (v .count - 1) (drop (v .used + 1) (v .places))
       → Removed b fs v (freeFirst b fs es v)
-  unfolding freeFirst firstFrame waiting frameNumber
-  removed-freed fs es free-good lists front =
+  unfolding freeFirst firstFrame waiting unused
+  removed-freed fs es lists front =
       let places : length (v .places) ≡ length (drop 1 (v .frames)) * b .perFrame + b .perFrame =
       omega (arith, good .whole, ap (λ (k : ℕ). k * b .perFrame) fewer) in
       record {
@@ -265,51 +349,42 @@ module _ {b : Build} {v : Buffer} (good : GoodBuffer b v) (some : 1 ≤ v .count
             whole = omega (arith, length-drop (b .perFrame) (v .places));
             places = every-drop GoodPlace (b .perFrame) (v .places) (good .places);
             waiting-good = rw (front, waiting-rest) (every-drop GoodWaiting 1 (waiting v) (good .waiting-good));
+            unused-wiped = wiped-freed;
           };
-          free-good = every-append (GoodFrame b) fs (firstFrame b v ∷ []) .1 (
-            free-good,
-            (
-              record {
-                whole = length-take-le (b .perFrame) (v .places) (omega arith);
-                places = every-take GoodPlace (b .perFrame) (v .places) (good .places);
-              },
-              tt,
-            ),
-          );
           weights = λ w.
-              rw map-append (omega (arith, weight-append w (map frameNumber fs) (getD (v .frames) 0 0 ∷ []), weight-first w (v .frames) held));
+              omega (arith, weight-append w fs (getD (v .frames) 0 0 ∷ []), weight-first w (v .frames) held);
         };
         less = omega arith;
         waits = front ∙ waiting-rest;
       }
 
   -- where the last message goes, its frame is the only one
-  removed-last : (fs : List Frame) (es : List ℕ) → Every (GoodFrame b) fs → v .count ≡ 1 → Removed b fs v (freeFirst b fs es v)
-  removed-last fs es free-good last =
+  removed-last : (fs es : List ℕ) → v .count ≡ 1 → Removed b fs v (freeFirst b fs es v)
+  removed-last fs es last =
       let only : 1 ≡ ceilDiv (v .used + v .count) (b .perFrame) = ceil-unique (v .used + v .count) (b .perFrame) 1 (omega arith) (omega arith) in
       let lists : length (drop 1 (v .frames)) ≡ 0 = omega (arith, good .list-length, fewer) in
       let none : v .count - 1 ≡ 0 = omega arith in
-      removed-freed fs es free-good (lists ∙ ceil-unique (0 + (v .count - 1)) (b .perFrame) 0 (omega arith) (omega arith)) (rw none)
+      removed-freed fs es (lists ∙ ceil-unique (0 + (v .count - 1)) (b .perFrame) 0 (omega arith) (omega arith)) (rw none)
 
   -- where the first frame is used up, the others hold the rest
-  removed-frame : (fs : List Frame) (es : List ℕ) → Every (GoodFrame b) fs → v .used + 1 ≡ b .perFrame → Removed b fs v (freeFirst b fs es v)
-  removed-frame fs es free-good whole =
+  removed-frame : (fs es : List ℕ) → v .used + 1 ≡ b .perFrame → Removed b fs v (freeFirst b fs es v)
+  removed-frame fs es whole =
       let spread = ap (λ (k : ℕ). k * b .perFrame) (sym (good .list-length) ∙ fewer) in
       let enough = ceil-enough (v .used + v .count) (b .perFrame) (omega arith) in
       let least = ceil-least (v .used + v .count) (b .perFrame) (omega arith) in
       let lists = ceil-unique (0 + (v .count - 1)) (b .perFrame) (length (drop 1 (v .frames))) (omega arith) (omega arith) in
-      removed-freed fs es free-good lists (rw whole)
+      removed-freed fs es lists (rw whole)
 
   -- the first message is removed
-  pub removed-first : (fs : List Frame) (es : List ℕ) → Every (GoodFrame b) fs → Removed b fs v (removeFirst b fs es v)
+  pub removed-first : (fs es : List ℕ) → Removed b fs v (removeFirst b fs es v)
   unfolding removeFirst
-  removed-first fs es free-good = go (eqb (v .count) 1) refl (eqb (v .used + 1) (b .perFrame)) refl
+  removed-first fs es = go (eqb (v .count) 1) refl (eqb (v .used + 1) (b .perFrame)) refl
     where
       go : (t : Bool) → eqb (v .count) 1 ≡ t → (u : Bool) → eqb (v .used + 1) (b .perFrame) ≡ u
           → Removed b fs v (cond (t || u) (freeFirst b fs es v) (useUp fs es v))
-      go true e u f = removed-last fs es free-good (eqb-true _ _ e)
-      go false e true f = removed-frame fs es free-good (eqb-true _ _ f)
-      go false e false f = removed-used fs es free-good (eqb-false _ _ e) (eqb-false _ _ f)
+      go true e u f = removed-last fs es (eqb-true _ _ e)
+      go false e true f = removed-frame fs es (eqb-true _ _ f)
+      go false e false f = removed-used fs es (eqb-false _ _ e) (eqb-false _ _ f)
 
 -- a number is left out, and another kept
 without-same : (f x : ℕ) (xs : List ℕ) → x ≡ f → without f (x ∷ xs) ≡ without f xs
@@ -336,14 +411,14 @@ pub weight-left : (w : ℕ → ℕ) (f : ℕ) (xs : List ℕ) → countOf f xs �
 weight-left w f xs once = let r = rw once at (weight-without w f xs) in omega arith
 
 -- a frame that is freed, if its number stands once in the order of entry, goes from there to the free line
-pub removed-order : (b : Build) (fs : List Frame) (es : List ℕ) (v : Buffer) → countOf (getD (v .frames) 0 0) es ≡ 1
+pub removed-order : (b : Build) (fs es : List ℕ) (v : Buffer) → countOf (getD (v .frames) 0 0) es ≡ 1
     → SameFrames (removeFirst b fs es v .free) (removeFirst b fs es v .entered) fs es
-unfolding removeFirst freeFirst firstFrame useUp frameNumber
+unfolding removeFirst freeFirst firstFrame useUp
 removed-order b fs es v once w = go (eqb (v .count) 1 || eqb (v .used + 1) (b .perFrame))
   where
-    go : (t : Bool) → weight w (map frameNumber (cond t (freeFirst b fs es v) (useUp fs es v) .free)) + weight w (cond t (freeFirst b fs es v) (useUp fs es v) .entered)
-        ≡ weight w (map frameNumber fs) + weight w es
+    go : (t : Bool) → weight w (cond t (freeFirst b fs es v) (useUp fs es v) .free) + weight w (cond t (freeFirst b fs es v) (useUp fs es v) .entered)
+        ≡ weight w fs + weight w es
     go true =
         let f = getD (v .frames) 0 0 in
-        rw map-append (omega (arith, weight-append w (map frameNumber fs) (f ∷ []), weight-left w f es once))
+        omega (arith, weight-append w fs (f ∷ []), weight-left w f es once)
     go false = refl

@@ -219,7 +219,7 @@ unbuffered-line {b} {n} s g low high e =
     let queue = filter (isOf g) (n .queue) in
     let good = group-good s g low high .buffer in
     let some = ltb-true 0 (w .count) e in
-    let gone = removed-first good some (n .free) (n .paging .entered) (s .free-good) in
+    let gone = removed-first good some (n .free) (n .paging .entered) in
     let front : 1 ≤ length (map (messageOf g) (waiting w)) = simp (length-map, length-take, length-drop) (omega (arith, fits good)) in
     ap (λ (u : Buffer). map (messageOf g) (waiting u) ++ queue) (stock-same g (removeFirst b (n .free) (n .paging .entered) w) n (within s g low high))
     ∙ ap (λ (ps : List Place). map (messageOf g) ps ++ queue) (gone .waits)

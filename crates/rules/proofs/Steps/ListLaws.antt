@@ -10,9 +10,10 @@ use native.Mathlib.Decide.{ℕ-discrete, decLt}
 use native.Mathlib.Omega.{arith}
 use lib.Dec.{ltb, eqb}
 use borrow.Author.Tests.{ltb-true, ltb-false, lt-ltb, le-ltb, eqb-true, eqb-false, eq-eqb, ne-eqb}
-use lib.Seq.{take-nil, drop-nil}
-use lib.ListN.{length, take, drop, getD, set, replicate, length-append}
+use lib.Seq.{take-nil, drop-nil, getD-append-add}
+use lib.ListN.{length, take, drop, getD, set, replicate, length-append, List·getD-append}
 use Rattle.rules.specs.Lists.{filter, isEmpty, Every, concatMap, sum, countOf, upFrom, pad}
+use Rattle.rules.proofs.Steps.EveryLaws.{every-getD}
 
 -- an element that passes is kept, one that fails is not
 pub filter-pass : {A : Type 0} (p : A → Bool) (x : A) (xs : List A) → p x ≡ true → filter p (x ∷ xs) ≡ x ∷ filter p xs
@@ -122,6 +123,45 @@ count-part k f d [] i h = absurd (omega arith)
 count-part k f d (x ∷ xs) zero h = omega (arith, count-append k (f x) (concatMap f xs))
 count-part k f d (x ∷ xs) (suc i) h = omega (arith, count-append k (f x) (concatMap f xs), count-part k f d xs i (omega arith))
 
+-- and back: a number that is counted stands at an index
+pub count-index : (k : ℕ) (xs : List ℕ) → 1 ≤ countOf k xs → (i : ℕ) × ((i < length xs) × (getD xs i 0 ≡ k))
+count-index k [] h = absurd (omega arith)
+count-index k (x ∷ xs) h = go (eqb x k) refl (count-index k xs)
+  where
+    go : (t : Bool) → eqb x k ≡ t → (1 ≤ countOf k xs → (i : ℕ) × ((i < length xs) × (getD xs i 0 ≡ k)))
+        → (i : ℕ) × ((i < length (x ∷ xs)) × (getD (x ∷ xs) i 0 ≡ k))
+    go true q r = (0, (omega arith, eqb-true x k q))
+    go false q r =
+        let l = rw q at h in
+        let t = r (omega arith) in
+        let inside = t .1 .0 in
+        (suc (t .0), (omega arith, t .1 .1))
+
+-- and one that is counted in joined lists is in one of them
+pub count-whose : {A : Type 0} (k : ℕ) (f : A → List ℕ) (d : A) (xs : List A) → 1 ≤ countOf k (concatMap f xs)
+    → (i : ℕ) × ((i < length xs) × (1 ≤ countOf k (f (getD xs i d))))
+count-whose k f d [] h = absurd (omega arith)
+count-whose {A} k f d (x ∷ xs) h = go (decLt 0 (countOf k (f x))) (count-whose k f d xs)
+  where
+    go : Dec (0 < countOf k (f x)) → (1 ≤ countOf k (concatMap f xs) → (i : ℕ) × ((i < length xs) × (1 ≤ countOf k (f (getD xs i d)))))
+        → (i : ℕ) × ((i < length (x ∷ xs)) × (1 ≤ countOf k (f (getD (x ∷ xs) i d))))
+    go (yes here) r = (0, (omega arith, here))
+    go (no not) r =
+        let t = r (omega (arith, count-append k (f x) (concatMap f xs))) in
+        let inside = t .1 .0 in
+        (suc (t .0), (omega arith, t .1 .1))
+
+-- what holds of every element holds of a number that is counted
+pub every-counted : (P : ℕ → Type 0) (k : ℕ) (xs : List ℕ) → Every P xs → 1 ≤ countOf k xs → P k
+every-counted P k xs e h =
+    let t = count-index k xs h in
+    subst P (t .1 .1) (every-getD P xs (t .0) 0 e (t .1 .0))
+
+-- a member is
+pub count-member : {k : ℕ} {xs : List ℕ} → List·Memᴰ k xs → 1 ≤ countOf k xs
+count-member {k} (List·Memᴰ·head {x = x} q) = rw (eq-eqb x k (sym q)) (omega arith)
+count-member (List·Memᴰ·tail h) = let r = count-member h in omega arith
+
 -- and so is a length
 abbrev pub unit : {A : Type 0} → A → ℕ
 unit x = 1
@@ -225,6 +265,17 @@ module _ {A B : Type 0} (f : A → List B) where
   pub part-short : {x : A} {xs : List A} → List·Memᴰ x xs → length (f x) ≤ length (concatMap f xs)
   part-short {x} (List·Memᴰ·head {x = y} {xs = ys} q) = simp length-append (rw q (omega arith))
   part-short {x} (List·Memᴰ·tail {x = y} {xs = ys} h) = let r = part-short h in simp length-append (omega arith)
+
+  -- element i of the j-th, where each has s
+  pub getD-parts : (s : ℕ) → ((x : A) → length (f x) ≡ s) → (xs : List A) (j i : ℕ) (c : A) (d : B) → j < length xs → i < s
+      → getD (concatMap f xs) (s * j + i) d ≡ getD (f (getD xs j c)) i d
+  getD-parts s sized [] j i c d h l = absurd (omega arith)
+  getD-parts s sized (x ∷ xs) zero i c d h l =
+      let z : s * 0 + i ≡ i = omega arith in
+      rw z (List·getD-append (f x) (concatMap f xs) d i (rw (sized x) l))
+  getD-parts s sized (x ∷ xs) (suc j) i c d h l =
+      let z : s * suc j + i ≡ length (f x) + (s * j + i) = omega (arith, sized x, mul-suc s j) in
+      rw z (getD-append-add (f x) (concatMap f xs) (s * j + i) d ∙ getD-parts s sized xs j i c d (omega arith) l)
 
 -- A list padded with 0.
 

@@ -4,7 +4,7 @@ use Prim.Native.Nat.{ℕ, pred, _+_, _≤_, _<_}
 use mathlib.Core.Path.{_≡_, refl, sym, ap, _∙_}
 use mathlib.Core.Logic.{_≢_}
 use mathlib.Core.Bool.{true, false}
-use mathlib.Core.List.{List, _++_, map, map-append}
+use mathlib.Core.List.{List, _++_}
 use native.Mathlib.Nat.{le-of-eq}
 use native.Mathlib.Omega.{arith}
 use lib.ListN.{length, getD, set, length-set, List·getD-map}
@@ -12,9 +12,9 @@ use lib.Seq.{getD-set-same, getD-set-other, map-set-same}
 use borrow.Author.Tests.{eq-eqb, ne-eqb}
 use Rattle.rules.specs.Lists.{Every, concatMap, countOf}
 use Rattle.rules.specs.Build.{Build, pageCount, groupCount}
-use Rattle.rules.specs.Node.{Message, Frame, Group, Node, emptyGroup, groupOf, withRunning, withTimer, withQueue, withFree, withPaging, withEntered, withGroup, withBuffer, isOf, inBuffer, inQueue, line}
+use Rattle.rules.specs.Node.{Message, Group, Node, emptyGroup, groupOf, withRunning, withTimer, withQueue, withFree, withPaging, withEntered, withGroup, withBuffer, isOf, inBuffer, inQueue, line}
 use Rattle.rules.specs.Frames.{Stock, withStock, pledge, pledges}
-use Rattle.rules.specs.Valid.{GoodMessage, GoodFrame, GoodGroup, frameList, frameNumber, idle, frameNumbers, frameOrder}
+use Rattle.rules.specs.Valid.{GoodMessage, GoodGroup, frameList, idle, frameNumbers, frameOrder}
 use Rattle.rules.specs.Sound.{Sound}
 use Rattle.rules.proofs.Steps.SoundLaws.{SameFlags}
 use Rattle.rules.proofs.Steps.EveryLaws.{every-set, every-getD}
@@ -97,20 +97,19 @@ pledges-le b n n′ each = sum-le (pledge b n′) (pledge b n) 1 groupCount (λ 
 
 -- the numbers of all pages weigh what the two lines and the lists do
 pub numbers-weight : (n : Node) (w : ℕ → ℕ)
-    → weight w (frameNumbers n) ≡ weight w (map frameNumber (n .free)) + weight w (map frameNumber (n .paging .swap)) + weight w (concatMap frameList (n .groups))
+    → weight w (frameNumbers n) ≡ weight w (n .free) + weight w (n .paging .swap) + weight w (concatMap frameList (n .groups))
 unfolding frameNumbers idle
 numbers-weight n w =
-    rw (map-append frameNumber (n .free) (n .paging .swap))
-    (omega (
+    omega (
       arith,
-      weight-append w (map frameNumber (n .free) ++ map frameNumber (n .paging .swap)) (concatMap frameList (n .groups)),
-      weight-append w (map frameNumber (n .free)) (map frameNumber (n .paging .swap)),
-    ))
+      weight-append w (n .free ++ n .paging .swap) (concatMap frameList (n .groups)),
+      weight-append w (n .free) (n .paging .swap),
+    )
 
 -- and those of the frames what the free line and the order of entry do
-pub order-weight : (n : Node) (w : ℕ → ℕ) → weight w (frameOrder n) ≡ weight w (map frameNumber (n .free)) + weight w (n .paging .entered)
+pub order-weight : (n : Node) (w : ℕ → ℕ) → weight w (frameOrder n) ≡ weight w (n .free) + weight w (n .paging .entered)
 unfolding frameOrder
-order-weight n w = weight-append w (map frameNumber (n .free)) (n .paging .entered)
+order-weight n w = weight-append w (n .free) (n .paging .entered)
 
 -- numbers that weigh the same by every weight stand as often, and are as many
 pub weights-count : (xs ys : List ℕ) → ((w : ℕ → ℕ) → weight w ys ≡ weight w xs) → (f : ℕ) → countOf f ys ≡ countOf f xs
@@ -120,11 +119,11 @@ pub weights-length : (xs ys : List ℕ) → ((w : ℕ → ℕ) → weight w ys �
 weights-length xs ys same = length-weight ys ∙ same unit ∙ sym (length-weight xs)
 
 -- the node with a group, the free line and the order of entry exchanged
-abbrev exchanged : ℕ → Group → List Frame → List ℕ → Node → Node
+abbrev exchanged : ℕ → Group → List ℕ → List ℕ → Node → Node
 exchanged g G fs es n = withGroup g G (withFree fs (withPaging (withEntered es (n .paging)) n))
 
 -- frames that go between the free line and a group's list weigh together what they weighed
-pub reweighed : (n : Node) (g : ℕ) (G : Group) (fs : List Frame) (es : List ℕ) → pred g < length (n .groups)
+pub reweighed : (n : Node) (g : ℕ) (G : Group) (fs es : List ℕ) → pred g < length (n .groups)
     → SameFrames fs (G .buffer .frames) (n .free) (groupOf n g .buffer .frames) → (w : ℕ → ℕ)
     → weight w (frameNumbers (exchanged g G fs es n)) ≡ weight w (frameNumbers n)
 unfolding frameList groupOf withGroup withFree withPaging withEntered
@@ -138,19 +137,19 @@ reweighed n g G fs es inside even w =
     )
 
 -- and between the free line and the order of entry
-reordered : (n : Node) (g : ℕ) (G : Group) (fs : List Frame) (es : List ℕ) → SameFrames fs es (n .free) (n .paging .entered) → (w : ℕ → ℕ)
+reordered : (n : Node) (g : ℕ) (G : Group) (fs es : List ℕ) → SameFrames fs es (n .free) (n .paging .entered) → (w : ℕ → ℕ)
     → weight w (frameOrder (exchanged g G fs es n)) ≡ weight w (frameOrder n)
 unfolding withGroup withFree withPaging withEntered
 reordered n g G fs es even w = omega (arith, even w, order-weight (exchanged g G fs es n) w, order-weight n w)
 
--- a sound node with a good group, a good free line and a good queue exchanged, if frames and pledges allow it, is sound
-changed : {b : Build} {n : Node} → Sound b n → (g : ℕ) → 1 ≤ g → g ≤ groupCount → (G : Group) (fs : List Frame) (es : List ℕ) (q : List Message)
-    → GoodGroup b G → Every (GoodFrame b) fs → Every GoodMessage q → length q ≤ length (n .queue)
+-- a sound node with a good group, the free line and a good queue exchanged, if frames and pledges allow it, is sound
+changed : {b : Build} {n : Node} → Sound b n → (g : ℕ) → 1 ≤ g → g ≤ groupCount → (G : Group) (fs es : List ℕ) (q : List Message)
+    → GoodGroup b G → Every GoodMessage q → length q ≤ length (n .queue)
     → SameFrames fs (G .buffer .frames) (n .free) (groupOf n g .buffer .frames) → SameFrames fs es (n .free) (n .paging .entered)
     → pledges b (withQueue q (exchanged g G fs es n)) ≤ pledges b n
     → Sound b (withQueue q (exchanged g G fs es n))
 unfolding withQueue withGroup withFree withPaging withEntered idle frameNumbers frameOrder
-changed {b} {n} s g low high G fs es q good free-good queue-good shorter even order fewer =
+changed {b} {n} s g low high G fs es q good queue-good shorter even order fewer =
     let n′ = exchanged g G fs es n in
     let frames = reweighed n g G fs es (within s g low high) even in
     let orders = reordered n g G fs es order in
@@ -162,8 +161,6 @@ changed {b} {n} s g low high G fs es q good free-good queue-good shorter even or
       queue-good = queue-good;
       group-count = length-set (n .groups) (pred g) G ∙ s .group-count;
       groups-good = every-set (GoodGroup b) (n .groups) (pred g) G (s .groups-good) good;
-      free-good = free-good;
-      swap-good = s .swap-good;
       frames-once = λ f below. weights-count (frameNumbers n) (frameNumbers n′) frames f ∙ s .frames-once f below;
       frames-all = weights-length (frameNumbers n) (frameNumbers n′) frames ∙ s .frames-all;
       swap-numbers = s .swap-numbers;
@@ -185,8 +182,6 @@ refronted s r t q running timer queue-length queue-good pledged =
       queue-good = queue-good;
       group-count = s .group-count;
       groups-good = s .groups-good;
-      free-good = s .free-good;
-      swap-good = s .swap-good;
       frames-once = s .frames-once;
       frames-all = s .frames-all;
       swap-numbers = s .swap-numbers;
@@ -222,7 +217,7 @@ restocked {b} {n} s g low high t q traded order queue-good shorter fewer =
       force-atomic = G .force-atomic;
       revoked-atomic = G .revoked-atomic;
     } in
-    changed s g low high (withBuffer (t .buffer) (groupOf n g)) (t .free) (t .entered) q good (traded .free-good) queue-good shorter (traded .weights) order fewer
+    changed s g low high (withBuffer (t .buffer) (groupOf n g)) (t .free) (t .entered) q good queue-good shorter (traded .weights) order fewer
 
 -- flags and descriptors stay
 pub restocked-flags : (g : ℕ) (t : Stock) (n : Node) (h : ℕ) → SameFlags (groupOf (withStock g t n) h) (groupOf n h)
@@ -247,5 +242,5 @@ pub reflagged : {b : Build} {n : Node} → Sound b n → (g : ℕ) → 1 ≤ g �
     → Sound b (withGroup g G n)
 unfolding withQueue withGroup withFree withPaging withEntered
 reflagged {b} {n} s g low high G good same =
-    changed s g low high G (n .free) (n .paging .entered) (n .queue) good (s .free-good) (s .queue-good) (omega arith) (λ w. rw same) (λ w. refl)
+    changed s g low high G (n .free) (n .paging .entered) (n .queue) good (s .queue-good) (omega arith) (λ w. rw same) (λ w. refl)
     (pledges-le b n (withGroup g G n) (λ h low′ high′. le-of-eq (pledge-same b n (withGroup g G n) h (kept (λ K. K .buffer) n g G same h) refl)))

@@ -15,17 +15,16 @@ use lib.ListN.{length, getD, length-append, length-map, List·getD-map}
 use borrow.Author.Tests.{ltb-true, ltb-false, lt-ltb, eqb-true, eqb-false, eq-eqb, ne-eqb, not-true, not-false}
 use Rattle.rules.specs.Lists.{Every, filter, concatMap, countOf}
 use Rattle.rules.specs.Build.{Build, pageCount, groupCount}
-use Rattle.rules.specs.Node.{Message, Frame, Group, Paging, Node, emptyGroup, groupOf, withTimer, withQueue, withFree, withPaging, withGroups, withBuffer, bufferHolds, buffered, waiting, inBuffer, inQueue, line}
+use Rattle.rules.specs.Node.{Message, Group, Paging, Node, emptyGroup, groupOf, withTimer, withQueue, withFree, withPaging, withGroups, withBuffer, bufferHolds, buffered, waiting, unused, inBuffer, inQueue, line}
 use Rattle.rules.specs.Frames.{without, pledge, pledges}
-use Rattle.rules.specs.Paging.{framesOf, leaving, inFrame, traded, tradedIn, trading, standsFirst, spared, victim, sendOut, freed, exchange, bringIn, resident, nextPage, prepared, firstResident, runnerResident}
-use Rattle.rules.specs.Valid.{GoodFrame, GoodGroup, IsSwap, FirstInFrame, frameList, frameNumber, frameNumbers, frameOrder}
+use Rattle.rules.specs.Paging.{inFrame, traded, tradedIn, trading, standsFirst, spared, victim, sendOut, freed, exchange, bringIn, resident, nextPage, prepared, firstResident, runnerResident}
+use Rattle.rules.specs.Valid.{GoodGroup, IsSwap, FirstInFrame, frameList, frameNumbers, frameOrder}
 use Rattle.rules.specs.Sound.{Sound, Listed}
 use Rattle.rules.proofs.Steps.SoundLaws.{SameFlags, flags-refl}
 use Rattle.rules.proofs.Steps.EveryLaws.{every-append, every-mapped}
-use Rattle.rules.proofs.Steps.ListLaws.{filter-pass, filter-fail, weight, weight-append, hit, count-weight, count-append, count-at, count-part, once-bounded}
+use Rattle.rules.proofs.Steps.ListLaws.{filter-pass, filter-fail, weight, weight-append, hit, count-weight, count-append, count-at, count-part, every-counted, once-bounded}
 use Rattle.rules.proofs.Steps.FrameLaws.{weight-left}
 use Rattle.rules.proofs.Steps.NodeLaws.{filled, group-good, within, numbers-weight, order-weight, weights-count, weights-length}
-use Rattle.rules.proofs.Steps.PageLaws.{numbers-groups, found, pages-good}
 use Rattle.rules.proofs.Steps.RoomLaws.{swap-left}
 
 -- What paging leaves.
@@ -76,7 +75,7 @@ traded-pages p q G =
     }
 
 -- a node that differs from another in the free line and in paging, with two numbers traded
-repaged-trading : (p q : ℕ) (fs : List Frame) (s : Paging) (n : Node) → Repaged (trading p q (withFree fs (withPaging s n))) n
+repaged-trading : (p q : ℕ) (fs : List ℕ) (s : Paging) (n : Node) → Repaged (trading p q (withFree fs (withPaging s n))) n
 unfolding trading withGroups withFree withPaging groupOf
 repaged-trading p q fs s n =
     record {
@@ -87,10 +86,10 @@ repaged-trading p q fs s n =
     }
 
 -- a page sent out
-send-repaged : (b : Build) (f : ℕ) (ss : List Frame) (n : Node) → Repaged (sendOut b f ss n) n
+send-repaged : (f : ℕ) (ss : List ℕ) (n : Node) → Repaged (sendOut f ss n) n
 unfolding sendOut
-send-repaged b f [] n = repaged-refl
-send-repaged b f (s ∷ ss) n = repaged-trading f (s .number) _ _ n
+send-repaged f [] n = repaged-refl
+send-repaged f (s ∷ ss) n = repaged-trading f s _ _ n
 
 -- pages exchanged
 exchange-repaged : (f p : ℕ) (n : Node) → Repaged (exchange f p n) n
@@ -98,45 +97,45 @@ unfolding exchange trading withGroups withFree withPaging
 exchange-repaged f p n = repaged-trading f p (n .free) _ n
 
 -- a page brought in
-bring-repaged : (b : Build) (p : ℕ) (fs : List Frame) (n : Node) → Repaged (bringIn b p fs n) n
+bring-repaged : (p : ℕ) (fs : List ℕ) (n : Node) → Repaged (bringIn p fs n) n
 unfolding bringIn
-bring-repaged b p [] n = exchange-repaged (victim n) p n
-bring-repaged b p (f ∷ fs) n = repaged-trading (f .number) p fs _ n
+bring-repaged p [] n = exchange-repaged (victim n) p n
+bring-repaged p (f ∷ fs) n = repaged-trading f p fs _ n
 
 -- a page in swap is brought in, one in a frame stays
-pub resident-cases : (P : Node → Type 0) (b : Build) (p : ℕ) (n : Node) → (inFrame b p ≡ true → P n) → (inFrame b p ≡ false → P (bringIn b p (n .free) n))
+pub resident-cases : (P : Node → Type 0) (b : Build) (p : ℕ) (n : Node) → (inFrame b p ≡ true → P n) → (inFrame b p ≡ false → P (bringIn p (n .free) n))
     → P (resident b p n)
 unfolding resident
 resident-cases P b p n here brought = go (inFrame b p) refl
   where
-    go : (t : Bool) → inFrame b p ≡ t → P (cond t n (bringIn b p (n .free) n))
+    go : (t : Bool) → inFrame b p ≡ t → P (cond t n (bringIn p (n .free) n))
     go true e = here e
     go false e = brought e
 
 pub resident-repaged : (b : Build) (p : ℕ) (n : Node) → Repaged (resident b p n) n
-resident-repaged b p n = resident-cases (λ k. Repaged k n) b p n (λ e. repaged-refl) (λ e. bring-repaged b p (n .free) n)
+resident-repaged b p n = resident-cases (λ k. Repaged k n) b p n (λ e. repaged-refl) (λ e. bring-repaged p (n .free) n)
 
 -- a frame made free
-freed-repaged : (b : Build) (fs : List Frame) (n : Node) → Repaged (freed b fs n) n
+freed-repaged : (fs : List ℕ) (n : Node) → Repaged (freed fs n) n
 unfolding freed
-freed-repaged b [] n = send-repaged b (victim n) (n .paging .swap) n
-freed-repaged b (f ∷ fs) n = repaged-refl
+freed-repaged [] n = send-repaged (victim n) (n .paging .swap) n
+freed-repaged (f ∷ fs) n = repaged-refl
 
 -- what a message needs first: its page in a frame, or a frame made free
 pub prepared-cases : (P : Node → Type 0) (b : Build) (g : ℕ) (n : Node)
     → (filled n g < length (groupOf n g .buffer .places) → P (resident b (nextPage b (groupOf n g .buffer)) n))
-    → (length (groupOf n g .buffer .places) ≤ filled n g → P (freed b (n .free) n)) → P (prepared b g n)
+    → (length (groupOf n g .buffer .places) ≤ filled n g → P (freed (n .free) n)) → P (prepared b g n)
 unfolding prepared
 prepared-cases P b g n room full = go (ltb (filled n g) (length (groupOf n g .buffer .places))) refl
   where
     go : (t : Bool) → ltb (filled n g) (length (groupOf n g .buffer .places)) ≡ t
-        → P (cond t (resident b (nextPage b (groupOf n g .buffer)) n) (freed b (n .free) n))
+        → P (cond t (resident b (nextPage b (groupOf n g .buffer)) n) (freed (n .free) n))
     go true e = room (ltb-true _ _ e)
     go false e = full (ltb-false _ _ e)
 
 pub prepared-repaged : (b : Build) (g : ℕ) (n : Node) → Repaged (prepared b g n) n
 prepared-repaged b g n =
-    prepared-cases (λ k. Repaged k n) b g n (λ e. resident-repaged b (nextPage b (groupOf n g .buffer)) n) (λ e. freed-repaged b (n .free) n)
+    prepared-cases (λ k. Repaged k n) b g n (λ e. resident-repaged b (nextPage b (groupOf n g .buffer)) n) (λ e. freed-repaged (n .free) n)
 
 -- the running group's first page
 first-repaged : (b : Build) (ps : List ℕ) (n : Node) → Repaged (firstResident b ps n) n
@@ -213,22 +212,13 @@ lists-traded p q (G ∷ Gs) =
 
 -- Counts.
 
--- what is counted has what every element has
-pub count-in : (P : ℕ → Type 0) (k : ℕ) (xs : List ℕ) → Every P xs → 1 ≤ countOf k xs → P k
-count-in P k [] e h = absurd (omega arith)
-count-in P k (x ∷ xs) e h = go (ℕ-discrete x k) (count-in P k xs (e .1))
-  where
-    go : Dec (x ≡ k) → (1 ≤ countOf k xs → P k) → P k
-    go (yes same) later = subst P same (e .0)
-    go (no other) later = later (let l = rw (ne-eqb x k other) at h in omega arith)
-
--- so what none has is not counted
+-- what no element has is not counted
 count-out : (P : ℕ → Type 0) (k : ℕ) (xs : List ℕ) → Every P xs → (P k → ⊥) → countOf k xs ≡ 0
 count-out P k xs e never = go (countOf k xs) refl
   where
     go : (c : ℕ) → countOf k xs ≡ c → countOf k xs ≡ 0
     go zero h = h
-    go (suc c) h = absurd (never (count-in P k xs e (omega arith)))
+    go (suc c) h = absurd (never (every-counted P k xs e (omega arith)))
 
 -- the first that passes a test is one of the numbers, and passes
 first-passes : (t : ℕ → Bool) (xs : List ℕ) → 1 ≤ length (filter t xs)
@@ -266,30 +256,30 @@ spared-first n x e = go (groupOf n (n .running) .buffer .frames) (and-eq-true-if
 module _ {b : Build} {n : Node} (s : Sound b n) where
   -- how often a number stands: in the two lines and in the lists
   pub counted : (k : ℕ)
-      → countOf k (frameNumbers n) ≡ countOf k (map frameNumber (n .free)) + countOf k (map frameNumber (n .paging .swap)) + countOf k (concatMap frameList (n .groups))
+      → countOf k (frameNumbers n) ≡ countOf k (n .free) + countOf k (n .paging .swap) + countOf k (concatMap frameList (n .groups))
   counted k =
       omega (
         arith,
         numbers-weight n (hit k),
         count-weight k (frameNumbers n),
-        count-weight k (map frameNumber (n .free)),
-        count-weight k (map frameNumber (n .paging .swap)),
+        count-weight k (n .free),
+        count-weight k (n .paging .swap),
         count-weight k (concatMap frameList (n .groups)),
       )
 
   -- and in the free line and the order of entry
-  pub ordered : (k : ℕ) → countOf k (frameOrder n) ≡ countOf k (map frameNumber (n .free)) + countOf k (n .paging .entered)
+  pub ordered : (k : ℕ) → countOf k (frameOrder n) ≡ countOf k (n .free) + countOf k (n .paging .entered)
   unfolding frameOrder
-  ordered k = count-append k (map frameNumber (n .free)) (n .paging .entered)
+  ordered k = count-append k (n .free) (n .paging .entered)
 
-  order-below : Every (λ k. k < b .frames) (map frameNumber (n .free)) × Every (λ k. k < b .frames) (n .paging .entered)
+  order-below : Every (λ k. k < b .frames) (n .free) × Every (λ k. k < b .frames) (n .paging .entered)
   unfolding frameOrder
   order-below =
-      every-append (λ k. k < b .frames) (map frameNumber (n .free)) (n .paging .entered) .0
+      every-append (λ k. k < b .frames) (n .free) (n .paging .entered) .0
       (once-bounded (b .frames) (frameOrder n) (s .entered-once) (s .entered-all))
 
   -- the free line has frames
-  pub free-below : Every (λ k. k < b .frames) (map frameNumber (n .free))
+  pub free-below : Every (λ k. k < b .frames) (n .free)
   free-below = order-below .0
 
   -- and so has the order of entry
@@ -297,31 +287,32 @@ module _ {b : Build} {n : Node} (s : Sound b n) where
   entered-below = order-below .1
 
   -- no frame stands in the swap line
-  pub swap-none : (k : ℕ) → k < b .frames → countOf k (map frameNumber (n .paging .swap)) ≡ 0
-  unfolding frameNumber
-  swap-none k below =
-      count-out (λ x. b .frames ≤ x) k (map frameNumber (n .paging .swap))
-      (every-mapped (IsSwap b) (λ x. b .frames ≤ x) frameNumber (λ x h. h) (n .paging .swap) (s .swap-numbers)) (λ h. omega arith)
+  pub swap-none : (k : ℕ) → k < b .frames → countOf k (n .paging .swap) ≡ 0
+  swap-none k below = count-out (IsSwap b) k (n .paging .swap) (s .swap-numbers) (λ h. omega arith)
 
-  -- a page that a group has is below all pages, and stands in no line and once in the lists
+  -- a page that a group has is one of all pages
+  pub listed-below : (p : ℕ) → Listed p n → p < pageCount b
+  listed-below p listed =
+      every-counted (λ k. k < pageCount b) p (frameNumbers n) (once-bounded (pageCount b) (frameNumbers n) (s .frames-once) (s .frames-all)) (omega (arith, counted p))
+
+  -- it stands in no line, and once in the lists
   pub listed-once : (p : ℕ) → Listed p n
-      → (countOf p (map frameNumber (n .free)) ≡ 0) × ((countOf p (map frameNumber (n .paging .swap)) ≡ 0) × (countOf p (concatMap frameList (n .groups)) ≡ 1))
+      → (countOf p (n .free) ≡ 0) × ((countOf p (n .paging .swap) ≡ 0) × (countOf p (concatMap frameList (n .groups)) ≡ 1))
   listed-once p listed =
-      let below = count-in (λ k. k < pageCount b) p (frameNumbers n) (once-bounded (pageCount b) (frameNumbers n) (s .frames-once) (s .frames-all)) (omega (arith, counted p)) in
-      let once = s .frames-once p below in
+      let once = s .frames-once p (listed-below p listed) in
       let all = counted p in
       (omega arith, (omega arith, omega arith))
 
   -- one that stands in a line is no group's
-  pub idle-unlisted : (p : ℕ) → 1 ≤ countOf p (map frameNumber (n .free)) + countOf p (map frameNumber (n .paging .swap)) → countOf p (concatMap frameList (n .groups)) ≡ 0
+  pub idle-unlisted : (p : ℕ) → 1 ≤ countOf p (n .free) + countOf p (n .paging .swap) → countOf p (concatMap frameList (n .groups)) ≡ 0
   idle-unlisted p idle =
-      let below = count-in (λ k. k < pageCount b) p (frameNumbers n) (once-bounded (pageCount b) (frameNumbers n) (s .frames-once) (s .frames-all)) (omega (arith, counted p)) in
+      let below = every-counted (λ k. k < pageCount b) p (frameNumbers n) (once-bounded (pageCount b) (frameNumbers n) (s .frames-once) (s .frames-all)) (omega (arith, counted p)) in
       omega (arith, s .frames-once p below, counted p)
 
   -- a frame in the order of entry stands in it once, and is a group's page
   pub entered-once : (f : ℕ) → 1 ≤ countOf f (n .paging .entered) → (countOf f (n .paging .entered) ≡ 1) × Listed f n
   entered-once f some =
-      let below = count-in (λ k. k < b .frames) f (n .paging .entered) entered-below some in
+      let below = every-counted (λ k. k < b .frames) f (n .paging .entered) entered-below some in
       let once = s .entered-once f below in
       let order = ordered f in
       (omega arith, omega (arith, s .frames-once f (omega arith), counted f, swap-none f below))
@@ -342,25 +333,15 @@ module _ {b : Build} {n : Node} (s : Sound b n) where
       let first = getD (groupOf n (n .running) .buffer .frames) 0 0 in
       let only : (x : ℕ) → t x ≡ false → x ≡ first = λ x e. spared-first n x (not-false (spared n x) e) in
       let all : length (n .paging .entered) ≡ b .frames =
-      omega (arith, length-append (map frameNumber (n .free)) (n .paging .entered), length-map (n .free) frameNumber, ap length none, s .entered-all) in
+      omega (arith, length-append (n .free) (n .paging .entered), ap length none, s .entered-all) in
       let many = pass-many t first only (n .paging .entered) in
       let passes = first-passes t (n .paging .entered) (omega (arith, entered-few first, s .sensible .frames)) in
       let once = entered-once (victim n) (passes .0) in
       (once .0, (once .1, not-true (spared n (victim n)) (passes .1)))
 
-  -- a page that leaves its frame or swap page leaves its words there
-  pub leaving-good : (p : ℕ) → Listed p n → GoodFrame b (leaving b p n)
-  unfolding leaving
-  leaving-good p listed =
-      let pages = concatMap (framesOf b) (n .groups) in
-      let t = found (GoodFrame b) p pages (rw (numbers-groups b (n .groups)) listed) (pages-good b (n .groups) (s .groups-good)) in
-      let same = t .1 .1 .0 in
-      let good = t .1 .1 .1 in
-      record { whole = rw same (good .whole); places = rw same (good .places) }
-
 -- a group with numbers traded is good
 traded-good : {b : Build} (p q : ℕ) (G : Group) → GoodGroup b G → GoodGroup b (tradedIn p q G)
-unfolding tradedIn withBuffer waiting
+unfolding tradedIn withBuffer waiting unused
 traded-good p q G g =
     let v = g .buffer in
     let l = length-map (G .buffer .frames) (traded p q) in
@@ -372,6 +353,7 @@ traded-good p q G g =
         whole = rw l (v .whole);
         places = v .places;
         waiting-good = v .waiting-good;
+        unused-wiped = v .unused-wiped;
       };
       descriptor = g .descriptor;
       pending-atomic = g .pending-atomic;
@@ -380,14 +362,14 @@ traded-good p q G g =
     }
 
 -- a sound node with other lines and an other order of entry, and two numbers traded, is sound where numbers stand as often as they did
-trade-sound : {b : Build} {n : Node} → Sound b n → (p q : ℕ) (fs : List Frame) (t : Paging)
-    → Every (GoodFrame b) fs → Every (GoodFrame b) (t .swap) → Every (IsSwap b) (t .swap)
-    → ((w : ℕ → ℕ) → weight w (map frameNumber fs) + weight w (map frameNumber (t .swap)) + weight w (map (traded p q) (concatMap frameList (n .groups)))
-    ≡ weight w (map frameNumber (n .free)) + weight w (map frameNumber (n .paging .swap)) + weight w (concatMap frameList (n .groups)))
-    → ((w : ℕ → ℕ) → weight w (map frameNumber fs) + weight w (t .entered) ≡ weight w (map frameNumber (n .free)) + weight w (n .paging .entered))
+trade-sound : {b : Build} {n : Node} → Sound b n → (p q : ℕ) (fs : List ℕ) (t : Paging)
+    → Every (IsSwap b) (t .swap)
+    → ((w : ℕ → ℕ) → weight w fs + weight w (t .swap) + weight w (map (traded p q) (concatMap frameList (n .groups)))
+    ≡ weight w (n .free) + weight w (n .paging .swap) + weight w (concatMap frameList (n .groups)))
+    → ((w : ℕ → ℕ) → weight w fs + weight w (t .entered) ≡ weight w (n .free) + weight w (n .paging .entered))
     → Sound b (trading p q (withFree fs (withPaging t n)))
 unfolding trading withGroups withFree withPaging
-trade-sound {b} {n} s p q fs t free-good swap-good swap-numbers even order =
+trade-sound {b} {n} s p q fs t swap-numbers even order =
     let n′ = trading p q (withFree fs (withPaging t n)) in
     let lists = lists-traded p q (n .groups) in
     let frames : (w : ℕ → ℕ) → weight w (frameNumbers n′) ≡ weight w (frameNumbers n) =
@@ -401,8 +383,6 @@ trade-sound {b} {n} s p q fs t free-good swap-good swap-numbers even order =
       queue-good = s .queue-good;
       group-count = length-map (n .groups) (tradedIn p q) ∙ s .group-count;
       groups-good = every-mapped (GoodGroup b) (GoodGroup b) (tradedIn p q) (traded-good p q) (n .groups) (s .groups-good);
-      free-good = free-good;
-      swap-good = swap-good;
       frames-once = λ f below. weights-count (frameNumbers n) (frameNumbers n′) frames f ∙ s .frames-once f below;
       frames-all = weights-length (frameNumbers n) (frameNumbers n′) frames ∙ s .frames-all;
       swap-numbers = swap-numbers;
@@ -432,41 +412,34 @@ list-traded p q g x xs n e = ap (λ (G : Group). G .buffer .frames) (traded-grou
 module _ {b : Build} {n : Node} (s : Sound b n) where
   -- a frame in the order of entry is below the frames' count
   entered-frame : (f : ℕ) → 1 ≤ countOf f (n .paging .entered) → f < b .frames
-  entered-frame f some = count-in (λ k. k < b .frames) f (n .paging .entered) (entered-below s) some
+  entered-frame f some = every-counted (λ k. k < b .frames) f (n .paging .entered) (entered-below s) some
 
   -- and so is the front of the free line
-  free-below-first : (x : Frame) (fs : List Frame) → n .free ≡ x ∷ fs → x .number < b .frames
-  unfolding frameNumber
+  free-below-first : (x : ℕ) (fs : List ℕ) → n .free ≡ x ∷ fs → x < b .frames
   free-below-first x fs e =
-      let old : map frameNumber (n .free) ≡ x .number ∷ map frameNumber fs = rw e refl in
-      let below : Every (λ k. k < b .frames) (x .number ∷ map frameNumber fs) = rw old at (free-below s) in
+      let below : Every (λ k. k < b .frames) (x ∷ fs) = rw e at (free-below s) in
       below .0
 
   -- a page sent out leaves a sound node
-  pub send-sound : n .free ≡ [] → Sound b (sendOut b (victim n) (n .paging .swap) n)
-  unfolding sendOut frameNumber leaving
+  pub send-sound : n .free ≡ [] → Sound b (sendOut (victim n) (n .paging .swap) n)
+  unfolding sendOut
   send-sound none = go (n .paging .swap) refl
     where
-      go : (ss : List Frame) → n .paging .swap ≡ ss → Sound b (sendOut b (victim n) ss n)
+      go : (ss : List ℕ) → n .paging .swap ≡ ss → Sound b (sendOut (victim n) ss n)
       go [] e = s
       go (x ∷ ss) e =
           let f = victim n in
           let v = victim-stands s none in
           let below = entered-frame f (omega (arith, v .0)) in
           let lists = concatMap frameList (n .groups) in
-          let old : map frameNumber (n .paging .swap) ≡ x .number ∷ map frameNumber ss = rw e refl in
-          let good : Every (GoodFrame b) (x ∷ ss) = rw e at (s .swap-good) in
           let numbers : Every (IsSwap b) (x ∷ ss) = rw e at (s .swap-numbers) in
-          let other : f ≢ x .number = λ same. omega (arith, numbers .0) in
-          let here : 1 ≤ countOf (x .number) (map frameNumber (n .paging .swap)) = rw (old, eq-eqb (x .number) (x .number) refl) (omega arith) in
-          let unlisted = idle-unlisted s (x .number) (omega arith) in
+          let other : f ≢ x = λ same. omega (arith, numbers .0) in
+          let here : 1 ≤ countOf x (n .paging .swap) = rw (e, eq-eqb x x refl) (omega arith) in
+          let unlisted = idle-unlisted s x (omega arith) in
           let listed = listed-once s f (v .1 .0) .1 .1 in
-          trade-sound s f (x .number) (n .free ++ (leaving b f n ∷ [])) _
-          (every-append (GoodFrame b) (n .free) (leaving b f n ∷ []) .1 (s .free-good, (leaving-good s f (v .1 .0), tt))) (good .1) (numbers .1)
-          (λ w. rw (map-append frameNumber (n .free) (leaving b f n ∷ []), old)
-          (omega (arith, weight-append w (map frameNumber (n .free)) (f ∷ []), traded-to w f (x .number) other lists listed unlisted)))
-          (λ w. rw (map-append frameNumber (n .free) (leaving b f n ∷ []))
-          (omega (arith, weight-append w (map frameNumber (n .free)) (f ∷ []), weight-left w f (n .paging .entered) (v .0))))
+          trade-sound s f x (n .free ++ (f ∷ [])) _ (numbers .1)
+          (λ w. omega (arith, ap (weight w) e, weight-append w (n .free) (f ∷ []), traded-to w f x other lists listed unlisted))
+          (λ w. omega (arith, weight-append w (n .free) (f ∷ []), weight-left w f (n .paging .entered) (v .0)))
 
   -- and so does a page exchanged with one to send out
   exchange-sound : n .free ≡ [] → (p : ℕ) → b .frames ≤ p → Listed p n → Sound b (exchange (victim n) p n)
@@ -476,34 +449,30 @@ module _ {b : Build} {n : Node} (s : Sound b n) where
       let v = victim-stands s none in
       let below = entered-frame f (omega (arith, v .0)) in
       let lists = concatMap frameList (n .groups) in
-      trade-sound s f p (n .free) _ (s .free-good) (s .swap-good) (s .swap-numbers)
+      trade-sound s f p (n .free) _ (s .swap-numbers)
       (λ w. omega (arith, traded-both w f p (λ same. omega arith) lists (listed-once s f (v .1 .0) .1 .1) (listed-once s p listed .1 .1)))
       (λ w. omega (arith, weight-append w (without f (n .paging .entered)) (f ∷ []), weight-left w f (n .paging .entered) (v .0)))
 
   -- a page brought in, either way
-  pub bring-sound : (p : ℕ) → b .frames ≤ p → Listed p n → Sound b (bringIn b p (n .free) n)
-  unfolding bringIn frameNumber leaving
+  pub bring-sound : (p : ℕ) → b .frames ≤ p → Listed p n → Sound b (bringIn p (n .free) n)
+  unfolding bringIn
   bring-sound p high listed = go (n .free) refl
     where
-      go : (fs : List Frame) → n .free ≡ fs → Sound b (bringIn b p fs n)
+      go : (fs : List ℕ) → n .free ≡ fs → Sound b (bringIn p fs n)
       go [] e = exchange-sound e p high listed
       go (x ∷ fs) e =
-          let old : map frameNumber (n .free) ≡ x .number ∷ map frameNumber fs = rw e refl in
-          let good : Every (GoodFrame b) (x ∷ fs) = rw e at (s .free-good) in
-          let below : Every (λ k. k < b .frames) (x .number ∷ map frameNumber fs) = rw old at (free-below s) in
-          let here : 1 ≤ countOf (x .number) (map frameNumber (n .free)) = rw (old, eq-eqb (x .number) (x .number) refl) (omega arith) in
-          let unlisted = idle-unlisted s (x .number) (omega arith) in
+          let below : Every (λ k. k < b .frames) (x ∷ fs) = rw e at (free-below s) in
+          let here : 1 ≤ countOf x (n .free) = rw (e, eq-eqb x x refl) (omega arith) in
+          let unlisted = idle-unlisted s x (omega arith) in
           let once = listed-once s p listed .1 .1 in
-          trade-sound s (x .number) p fs _ (good .1)
-          (every-append (GoodFrame b) (n .paging .swap) (leaving b p n ∷ []) .1 (s .swap-good, (leaving-good s p listed, tt)))
-          (every-append (IsSwap b) (n .paging .swap) (leaving b p n ∷ []) .1 (s .swap-numbers, (high, tt)))
-          (λ w. rw (map-append frameNumber (n .paging .swap) (leaving b p n ∷ []), old)
+          trade-sound s x p fs _ (every-append (IsSwap b) (n .paging .swap) (p ∷ []) .1 (s .swap-numbers, (high, tt)))
+          (λ w. rw e
           (omega (
             arith,
-            weight-append w (map frameNumber (n .paging .swap)) (p ∷ []),
-            traded-from w (x .number) p (λ same. omega (arith, below .0)) (concatMap frameList (n .groups)) unlisted once,
+            weight-append w (n .paging .swap) (p ∷ []),
+            traded-from w x p (λ same. omega (arith, below .0)) (concatMap frameList (n .groups)) unlisted once,
           )))
-          (λ w. rw old (omega (arith, weight-append w (n .paging .entered) (x .number ∷ []))))
+          (λ w. rw e (omega (arith, weight-append w (n .paging .entered) (x ∷ []))))
 
   -- a page made resident
   pub resident-sound : (p : ℕ) → Listed p n → Sound b (resident b p n)
@@ -511,11 +480,11 @@ module _ {b : Build} {n : Node} (s : Sound b n) where
   resident-sound p listed = resident-cases (Sound b) b p n (λ e. s) (λ e. bring-sound p (ltb-false p (b .frames) e) listed)
 
   -- a frame made free
-  freed-sound : Sound b (freed b (n .free) n)
+  freed-sound : Sound b (freed (n .free) n)
   unfolding freed
   freed-sound = go (n .free) refl
     where
-      go : (fs : List Frame) → n .free ≡ fs → Sound b (freed b fs n)
+      go : (fs : List ℕ) → n .free ≡ fs → Sound b (freed fs n)
       go [] e = send-sound e
       go (x ∷ fs) e = s
 
@@ -546,11 +515,11 @@ module _ {b : Build} {n : Node} (s : Sound b n) where
   prepared-left g low high queued full =
       prepared-cases (λ k. 1 ≤ length (k .free)) b g n (λ room. absurd (omega arith)) (λ e. go (n .free) refl)
     where
-      sent : (ss : List Frame) → n .free ≡ [] → 1 ≤ length ss → 1 ≤ length (sendOut b (victim n) ss n .free)
+      sent : (ss : List ℕ) → n .free ≡ [] → 1 ≤ length ss → 1 ≤ length (sendOut (victim n) ss n .free)
       sent [] e some = absurd (omega arith)
-      sent (x ∷ ss) e some = omega (arith, length-append (n .free) (leaving b (victim n) n ∷ []))
+      sent (x ∷ ss) e some = omega (arith, length-append (n .free) (victim n ∷ []))
 
-      go : (fs : List Frame) → n .free ≡ fs → 1 ≤ length (freed b fs n .free)
+      go : (fs : List ℕ) → n .free ≡ fs → 1 ≤ length (freed fs n .free)
       go [] e = sent (n .paging .swap) e (swap-left s g low high queued full e)
       go (x ∷ fs) e = rw e (omega arith)
 
@@ -572,7 +541,7 @@ module _ {b : Build} {n : Node} (s : Sound b n) where
 
   -- of a list with a page in swap brought in, the page is in a frame
   bring-first : (g : ℕ) (p : ℕ) (ps : List ℕ) → b .frames ≤ p → groupOf n g .buffer .frames ≡ p ∷ ps
-      → FirstInFrame b (groupOf (bringIn b p (n .free) n) g .buffer .frames)
+      → FirstInFrame b (groupOf (bringIn p (n .free) n) g .buffer .frames)
   unfolding bringIn exchange trading withGroups withFree withPaging groupOf
   bring-first g p ps high e = go (n .free) refl
     where
@@ -581,9 +550,9 @@ module _ {b : Build} {n : Node} (s : Sound b n) where
           let first : traded f p p ≡ f = traded-second f p p (λ same. omega arith) refl in
           rw (list-traded f p g p ps n e, first) below
 
-      go : (fs : List Frame) → n .free ≡ fs → FirstInFrame b (groupOf (bringIn b p fs n) g .buffer .frames)
+      go : (fs : List ℕ) → n .free ≡ fs → FirstInFrame b (groupOf (bringIn p fs n) g .buffer .frames)
       go [] none = traded-into (victim n) (entered-frame (victim n) (omega (arith, victim-stands s none .0)))
-      go (x ∷ fs) some = traded-into (x .number) (free-below-first x fs some)
+      go (x ∷ fs) some = traded-into x (free-below-first x fs some)
 
   -- the running group's first page made resident
   pub runner-sound : Sound b (runnerResident b n)
@@ -634,13 +603,13 @@ module _ (b : Build) (t : ℕ) (q : List Message) where
   abbrev fronted : Node → Node
   fronted n = withTimer t (withQueue q n)
 
-  send-fronted : (f : ℕ) (ss : List Frame) (n : Node) → sendOut b f ss (fronted n) ≡ fronted (sendOut b f ss n)
-  unfolding sendOut leaving trading withGroups withFree withPaging withTimer withQueue
+  send-fronted : (f : ℕ) (ss : List ℕ) (n : Node) → sendOut f ss (fronted n) ≡ fronted (sendOut f ss n)
+  unfolding sendOut trading withGroups withFree withPaging withTimer withQueue
   send-fronted f [] n = refl
   send-fronted f (s ∷ ss) n = refl
 
-  bring-fronted : (p : ℕ) (fs : List Frame) (n : Node) → bringIn b p fs (fronted n) ≡ fronted (bringIn b p fs n)
-  unfolding bringIn exchange victim spared leaving trading withGroups withFree withPaging withTimer withQueue groupOf
+  bring-fronted : (p : ℕ) (fs : List ℕ) (n : Node) → bringIn p fs (fronted n) ≡ fronted (bringIn p fs n)
+  unfolding bringIn exchange victim spared trading withGroups withFree withPaging withTimer withQueue groupOf
   bring-fronted p [] n = refl
   bring-fronted p (f ∷ fs) n = refl
 
@@ -648,11 +617,11 @@ module _ (b : Build) (t : ℕ) (q : List Message) where
   unfolding resident withTimer withQueue
   resident-fronted p n = go (inFrame b p)
     where
-      go : (u : Bool) → cond u (fronted n) (bringIn b p (n .free) (fronted n)) ≡ fronted (cond u n (bringIn b p (n .free) n))
+      go : (u : Bool) → cond u (fronted n) (bringIn p (n .free) (fronted n)) ≡ fronted (cond u n (bringIn p (n .free) n))
       go true = refl
       go false = bring-fronted p (n .free) n
 
-  freed-fronted : (fs : List Frame) (n : Node) → freed b fs (fronted n) ≡ fronted (freed b fs n)
+  freed-fronted : (fs : List ℕ) (n : Node) → freed fs (fronted n) ≡ fronted (freed fs n)
   unfolding freed victim spared withTimer withQueue groupOf
   freed-fronted [] n = send-fronted (victim n) (n .paging .swap) n
   freed-fronted (f ∷ fs) n = refl
@@ -662,6 +631,6 @@ module _ (b : Build) (t : ℕ) (q : List Message) where
   prepared-fronted g n = go (nextPage b (groupOf n g .buffer)) (ltb (filled n g) (length (groupOf n g .buffer .places)))
     where
       go : (p : ℕ) (u : Bool)
-          → cond u (resident b p (fronted n)) (freed b (n .free) (fronted n)) ≡ fronted (cond u (resident b p n) (freed b (n .free) n))
+          → cond u (resident b p (fronted n)) (freed (n .free) (fronted n)) ≡ fronted (cond u (resident b p n) (freed (n .free) n))
       go p true = resident-fronted p n
       go p false = freed-fronted (n .free) n

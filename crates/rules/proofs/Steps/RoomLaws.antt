@@ -11,7 +11,7 @@ use Rattle.rules.specs.Lists.{sum, upFrom, concatMap}
 use Rattle.rules.specs.Build.{Build, groupCount}
 use Rattle.rules.specs.Node.{Group, Node, emptyGroup, groupOf, inQueue}
 use Rattle.rules.specs.Frames.{pledge, pledges}
-use Rattle.rules.specs.Valid.{frameList, frameNumber, idle, frameNumbers}
+use Rattle.rules.specs.Valid.{frameList, idle, frameNumbers}
 use Rattle.rules.specs.Sound.{Sound}
 use Rattle.rules.proofs.Steps.ListLaws.{length-concatMap, map-upFrom, sum-lt}
 use Rattle.rules.proofs.Steps.FrameLaws.{ceil-enough, ceil-mono}
@@ -61,8 +61,8 @@ unfolding frameNumbers pledges
 page-left {b} {n} s g low high queued full =
     let none-more : (h : ℕ) → 1 ≤ h → h < 1 + groupCount → held n h ≤ pledge b n h = λ h low′ high′. held-pledge s h low′ (omega arith) in
     let less = sum-lt (held n) (pledge b n) 1 groupCount none-more g low (omega arith) (held-less s g low high queued full) in
-    let parts = length-append (map frameNumber (idle n)) (concatMap frameList (n .groups)) in
-    omega (arith, less, held-all n s, s .pledged, s .frames-all, parts, length-map (idle n) frameNumber)
+    let parts = length-append (idle n) (concatMap frameList (n .groups)) in
+    omega (arith, less, held-all n s, s .pledged, s .frames-all, parts)
 
 -- so where no frame is free, a swap page is
 pub swap-left : {b : Build} {n : Node} → Sound b n → (g : ℕ) → 1 ≤ g → g ≤ groupCount → 1 ≤ length (inQueue n g)

@@ -5,7 +5,7 @@ use Prim.Native.Nat.{ℕ, zero, suc, _≤_, pred}
 use mathlib.Core.Path.{_≡_, refl, sym, subst, ap, _∙_}
 use mathlib.Core.Logic.{_≢_}
 use mathlib.Core.Bool.{Bool, true, false, true≢false, not, _&&_, _||_, false≢true, and-eq-true-iff, and-false}
-use mathlib.Core.List.{List, [], _∷_, _++_, map, map-append, append-nil}
+use mathlib.Core.List.{List, [], _∷_, _++_, append-nil}
 use native.Mathlib.Omega.{arith}
 use native.Mathlib.Nat.{zero-add, zero-mul, not-suc-le-zero}
 use lib.Dec.{ltb, eqb}
@@ -13,16 +13,16 @@ use lib.ListN.{length, getD, replicate, length-replicate}
 use borrow.Author.Tests.{eqb-false, ne-eqb, not-true, not-false}
 use Rattle.rules.specs.Lists.{Every, isEmpty, concatMap, countOf, upFrom}
 use Rattle.rules.specs.Build.{Build, Sensible, pageCount, groupCount}
-use Rattle.rules.specs.Node.{Message, Buffer, Group, Node, groupOf, withGroup, withFlags, bufferHolds, buffered, forced, timerRuns, line, emptyPlace, emptyFrame, emptyGroup, emptyPaging, powerOn, waiting, inQueue}
+use Rattle.rules.specs.Node.{Message, Buffer, Group, Node, groupOf, withGroup, withFlags, bufferHolds, buffered, forced, timerRuns, line, emptyGroup, emptyPaging, powerOn, waiting, unused, inQueue}
 use Rattle.rules.specs.Frames.{pledge, pledges}
 use Rattle.rules.specs.Operation.{refused, Operation}
 use Rattle.rules.specs.Paging.{runnerResident}
 use Rattle.rules.specs.Refusal.{refusal}
 use Rattle.rules.specs.Settling.{mayStay, settle, calls, upcall}
 use Rattle.rules.specs.Step.{Effect, Stepped, act, finish, step}
-use Rattle.rules.specs.Valid.{GoodGroup, Valid, GoodPlace, GoodFrame, IsSwap, FirstInFrame, frameList, frameNumber, idle, frameNumbers, frameOrder}
+use Rattle.rules.specs.Valid.{GoodGroup, Valid, IsSwap, FirstInFrame, frameList, idle, frameNumbers, frameOrder}
 use Rattle.rules.specs.Sound.{Sound}
-use Rattle.rules.proofs.Steps.EveryLaws.{every-replicate, every-map, every-mapped, every-upFrom}
+use Rattle.rules.proofs.Steps.EveryLaws.{every-replicate, every-upFrom}
 use Rattle.rules.proofs.Steps.ListLaws.{sum-le, count-within, length-upFrom, upFrom-append}
 use Rattle.rules.proofs.Steps.FrameLaws.{ceil-none}
 use Rattle.rules.proofs.Steps.NodeLaws.{group-same, kept, within, group-good, reflagged}
@@ -89,8 +89,6 @@ settled-valid {n = n} d first atomic =
       queue-good = s .queue-good;
       group-count = s .group-count;
       groups-good = s .groups-good;
-      free-good = s .free-good;
-      swap-good = s .swap-good;
       frames-once = s .frames-once;
       frames-all = s .frames-all;
       swap-numbers = s .swap-numbers;
@@ -222,7 +220,7 @@ step-valid {b} {n} v op =
 
 -- an empty group is good
 empty-good : (b : Build) → 1 ≤ b .perFrame → GoodGroup b emptyGroup
-unfolding waiting
+unfolding waiting unused
 empty-good b some =
     record {
       buffer = record {
@@ -232,20 +230,12 @@ empty-good b some =
         whole = sym (zero-mul (b .perFrame));
         places = tt;
         waiting-good = tt;
+        unused-wiped = tt;
       };
       descriptor = omega arith;
       pending-atomic = λ e. absurd (false≢true e);
       force-atomic = λ e. absurd (false≢true e);
       revoked-atomic = λ e. absurd (false≢true e);
-    }
-
--- an empty frame is good
-frame-good : (b : Build) (f : ℕ) → GoodFrame b (emptyFrame b f)
-unfolding emptyFrame
-frame-good b f =
-    record {
-      whole = length-replicate (b .perFrame) emptyPlace;
-      places = every-replicate GoodPlace (b .perFrame) emptyPlace (record { eight = refl });
     }
 
 -- groups that are all empty hold no frames
@@ -260,29 +250,21 @@ empty-group zero i = refl
 empty-group (suc k) zero = refl
 empty-group (suc k) (suc i) = empty-group k i
 
--- the numbers of empty frames are those that they were made with
-empty-numbers : (b : Build) (xs : List ℕ) → map frameNumber (map (emptyFrame b) xs) ≡ xs
-unfolding frameNumber emptyFrame
-empty-numbers b [] = refl
-empty-numbers b (x ∷ xs) = ap {B = List ℕ} (λ r. x ∷ r) (empty-numbers b xs)
-
 -- so the frames are numbered upward
 power-on-frames : (b : Build) → frameNumbers (powerOn b) ≡ upFrom 0 (pageCount b)
 unfolding frameNumbers idle powerOn emptyPaging
 power-on-frames b =
-    rw (map-append, empty-numbers b (upFrom 0 (b .frames)), empty-numbers b (upFrom (b .frames) (b .swap)), empty-frames groupCount, append-nil)
+    rw (empty-frames groupCount, append-nil)
     (sym (upFrom-append 0 (b .frames) (b .swap) ∙ ap (λ (a : ℕ). upFrom 0 (b .frames) ++ upFrom a (b .swap)) (zero-add (b .frames))))
 
 -- and none is in use
 power-on-order : (b : Build) → frameOrder (powerOn b) ≡ upFrom 0 (b .frames)
 unfolding frameOrder powerOn emptyPaging
-power-on-order b = rw (empty-numbers b (upFrom 0 (b .frames)), append-nil)
+power-on-order b = rw append-nil
 
 -- the swap line has swap pages
-power-on-swap : (b : Build) → Every (IsSwap b) (map (emptyFrame b) (upFrom (b .frames) (b .swap)))
-unfolding emptyFrame
-power-on-swap b =
-    every-mapped (λ k. b .frames ≤ k) (IsSwap b) (emptyFrame b) (λ k h. h) (upFrom (b .frames) (b .swap)) (every-upFrom (λ k. b .frames ≤ k) (b .frames) (b .swap) (λ i low high. low))
+power-on-swap : (b : Build) → Every (IsSwap b) (upFrom (b .frames) (b .swap))
+power-on-swap b = every-upFrom (IsSwap b) (b .frames) (b .swap) (λ i low high. low)
 
 -- every group is the empty one
 pub power-on-group : (b : Build) (g : ℕ) → groupOf (powerOn b) g ≡ emptyGroup
@@ -307,8 +289,6 @@ power-on-valid b s =
       queue-good = tt;
       group-count = length-replicate groupCount emptyGroup;
       groups-good = every-replicate (GoodGroup b) groupCount emptyGroup (empty-good b (s .perFrame));
-      free-good = every-map (GoodFrame b) (emptyFrame b) (frame-good b) (upFrom 0 (b .frames));
-      swap-good = every-map (GoodFrame b) (emptyFrame b) (frame-good b) (upFrom (b .frames) (b .swap));
       frames-once = λ f below. ap (countOf f) (power-on-frames b) ∙ count-within f 0 (pageCount b) (omega arith) (omega arith);
       frames-all = ap length (power-on-frames b) ∙ length-upFrom 0 (pageCount b);
       swap-numbers = power-on-swap b;

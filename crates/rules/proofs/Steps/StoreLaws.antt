@@ -44,35 +44,35 @@ module _ {b : Build} (m : Message) (q : List Message) (n : Node) (s : Sound b (w
 module _ {b : Build} (m : Message) (q : List Message) (n : Node) (s : Sound b (withQueue (m ∷ q) n))
     (left : length (groupOf n (m .group) .buffer .places) ≤ filled n (m .group) → 1 ≤ length (n .free)) where
   -- what putting does to its group's buffer
-  own-stock : Stored b m (n .free) (n .paging .entered) (groupOf n (m .group) .buffer) (stocked m (withRoom (n .free) (n .paging .entered) (groupOf n (m .group) .buffer)))
+  own-stock : Stored b m (n .free) (n .paging .entered) (groupOf n (m .group) .buffer) (stocked m (withRoom b (n .free) (n .paging .entered) (groupOf n (m .group) .buffer)))
   unfolding withQueue groupOf
   own-stock =
       let low = head-good m q n s .group-low in
       let high = head-good m q n s .group-high in
-      stored (group-good s (m .group) low high .buffer) m (head-good m q n s) (n .free) (n .paging .entered) (s .free-good) left
+      stored (group-good s (m .group) low high .buffer) m (head-good m q n s) (n .free) (n .paging .entered) left
 
   -- the group's buffer afterwards is that stock's
-  own-buffer : groupOf (put m n) (m .group) .buffer ≡ stocked m (withRoom (n .free) (n .paging .entered) (groupOf n (m .group) .buffer)) .buffer
+  own-buffer : groupOf (put b m n) (m .group) .buffer ≡ stocked m (withRoom b (n .free) (n .paging .entered) (groupOf n (m .group) .buffer)) .buffer
   unfolding withQueue put
   own-buffer =
-      stock-same (m .group) (stocked m (withRoom (n .free) (n .paging .entered) (groupOf n (m .group) .buffer))) n
+      stock-same (m .group) (stocked m (withRoom b (n .free) (n .paging .entered) (groupOf n (m .group) .buffer))) n
       (within s (m .group) (head-good m q n s .group-low) (head-good m q n s .group-high))
 
   -- and the other groups' are as they were
-  other-buffer : (h : ℕ) → 1 ≤ h → h ≢ m .group → groupOf (put m n) h .buffer ≡ groupOf n h .buffer
+  other-buffer : (h : ℕ) → 1 ≤ h → h ≢ m .group → groupOf (put b m n) h .buffer ≡ groupOf n h .buffer
   unfolding put
   other-buffer h low other =
-      stock-other (m .group) h (stocked m (withRoom (n .free) (n .paging .entered) (groupOf n (m .group) .buffer))) n (head-good m q n s .group-low) low other
+      stock-other (m .group) h (stocked m (withRoom b (n .free) (n .paging .entered) (groupOf n (m .group) .buffer))) n (head-good m q n s .group-low) low other
 
   -- no pledge is changed: the buffer has one more, and the queue one less
-  own-pledge : pledge b (withQueue q (put m n)) (m .group) ≡ pledge b (withQueue (m ∷ q) n) (m .group)
+  own-pledge : pledge b (withQueue q (put b m n)) (m .group) ≡ pledge b (withQueue (m ∷ q) n) (m .group)
   unfolding pledge withQueue groupOf inQueue
   own-pledge =
       let used = ap (λ (v : Buffer). v .used) own-buffer ∙ own-stock .used in
       let count = ap (λ (v : Buffer). v .count) own-buffer ∙ own-stock .count in
       ap (λ (a : ℕ). ceilDiv a (b .perFrame)) (omega (arith, used, count, ap length (own-queue m q n s)))
 
-  other-pledge : (h : ℕ) → 1 ≤ h → h ≢ m .group → pledge b (withQueue q (put m n)) h ≡ pledge b (withQueue (m ∷ q) n) h
+  other-pledge : (h : ℕ) → 1 ≤ h → h ≢ m .group → pledge b (withQueue q (put b m n)) h ≡ pledge b (withQueue (m ∷ q) n) h
   unfolding pledge withQueue groupOf inQueue
   other-pledge h low other =
       let used = ap (λ (v : Buffer). v .used) (other-buffer h low other) in
@@ -80,7 +80,7 @@ module _ {b : Build} (m : Message) (q : List Message) (n : Node) (s : Sound b (w
       ap (λ (a : ℕ). ceilDiv a (b .perFrame)) (omega (arith, used, count, ap length (other-queue m q n s h other)))
 
   -- no line is changed: what leaves the queue's front joins the buffer's end
-  own-line : line (withQueue q (put m n)) (m .group) ≡ line (withQueue (m ∷ q) n) (m .group)
+  own-line : line (withQueue q (put b m n)) (m .group) ≡ line (withQueue (m ∷ q) n) (m .group)
   unfolding line withQueue inBuffer groupOf inQueue
   own-line =
       let g = m .group in
@@ -92,7 +92,7 @@ module _ {b : Build} (m : Message) (q : List Message) (n : Node) (s : Sound b (w
       ∙ ap (λ (k : Message). map (messageOf g) (waiting v) ++ k ∷ filter (isOf g) q) (kept-message m (head-good m q n s))
       ∙ ap (λ (ms : List Message). map (messageOf g) (waiting v) ++ ms) (sym (own-queue m q n s))
 
-  other-line : (h : ℕ) → 1 ≤ h → h ≢ m .group → line (withQueue q (put m n)) h ≡ line (withQueue (m ∷ q) n) h
+  other-line : (h : ℕ) → 1 ≤ h → h ≢ m .group → line (withQueue q (put b m n)) h ≡ line (withQueue (m ∷ q) n) h
   unfolding line withQueue inBuffer groupOf inQueue
   other-line h low other =
       ap (λ (w : Buffer). map (messageOf h) (waiting w) ++ filter (isOf h) q) (other-buffer h low other)
@@ -101,31 +101,31 @@ module _ {b : Build} (m : Message) (q : List Message) (n : Node) (s : Sound b (w
 -- putting a queue's head at the end of its buffer leaves every group's line as it was
 put-line : {b : Build} (m : Message) (q : List Message) (n : Node) → Sound b (withQueue (m ∷ q) n)
     → (length (groupOf n (m .group) .buffer .places) ≤ filled n (m .group) → 1 ≤ length (n .free)) → (g : ℕ) → 1 ≤ g
-    → line (withQueue q (put m n)) g ≡ line (withQueue (m ∷ q) n) g
-put-line m q n s left g low = go (ℕ-discrete g (m .group))
+    → line (withQueue q (put b m n)) g ≡ line (withQueue (m ∷ q) n) g
+put-line {b} m q n s left g low = go (ℕ-discrete g (m .group))
   where
-    go : Dec (g ≡ m .group) → line (withQueue q (put m n)) g ≡ line (withQueue (m ∷ q) n) g
+    go : Dec (g ≡ m .group) → line (withQueue q (put b m n)) g ≡ line (withQueue (m ∷ q) n) g
     go (yes same) = rw same (own-line m q n s left)
     go (no other) = other-line m q n s left g low other
 
 -- and a sound node sound
 put-sound : {b : Build} (m : Message) (q : List Message) (n : Node) → Sound b (withQueue (m ∷ q) n)
-    → (length (groupOf n (m .group) .buffer .places) ≤ filled n (m .group) → 1 ≤ length (n .free)) → Sound b (withQueue q (put m n))
+    → (length (groupOf n (m .group) .buffer .places) ≤ filled n (m .group) → 1 ≤ length (n .free)) → Sound b (withQueue q (put b m n))
 unfolding withQueue put withStock withGroup withFree withPaging withEntered groupOf
 put-sound {b} m q n s left =
     let stock = own-stock m q n s left in
     restocked s (m .group) (head-good m q n s .group-low) (head-good m q n s .group-high)
-    (stocked m (withRoom (n .free) (n .paging .entered) (groupOf n (m .group) .buffer))) q (stock .traded) (stock .order) (s .queue-good .1) (omega arith)
-    (pledges-le b (withQueue (m ∷ q) n) (withQueue q (put m n)) (λ h low high. le-of-eq (go h low (ℕ-discrete h (m .group)))))
+    (stocked m (withRoom b (n .free) (n .paging .entered) (groupOf n (m .group) .buffer))) q (stock .traded) (stock .order) (s .queue-good .1) (omega arith)
+    (pledges-le b (withQueue (m ∷ q) n) (withQueue q (put b m n)) (λ h low high. le-of-eq (go h low (ℕ-discrete h (m .group)))))
   where
-    go : (h : ℕ) → 1 ≤ h → Dec (h ≡ m .group) → pledge b (withQueue q (put m n)) h ≡ pledge b (withQueue (m ∷ q) n) h
+    go : (h : ℕ) → 1 ≤ h → Dec (h ≡ m .group) → pledge b (withQueue q (put b m n)) h ≡ pledge b (withQueue (m ∷ q) n) h
     go h low (yes same) = rw same (own-pledge m q n s left)
     go h low (no other) = other-pledge m q n s left h low other
 
 -- flags and descriptors stay
-pub put-flags : (m : Message) (n : Node) (g : ℕ) → SameFlags (groupOf (put m n) g) (groupOf n g)
+pub put-flags : (b : Build) (m : Message) (n : Node) (g : ℕ) → SameFlags (groupOf (put b m n) g) (groupOf n g)
 unfolding put
-put-flags m n g = restocked-flags (m .group) (stocked m (withRoom (n .free) (n .paging .entered) (groupOf n (m .group) .buffer))) n g
+put-flags b m n g = restocked-flags (m .group) (stocked m (withRoom b (n .free) (n .paging .entered) (groupOf n (m .group) .buffer))) n g
 
 -- Storing is putting into the node that is prepared for it.
 
@@ -138,7 +138,7 @@ prepared-queue b q g n = prepared-fronted b (n .timer) q g n ∙ ap (λ (t : ℕ
 pub store-timer : (b : Build) (m : Message) (t : ℕ) (n : Node) → store b m (withTimer t n) ≡ withTimer t (store b m n)
 unfolding store put withRoom withStock withGroup withFree withPaging withEntered withTimer withQueue groupOf
 store-timer b m t n =
-    ap (put m)
+    ap (put b m)
     (prepared-fronted b t (n .queue) (m .group) n
     ∙ ap (λ (q : List Message). withTimer t (withQueue q (prepared b (m .group) n))) (sym (prepared-repaged b (m .group) n .queue)))
 
@@ -215,4 +215,4 @@ store-other {b} m q n s h low other =
 -- flags and descriptors stay
 pub store-flags : (b : Build) (m : Message) (n : Node) (g : ℕ) → SameFlags (groupOf (store b m n) g) (groupOf n g)
 unfolding store
-store-flags b m n g = flags-trans (put-flags m (prepared b (m .group) n) g) (prepared-repaged b (m .group) n .groups g .flags)
+store-flags b m n g = flags-trans (put-flags b m (prepared b (m .group) n) g) (prepared-repaged b (m .group) n .groups g .flags)

@@ -2,23 +2,17 @@
 -- them are those of the lists passed, those passed of the present list, the present number, and the rest. Assumes nothing.
 use Prim.Native.Nat.{ℕ, zero, suc, _+_, _-_, _≤_, _<_}
 use mathlib.Core.Path.{_≡_, refl, ap, _∙_}
-use mathlib.Core.List.{List, [], _∷_, _++_, map, map-append, append-nil, append-assoc}
+use mathlib.Core.List.{List, [], _∷_, _++_, append-nil, append-assoc}
 use native.Mathlib.Omega.{arith}
 use native.Mathlib.Nat.{add-zero, zero-add, suc-add}
 use lib.ListN.{length, length-append}
 use Rattle.rules.specs.Lists.{concatMap, upFrom}
-use Rattle.rules.specs.Valid.{frameNumber, frameList, idle, frameNumbers, frameOrder}
-use Rattle.rules.specs.Memory.{freeAt, freeCountAt, swapAt, swapCountAt, enteredAt, enteredCountAt, listOffset, heldOffset, size, word, wordsAt, frameAt, listAt, bufferAt, groupAt, groupsFrom, groupAddress, pagingFrom, nodeAt}
+use Rattle.rules.specs.Valid.{frameList, idle, frameNumbers, frameOrder}
+use Rattle.rules.specs.Memory.{freeAt, freeCountAt, swapAt, swapCountAt, enteredAt, enteredCountAt, listOffset, heldOffset, size, word, wordsAt, listAt, bufferAt, groupAt, groupsFrom, groupAddress, pagingFrom, nodeAt}
+use Rattle.rules.proofs.Steps.ListLaws.{upFrom-append}
 use Rattle.rules.proofs.Map.MapWords.{length-wordsAt}
 use Rattle.validate.specs.Clauses.{listStart, listCount, listNumbers, listed}
 use Rattle.validate.specs.Known.{Counted}
-
--- a range in two parts
-range-split : (a j k : ℕ) → upFrom a (j + k) ≡ upFrom a j ++ upFrom (a + j) k
-range-split a zero k = rw (zero-add, add-zero)
-range-split a (suc j) k =
-    let e : suc a + j ≡ a + suc j = omega arith in
-    rw (suc-add, ← e) (ap (λ (r : List ℕ). a ∷ r) (range-split (suc a) j k))
 
 -- lists joined in two parts
 concat-append : {A B : Type 0} (f : A → List B) (xs ys : List A) → concatMap f (xs ++ ys) ≡ concatMap f xs ++ concatMap f ys
@@ -50,7 +44,7 @@ module _ (m : List ℕ) where
   listed-split : (a j k : ℕ) → listed m a (j + k) ≡ listed m a j ++ listed m (a + j) k
   unfolding listed
   listed-split a j k =
-      ap (concatMap (listNumbers m)) (range-split a j k) ∙ concat-append (listNumbers m) (upFrom a j) (upFrom (a + j) k)
+      ap (concatMap (listNumbers m)) (upFrom-append a j k) ∙ concat-append (listNumbers m) (upFrom a j) (upFrom (a + j) k)
 
   -- one list more
   pub listed-more : (a l : ℕ) → a ≤ l → listed m a (l + 1 - a) ≡ listed m a (l - a) ++ listNumbers m l
@@ -68,27 +62,17 @@ module _ (m : List ℕ) where
       ∙ length-append (listed m a (l - a)) (listNumbers m l)
       ∙ ap (λ (k : ℕ). length (listed m a (l - a)) + k) (length-wordsAt m (listStart l) (listCount m l))
 
-  -- the numbers of frames are those read
-  numbers-read : (fs : List ℕ) → map frameNumber (map (frameAt m) fs) ≡ fs
-  unfolding frameNumber frameAt
-  numbers-read [] = refl
-  numbers-read (f ∷ fs) = ap (λ (r : List ℕ). f ∷ r) (numbers-read fs)
-
   -- those of the lists from the free line on are those of the node
   pub numbers-listed : frameNumbers (nodeAt m) ≡ listed m 1 10
   unfolding frameNumbers idle nodeAt pagingFrom listed listNumbers listStart listCount groupsFrom groupAt bufferAt listAt frameList groupAddress
-  numbers-listed =
-      let free = wordsAt m freeAt (word m freeCountAt) in
-      let swap = wordsAt m swapAt (word m swapCountAt) in
-      rw (map-append frameNumber (map (frameAt m) free) (map (frameAt m) swap), numbers-read free, numbers-read swap, append-assoc)
+  numbers-listed = append-assoc (wordsAt m freeAt (word m freeCountAt)) (wordsAt m swapAt (word m swapCountAt)) _
 
   -- those of the order of entry and the free line are its frames, in another order
   pub order-listed : (P : List ℕ → Type 0) → ((xs ys : List ℕ) → P (ys ++ xs) → P (xs ++ ys)) → P (listed m 0 2) → P (frameOrder (nodeAt m))
   unfolding frameOrder nodeAt pagingFrom listed listNumbers listStart listCount
   order-listed P turn h =
       let free = wordsAt m freeAt (word m freeCountAt) in
-      let entered = wordsAt m enteredAt (word m enteredCountAt) in
-      rw (numbers-read free) (turn free entered (rw (append-nil free) at h))
+      turn free (wordsAt m enteredAt (word m enteredCountAt)) (rw (append-nil free) at h)
 
   -- what stands behind number i of list l, up to list b
   unfoldable pub behind : ℕ → ℕ → ℕ → List ℕ

@@ -16,13 +16,8 @@ use Rattle.rules.specs.Lists.{Every, all, sum, countOf, upFrom}
 use Rattle.rules.specs.Valid.{standsOnce}
 use Rattle.rules.proofs.Map.TestLaws.{range-tells}
 use Rattle.rules.proofs.Steps.EveryLaws.{every-append}
-use Rattle.rules.proofs.Steps.ListLaws.{count-within, once-bounded, sum-lt}
+use Rattle.rules.proofs.Steps.ListLaws.{count-append, count-within, once-bounded, sum-lt}
 use Rattle.validate.proofs.RangeLaws.{fails, failed-all}
-
--- how often a number stands in two lists
-count-append : (f : ℕ) (xs ys : List ℕ) → countOf f (xs ++ ys) ≡ countOf f xs + countOf f ys
-count-append f [] ys = omega arith
-count-append f (x ∷ xs) ys = omega (arith, count-append f xs ys)
 
 -- in which order does not matter
 pub once-turned : (xs ys fs : List ℕ) → all (standsOnce (xs ++ ys)) fs ≡ all (standsOnce (ys ++ xs)) fs

@@ -4,12 +4,12 @@ use Prim.Native.Nat.{ℕ, zero, suc, _+_, _-_, _*_, _/_, _%_, _≤_, _<_}
 use mathlib.Core.Path.{_≡_, refl, sym, ap, _∙_}
 use mathlib.Core.Logic.{_≢_}
 use mathlib.Core.Bool.{Bool, true, false, _&&_, true≢false}
-use mathlib.Core.List.{List, [], _∷_}
+use mathlib.Core.List.{List}
 use native.Mathlib.Omega.{arith}
 use native.Mathlib.Decide.{decLt}
-use native.Mathlib.Nat.{add-zero, mul-suc}
-use lib.ListN.{length, take, drop, getD, List·getD-append}
-use lib.Seq.{drop-cons, getD-append-add}
+use native.Mathlib.Nat.{add-zero}
+use lib.ListN.{length, take, drop, getD}
+use lib.Seq.{drop-cons}
 use borrow.Author.Tests.{le-leb, lt-leb}
 use Rattle.rules.specs.Lists.{all, concatMap, upFrom}
 use Rattle.rules.specs.Node.{emptyPlace, waiting}
@@ -19,10 +19,11 @@ use Rattle.rules.specs.Memory.{usedOffset, countOffset, heldOffset, listOffset,
 use Rattle.rules.specs.MemoryTest.{zeroAt}
 use Rattle.rules.proofs.Steps.EveryLaws.{every-of}
 use Rattle.rules.proofs.Steps.ListLaws.{length-parts}
-use Rattle.rules.proofs.Map.MapWords.{length-wordsAt, length-records, record-at}
+use Rattle.rules.proofs.Map.MapWords.{length-wordsAt, length-records, getD-wordsAt}
 use Rattle.rules.proofs.Map.MapParts.{places}
-use Rattle.validate.specs.Clauses.{waitingGood, waitingIn, waitingAt}
+use Rattle.rules.proofs.Map.MapFrames.{page-place}
 use Rattle.rules.proofs.Map.TestLaws.{range-tells}
+use Rattle.validate.specs.Clauses.{waitingGood, waitingIn, waitingAt}
 use Rattle.validate.specs.Known.{Framed}
 use Rattle.validate.proofs.RangeLaws.{Passed, fails}
 
@@ -56,23 +57,6 @@ module _ (m : List ℕ) where
   place-within a t d h e =
       rw (le-leb 1 (word m a) (omega arith), le-leb (word m a) 8 h, drop-words (a + 1) (word m a) 8 h) e
 
--- Lists of s elements each, joined.
-
-module _ {A B : Type 0} (f : A → List B) (s : ℕ) (sized : (x : A) → length (f x) ≡ s) where
-  -- element r of list q
-  pub getD-parts : (xs : List A) (q r : ℕ) (d : A) (e : B) → q < length xs → r < s → getD (concatMap f xs) (s * q + r) e ≡ getD (f (getD xs q d)) r e
-  getD-parts [] q r d e h l = absurd (omega arith)
-  getD-parts (x ∷ xs) zero r d e h l =
-      let z : s * 0 + r ≡ r = omega arith in
-      rw z (List·getD-append (f x) (concatMap f xs) e r (rw (sized x) l))
-  getD-parts (x ∷ xs) (suc q) r d e h l =
-      let z : s * suc q + r ≡ length (f x) + (s * q + r) = omega (arith, sized x, mul-suc s q) in
-      rw z (getD-append-add (f x) (concatMap f xs) (s * q + r) e ∙ getD-parts xs q r d e (omega arith) l)
-
-  -- how many
-  pub length-all : (xs : List A) → length (concatMap f xs) ≡ s * length xs
-  length-all xs = length-parts f s xs (every-of (λ x. length (f x) ≡ s) xs (λ x h. sized x))
-
 -- a test of a part of a list is a test of a range
 all-part : {A : Type 0} (q : A → Bool) (xs : List A) (d : A) (p : ℕ → Bool) (h n : ℕ) → h + n ≤ length xs
     → ((i : ℕ) → h ≤ i → i < h + n → q (getD xs i d) ≡ p i) → all q (take n (drop h xs)) ≡ all p (upFrom h n)
@@ -81,26 +65,21 @@ all-part q xs d p h (suc n) l e =
     rw (drop-cons xs h d (omega arith), e h (omega arith) (omega arith))
     (ap (λ (r : Bool). p h && r) (all-part q xs d p (suc h) n (omega arith) (λ i low high. e i (omega arith) (omega arith))))
 
--- word i of the words at an address
-pub getD-words : (m : List ℕ) (a k i : ℕ) → i < k → getD (wordsAt m a k) i 0 ≡ word m (a + i)
-unfolding wordsAt
-getD-words m a zero i h = absurd (omega arith)
-getD-words m a (suc k) zero h = rw (add-zero a)
-getD-words m a (suc k) (suc i) h =
-    let e : a + 1 + i ≡ a + suc i = omega arith in
-    rw (← e) (getD-words m (a + 1) k i (omega arith))
+-- The places of a buffer.
+
+-- eight a page
+pub eight-places : (m : List ℕ) (x : ℕ) → length (framePlaces m x) ≡ 8
+unfolding framePlaces
+eight-places m x = length-records (places m) (frameAddress x) 8
+
+-- so many in all
+pub places-all : (m : List ℕ) (a : ℕ) → length (bufferAt m a .places) ≡ 8 * word m (a + heldOffset)
+unfolding bufferAt listAt
+places-all m a =
+    length-parts (framePlaces m) 8 (listAt m a) (every-of (λ x. length (framePlaces m x) ≡ 8) (listAt m a) (λ x h. eight-places m x))
+    ∙ ap (λ (k : ℕ). 8 * k) (length-wordsAt m (a + listOffset) (word m (a + heldOffset)))
 
 module _ (m : List ℕ) (g : ℕ) (f : Framed m g) where
-  -- eight places a page
-  eight-places : (x : ℕ) → length (framePlaces m x) ≡ 8
-  unfolding framePlaces
-  eight-places x = length-records (places m) (frameAddress x) 8
-
-  -- place i of page x
-  nth : (x i : ℕ) → i < 8 → getD (framePlaces m x) i emptyPlace ≡ placeAt m (frameAddress x + placeStride * i)
-  unfolding framePlaces
-  nth x i l = record-at (places m) emptyPlace (frameAddress x) 8 i l
-
   -- place p of the buffer
   place-at : (p : ℕ) → p < 8 * word m (groupAddress g + heldOffset)
       → getD (bufferAt m (groupAddress g) .places) p emptyPlace
@@ -113,9 +92,8 @@ module _ (m : List ℕ) (g : ℕ) (f : Framed m g) where
       let q : p / 8 < k = omega arith in
       let r : p % 8 < 8 = omega arith in
       ap (λ (i : ℕ). getD (concatMap (framePlaces m) (wordsAt m a k)) i emptyPlace) e
-      ∙ getD-parts (framePlaces m) 8 eight-places (wordsAt m a k) (p / 8) (p % 8) 0 emptyPlace (rw (length-wordsAt m a k) q) r
-      ∙ ap (λ (x : ℕ). getD (framePlaces m x) (p % 8) emptyPlace) (getD-words m a k (p / 8) q)
-      ∙ nth (word m (a + p / 8)) (p % 8) r
+      ∙ page-place m (wordsAt m a k) (p / 8) (p % 8) emptyPlace (rw (length-wordsAt m a k) q) r
+      ∙ ap (λ (x : ℕ). placeAt m (frameAddress x + placeStride * (p % 8))) (getD-wordsAt m a k (p / 8) q)
 
   -- the list is long enough for the waiting messages
   pub room : word m (groupAddress g + usedOffset) + word m (groupAddress g + countOffset) ≤ 8 * word m (groupAddress g + heldOffset)
@@ -128,7 +106,7 @@ module _ (m : List ℕ) (g : ℕ) (f : Framed m g) where
   waiting-places =
       let a = groupAddress g in
       all-part isWaiting (bufferAt m a .places) emptyPlace (waitingAt m g) (word m (a + usedOffset)) (word m (a + countOffset))
-      (rw (length-all (framePlaces m) 8 eight-places (listAt m a), length-wordsAt m (a + listOffset) (word m (a + heldOffset))) room)
+      (omega (arith, places-all m a, room))
       (λ i low high. ap isWaiting (place-at i (omega (arith, room))))
 
   -- The place p of the buffer, h to h + n: a word of the list names its page, and it is within the memory.
@@ -188,10 +166,3 @@ place-tested m f i a t e r = rw (← e) r
 pub place-inside : (f r a : ℕ) → f < 96 → r < 8 → a ≡ frameAddress f + placeStride * r → a + placeStride ≤ size
 unfolding frameAddress
 place-inside f r a h l e = omega arith
-
--- how many places a buffer has
-pub places-all : (m : List ℕ) (a : ℕ) → length (bufferAt m a .places) ≡ 8 * word m (a + heldOffset)
-unfolding bufferAt listAt framePlaces
-places-all m a =
-    length-all (framePlaces m) 8 (λ x. length-records (places m) (frameAddress x) 8) (wordsAt m (a + listOffset) (word m (a + heldOffset)))
-    ∙ ap (λ (k : ℕ). 8 * k) (length-wordsAt m (a + listOffset) (word m (a + heldOffset)))

@@ -26,21 +26,21 @@ depart-requires c κs =
       node = releasing g (p .node);
       rest = p .rest;
       holds = c .before .before .before .release .ensures (p .node) (p .rest) (p .holds) (p .fact);
-      fact = rw (c .before .before .before .before .before .group-word .ensures) (releasing-order (p .holds) g (s .pre .0 .0) (s .pre .0 .1) (p .fact));
+      fact = rw (c .before .before .before .before .before .group-word .ensures) (releasing-order (p .holds) g (s .pre .0 .0) (s .pre .0 .1) (p .fact .waits));
     }
 
 same-length : tie.Need-same-length
 same-length c = search needs
 
 returns : tie.Need-returns
-returns c n r h waits =
+returns c n r h emptied =
     let s = c .before .before .before .before .before .before .before .before .before .before .before in
     let g = s .args .g in
     let low = s .pre .0 .0 in
     let high = s .pre .0 .1 in
     let f = c .before .before .before .before .before .before .before .before .group-word .ensures in
-    subst (λ (k : Node). Holds (c .before .before .depart .last .0) k r) (rw f (releasing-departed h g low high waits))
-    (c .before .before .depart .ensures (releasing g n) r (c .before .before .before .before .before .before .release .ensures n r h waits) (rw f (releasing-order h g low high waits)))
+    subst (λ (k : Node). Holds (c .before .before .depart .last .0) k r) (rw f (releasing-departed h g low high (emptied .waits)))
+    (c .before .before .depart .ensures (releasing g n) r (c .before .before .before .before .before .before .release .ensures n r h emptied) (rw f (releasing-order h g low high (emptied .waits))))
 
 pub free-first-spec : {M : Type 1} → statement M
 free-first-spec = tie.close (tie.spec group-word-requires release-requires depart-requires same-length returns)

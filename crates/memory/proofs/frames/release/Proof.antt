@@ -14,7 +14,7 @@ use Rattle.memory.proofs.frames.release.Statement.{statement}
 use Rattle.memory.proofs.frames.release.Tie as tie
 
 facts : (c : tie.Start) → Reads (c .args .m .now) (c .args .g)
-facts c = reads (c .pre .1 .holds) (c .args .g) (c .pre .0 .0) (c .pre .0 .1) (c .pre .1 .fact)
+facts c = reads (c .pre .1 .holds) (c .args .g) (c .pre .0 .0) (c .pre .0 .1) (c .pre .1 .fact .waits)
 
 in-group : (c : tie.Start) (m : List ℕ) (k : ℕ) → length m ≡ length (c .args .m .now) → k < groupStride → InGroup m (c .args .g) k
 in-group c m k l h = record { long = omega (arith, facts c .long); low = c .pre .0 .0; high = c .pre .0 .1; inside = h }
@@ -49,11 +49,11 @@ same-length : tie.Need-same-length
 same-length c = search needs
 
 returns : tie.Need-returns
-returns c n r h waits =
+returns c n r h emptied =
     let s = c .before .before .before .before .before .before .before .before .before .before .before .before .before .before .before .before .before in
     let g = s .args .g in
     let gone = rw (c .before .before .before .before .before .before .before .before .before .before .before .before .before .group-at .ensures) at (c .before .before .before .before .before .before .before .before .before .before .before .leave .ensures) in
-    releasing-held h g (s .pre .0 .0) (s .pre .0 .1) waits _ gone
+    releasing-held h g (s .pre .0 .0) (s .pre .0 .1) (emptied .waits) _ (emptied .page) gone
     (rw (c .before .before .before .before .before .before .before .before .before .before .before .before .before .before .read .ensures) at (c .before .before .before .before .before .before .set-counts .ensures))
     (c .before .before .join .ensures)
 

@@ -1,4 +1,4 @@
--- `validate::frames::frames_good` meets its contract: a function a clause; the pages are known where those that wait in them are looked at.
+-- `validate::frames::frames_good` meets its contract: a function a clause; the pages are known where what is in them is looked at.
 -- Assumes nothing.
 use mathlib.Core.Path.{_≡_, _∙_}
 use mathlib.Core.Bool.{Bool, _&&_}
@@ -11,7 +11,7 @@ use Rattle.rules.specs.Valid.{frameNumbers, frameOrder}
 use Rattle.rules.specs.Memory.{swapCountAt, word, nodeAt}
 use Rattle.validate.specs.Clauses.{pagesOnce, swapPage, framesGood}
 use Rattle.validate.proofs.RangeLaws.{refused, accepted}
-use Rattle.validate.proofs.FactLaws.{framed}
+use Rattle.validate.proofs.FactLaws.{paged, framed}
 use Rattle.validate.proofs.frames.frames_good.Statement.{statement}
 use Rattle.validate.proofs.frames.frames_good.Tie as tie
 
@@ -79,18 +79,35 @@ returns-5 : tie.Need-returns-5
 unfolding framesGood
 returns-5 c = four (c .before .before) _ ∙ rw (refused (c .before .entered-once .ensures) (c .if5 .taken))
 
-waitings-good-requires : tie.Need-waitings-good-requires
-waitings-good-requires c κs =
+idle-wiped-requires : tie.Need-idle-wiped-requires
+idle-wiped-requires c κs =
     let e = c .before .before .before .before .before .before in
     let d = e .before .before in
     let s = d .before .before .before in
-    framed (s .args .m .now) (s .pre .0) (s .pre .1) (all96 d) (accepted (e .before .pages-once .ensures) (e .if2 .left))
+    paged (s .args .m .now) (s .pre .0) (all96 d) (accepted (e .before .pages-once .ensures) (e .if2 .left))
 
 returns-6 : tie.Need-returns-6
 unfolding framesGood
 returns-6 c =
+    let d = c .before .before in
+    four (d .before .before) _
+    ∙ rw (accepted (d .before .entered-once .ensures) (d .if5 .left), refused (c .before .idle-wiped .ensures) (c .if6 .taken))
+
+all-places-good-requires : tie.Need-all-places-good-requires
+all-places-good-requires c κs =
+    let e = c .before .before .before .before .before .before .before .before in
+    let d = e .before .before in
+    let s = d .before .before .before in
+    framed (s .args .m .now) (s .pre .0) (s .pre .1) (all96 d) (accepted (e .before .pages-once .ensures) (e .if2 .left))
+
+returns-7 : tie.Need-returns-7
+unfolding framesGood
+returns-7 c =
     let e = c .before in
-    four (e .before .before) _ ∙ rw (accepted (e .before .entered-once .ensures) (e .if5 .left)) (c .waitings-good .ensures)
+    let d = e .before .before in
+    four (d .before .before) _
+    ∙ rw (accepted (d .before .entered-once .ensures) (d .if5 .left), accepted (e .before .idle-wiped .ensures) (e .if6 .left))
+    (c .all-places-good .ensures)
 
 pub frames-good-spec : {M : Type 1} → statement M
 frames-good-spec =
@@ -106,5 +123,7 @@ frames-good-spec =
     returns-4
     entered-once-requires
     returns-5
-    waitings-good-requires
-    returns-6)
+    idle-wiped-requires
+    returns-6
+    all-places-good-requires
+    returns-7)

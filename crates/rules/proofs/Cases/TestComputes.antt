@@ -86,14 +86,14 @@ pass-last (s ∷ ts) t u x f e =
     rw (both .0) (pass-last ts t u x f (both .1))
 
 -- two lists of tests, each of something of its own, agree test by test
-abbrev pub Agree : {A B : Type 0} → List (A → Bool) → List (B → Bool) → A → B → Type 0
-Agree [] [] x y = Unit {0}
-Agree [] (u ∷ us) x y = ⊥
-Agree (t ∷ ts) [] x y = ⊥
-Agree (t ∷ ts) (u ∷ us) x y = (t x ≡ u y) × Agree ts us x y
+abbrev pub TestsAgree : {A B : Type 0} → List (A → Bool) → List (B → Bool) → A → B → Type 0
+TestsAgree [] [] x y = Unit {0}
+TestsAgree [] (u ∷ us) x y = ⊥
+TestsAgree (t ∷ ts) [] x y = ⊥
+TestsAgree (t ∷ ts) (u ∷ us) x y = (t x ≡ u y) × TestsAgree ts us x y
 
 -- both pass or none does
-pub passes-same : {A B : Type 0} (ts : List (A → Bool)) (us : List (B → Bool)) (x : A) (y : B) → Agree ts us x y → passes ts x ≡ passes us y
+pub passes-same : {A B : Type 0} (ts : List (A → Bool)) (us : List (B → Bool)) (x : A) (y : B) → TestsAgree ts us x y → passes ts x ≡ passes us y
 passes-same [] [] x y a = refl
 passes-same [] (u ∷ us) x y a = absurd a
 passes-same (t ∷ ts) [] x y a = absurd a

@@ -4,7 +4,7 @@
 use std::fmt::{self, Display, Formatter};
 use std::io::{self, BufRead};
 
-use crate::node::{Cause, Event, Refusal, Report};
+use crate::node::{Cause, Event, Refusal, Report, Standing};
 use crate::script;
 
 /// The rows of the table: the operations' letters, then lines that ask for none.
@@ -28,7 +28,19 @@ const TRAPS: usize = 4;
 const NOT_A_NODE: usize = Refusal::NotANode as usize;
 
 /// All events of steps, in words.
-pub const EVENTS: [(Event, &str); 15] = [
+pub const EVENTS: [(Event, &str); 18] = [
+    (
+        Event::WordRead(Standing::Queued),
+        "words read in the hardware queue",
+    ),
+    (
+        Event::WordRead(Standing::FirstPlace),
+        "words read in a page's first place",
+    ),
+    (
+        Event::WordRead(Standing::BehindUsedUp),
+        "words read behind used-up places",
+    ),
     (Event::PlaceUsedUp, "places used up in a page that stays"),
     (Event::PageUsedUp, "pages used up with messages left"),
     (Event::BufferEmptied, "buffers emptied"),

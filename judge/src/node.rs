@@ -102,6 +102,8 @@ pub struct Launched {
 /// it is counted, so that scripts are seen to meet each.
 #[derive(Clone, Copy, Debug, PartialEq, Eq)]
 pub enum Event {
+    /// E reads a word of a message that stands there.
+    WordRead(Standing),
     /// D uses up a place of a page that stays in the buffer.
     PlaceUsedUp,
     /// D uses up the last place of a page, and messages remain.
@@ -126,6 +128,17 @@ pub enum Event {
     RevokedMoved,
     /// N of a revoked group with no message in its buffer.
     RevokedEnded,
+}
+
+/// Where the running group's first message stands.
+#[derive(Clone, Copy, Debug, PartialEq, Eq)]
+pub enum Standing {
+    /// At the head of the hardware queue.
+    Queued,
+    /// In the first place of its buffer's first page.
+    FirstPlace,
+    /// In a later place of that page: those before it are used up.
+    BehindUsedUp,
 }
 
 /// Why a page is brought in: "before it is written", or as "a running group's first page".
@@ -439,10 +452,7 @@ impl Node {
             Operation::MessageLength => {
                 Report::of_value(self.first().map_or(0, <[u32]>::len) as u32)
             }
-            Operation::MessageWord { index } => {
-                let message = self.first().expect("an empty line was refused");
-                Report::of_value(message[*index as usize])
-            }
+            Operation::MessageWord { index } => self.read_word(*index as usize),
             Operation::Dispose => self.dispose(),
             Operation::BeginAtomic { force } => self.begin_atomic(*force),
             Operation::EndAtomic => self.end_atomic(),
@@ -504,6 +514,23 @@ impl Node {
         // Somebody runs: settled, a queue that isn't empty has a head of the running group's.
         self.running_group().revoked = true;
         moved
+    }
+
+    /// "E reads its one word where it stands and copies no message"
+    fn read_word(&mut self, index: usize) -> Report {
+        self.events.push(Event::WordRead(self.standing_of_first()));
+        let message = self.first().expect("an empty line was refused");
+        Report::of_value(message[index])
+    }
+
+    /// Where the first message in the running group's line stands, if there is one.
+    fn standing_of_first(&self) -> Standing {
+        let buffer = &self.groups[self.running - 1].buffer;
+        match (buffer.messages, buffer.used_up) {
+            (0, _) => Standing::Queued,
+            (_, 0) => Standing::FirstPlace,
+            _ => Standing::BehindUsedUp,
+        }
     }
 
     /// "removes that message; pending off; timer 0"

@@ -7,15 +7,26 @@ use std::path::{Path, PathBuf};
 use std::process::{Command, ExitCode, Stdio};
 
 use crate::generator::Flavour;
+use crate::node::MESSAGE_WORDS;
 
 /// The measured scripts, if none is named: random ones, the first without much use of swap space, the
 /// second with the frames full most of the time.
 const MEASURED_FLAVOURS: [&str; 2] = ["mixed", "swap"];
 const MEASURED_SEED: u64 = 1998;
 const MEASURED_LINES: u64 = 1_000_000;
-/// What tests the memory before every step is measured with the lines that end in the script's
-/// first bytes, so many times over. The bytes are the most that target/bin/tested takes.
+/// Then E alone, behind the lines that bring a message: to the hardware queue, and on to a frame. It
+/// stands there also where they are played again on the same memory.
+const MEASURED_READS: [(&str, &[&str]); 2] = [
+    ("E, direct", &["S,1", LONGEST_ARRIVAL]),
+    ("E, buffered", &["S,1", LONGEST_ARRIVAL, "T,256"]),
+];
+/// With as many words as a message has room for.
+const LONGEST_ARRIVAL: &str = "A,1,11,12,13,14,15,16,17,18";
+/// What tests the memory before every step is measured with the script's first lines, so many times
+/// over: those that end in its first bytes, which are the most that target/bin/tested takes, and no
+/// more than so many, for the judge takes long.
 const TESTED_BYTES: usize = 64 << 10;
+const TESTED_LINES: usize = 4096;
 pub const TESTED_TIMES: usize = 64;
 /// How often each is measured, and how often the judge, which takes far longer.
 pub const ROUNDS: u32 = 15;
@@ -97,13 +108,13 @@ pub struct Measured {
 }
 
 impl Measured {
-    /// The script of a file, or random ones.
+    /// The script of a file, or random ones and E alone.
     pub fn scripts(path: Option<&str>) -> Result<Vec<Measured>, String> {
         let Some(path) = path else {
-            return Ok(MEASURED_FLAVOURS
-                .iter()
-                .map(|name| Measured::random(name))
-                .collect());
+            let random = MEASURED_FLAVOURS.into_iter().map(Measured::random);
+            let reads = MEASURED_READS.into_iter();
+            let reads = reads.map(|(name, before)| Measured::reading(name, before));
+            return Ok(random.chain(reads).collect());
         };
         let script = fs::read(path).map_err(|error| format!("{path}: {error}"))?;
         let name = path.to_string();
@@ -117,11 +128,24 @@ impl Measured {
             script: flavour.script(MEASURED_SEED, MEASURED_LINES),
         }
     }
+
+    /// Some lines, then E with each index of a message in turn.
+    fn reading(name: &str, before: &[&str]) -> Self {
+        let before = before.iter().map(|line| format!("{line}\n"));
+        let indices = (0..MESSAGE_WORDS).cycle();
+        let lines = before.chain(indices.map(|index| format!("E,{index}\n")));
+        let script: String = lines.take(MEASURED_LINES as usize).collect();
+        Measured {
+            name: name.to_string(),
+            script: script.into_bytes(),
+        }
+    }
 }
 
-/// The lines of a script that end in its first 64 KiB.
+/// The lines of a script that end in its first 64 KiB, of these at most 4096.
 pub fn tested_lines(script: &[u8]) -> &[u8] {
     let first = &script[..script.len().min(TESTED_BYTES)];
-    let last_newline = first.iter().rposition(|&byte| byte == b'\n');
+    let newlines = (0..first.len()).filter(|&at| first[at] == b'\n');
+    let last_newline = newlines.take(TESTED_LINES).last();
     &first[..last_newline.map_or(0, |at| at + 1)]
 }

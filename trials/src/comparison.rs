@@ -3,10 +3,11 @@
 use std::fmt::{self, Display, Formatter};
 use std::ops::Range;
 
-use fugu::REPORT;
+use fugu::{HEAD, PAGING, REPORT};
 use judge::memory::{fault, head_part, paging, what_stands_at, Fault};
-use judge::node::Report;
+use judge::node::{Refusal, Report};
 
+use crate::asked::Asked;
 use crate::calls::Calls;
 use crate::memories::Trial;
 
@@ -14,8 +15,10 @@ use crate::memories::Trial;
 const BEFORE: u32 = 0xdead_beef;
 /// Of words that differ so many are told.
 const MOST_TOLD: usize = 8;
-/// What a report calls its words, those of a message sent apart.
-const NAMES: [&str; 8] = [
+/// What the words are that a call tells, those of a message sent apart.
+const HEAD_NAMES: [&str; HEAD] = ["index of the first word", "count of words"];
+const PAGING_NAMES: [&str; PAGING] = ["pages sent out", "pages brought in"];
+const REPORT_NAMES: [&str; 8] = [
     "answer",
     "value",
     "trap",
@@ -47,8 +50,8 @@ impl Display for Difference {
     }
 }
 
-/// The test, the head and the counts of pages of a memory, then what it is asked; all words of the
-/// parts and of the memory are held against the judge's.
+/// The test, the head message, its words by E and the counts of pages of a memory, then what it is
+/// asked; all words of the parts and of the memory are held against the judge's.
 pub fn compare(calls: &impl Calls, trial: &Trial) -> Result<Met, Difference> {
     let fault = fault(&trial.memory);
     let mut memory = trial.memory.clone();
@@ -58,22 +61,15 @@ pub fn compare(calls: &impl Calls, trial: &Trial) -> Result<Met, Difference> {
 
     let head = head_part(&trial.memory);
     let judged = told(&[head.start as u32, head.len() as u32], trial.head_length);
-    let mut part = vec![BEFORE; trial.head_length];
-    let written = calls.head(&memory, &mut part);
-    same_part("fugu_head", &judged, &part, written, |at| match at {
-        0 => "index of the first word".to_string(),
-        1 => "count of words".to_string(),
-        _ => behind(at),
+    same_part("fugu_head", &judged, named(&HEAD_NAMES), |part| {
+        calls.head(&memory, part)
     })?;
+    same_words(calls, &head, &trial.memory, &mut memory)?;
 
     let paging = paging(&trial.memory);
     let judged = told(&paging, trial.paging_length);
-    let mut part = vec![BEFORE; trial.paging_length];
-    let written = calls.paging(&memory, &mut part);
-    same_part("fugu_paging", &judged, &part, written, |at| match at {
-        0 => "pages sent out".to_string(),
-        1 => "pages brought in".to_string(),
-        _ => behind(at),
+    same_part("fugu_paging", &judged, named(&PAGING_NAMES), |part| {
+        calls.paging(&memory, part)
     })?;
 
     let mut judged_memory = trial.memory.clone();
@@ -81,17 +77,54 @@ pub fn compare(calls: &impl Calls, trial: &Trial) -> Result<Met, Difference> {
     let report = (trial.report_length >= REPORT).then(|| trial.asked.judged(&mut judged_memory));
     let words = report.as_ref().map_or([0; REPORT], report_words);
     let judged = told(&words, trial.report_length);
-    let mut part = vec![BEFORE; trial.report_length];
-    let written = calls.ask(&trial.asked, &mut memory, &mut part);
-    same_part("the report", &judged, &part, written, report_word)?;
-    differing("the memory after it", &judged_memory, &memory, |at| {
-        format!("word {at}, {}", what_stands_at(at))
-    })?;
+    same_step(calls, &trial.asked, &judged, &judged_memory, &mut memory)?;
     Ok(Met {
         fault,
         head,
         paging,
         report,
+    })
+}
+
+/// Order 4's promise seen from outside, "that an accepted E's value is word i of the part that 01's
+/// library call shows": E with each index of a head message, and with the first past it, which is
+/// refused. None changes a word of the memory.
+fn same_words(
+    calls: &impl Calls,
+    head: &Range<usize>,
+    before: &[u32],
+    memory: &mut [u32],
+) -> Result<(), Difference> {
+    if head.is_empty() {
+        return Ok(());
+    }
+    let read = before[head.clone()].iter().map(|&value| Report {
+        value,
+        ..Report::default()
+    });
+    let past = Report::refused(Refusal::PastMessage);
+    for (index, report) in read.chain([past]).enumerate() {
+        let asked = Asked::Step(b'E', vec![index as u32]);
+        let judged = told(&report_words(&report), REPORT);
+        same_step(calls, &asked, &judged, before, memory)
+            .map_err(|Difference(told)| Difference(format!("asked before, {asked}: {told}")))?;
+    }
+    Ok(())
+}
+
+/// What is asked of a memory leaves the report and the memory that it is to leave.
+fn same_step(
+    calls: &impl Calls,
+    asked: &Asked,
+    judged: &(Vec<u32>, u32),
+    judged_memory: &[u32],
+    memory: &mut [u32],
+) -> Result<(), Difference> {
+    same_part("the report", judged, report_word, |part| {
+        calls.ask(asked, memory, part)
+    })?;
+    differing("the memory after it", judged_memory, memory, |at| {
+        format!("word {at}, {}", what_stands_at(at))
     })
 }
 
@@ -124,28 +157,32 @@ pub fn report_words(report: &Report) -> [u32; REPORT] {
 }
 
 fn report_word(at: usize) -> String {
-    match NAMES.get(at) {
+    if (REPORT_NAMES.len()..REPORT).contains(&at) {
+        return format!("word {} sent", at - REPORT_NAMES.len());
+    }
+    named(&REPORT_NAMES)(at)
+}
+
+fn named<'a>(names: &'a [&str]) -> impl Fn(usize) -> String + 'a {
+    |at| match names.get(at) {
         Some(name) => name.to_string(),
-        None if at < REPORT => format!("word {} sent", at - NAMES.len()),
-        None => behind(at),
+        None => format!("word {at} of the part, behind those told"),
     }
 }
 
-fn behind(at: usize) -> String {
-    format!("word {at} of the part, behind those told")
-}
-
+/// A call leaves its part as it is to, and returns what it is to.
 fn same_part(
     what: &str,
     (judged, judged_written): &(Vec<u32>, u32),
-    part: &[u32],
-    written: u32,
     name: impl Fn(usize) -> String,
+    call: impl FnOnce(&mut [u32]) -> u32,
 ) -> Result<(), Difference> {
+    let mut part = vec![BEFORE; judged.len()];
+    let written = call(&mut part);
     differing(what, &[*judged_written], &[written], |_| {
         "count of words written".to_string()
     })?;
-    differing(what, judged, part, name)
+    differing(what, judged, &part, name)
 }
 
 /// Differs where a word does.

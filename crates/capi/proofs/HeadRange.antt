@@ -11,10 +11,10 @@ use Rattle.rules.specs.Memory.{frameAddress, size}
 use Rattle.rules.specs.MemoryTest.{Part, bufferPart, firstPlace, headPart, isMemory, queuePart, runnerPart}
 use Rattle.rules.specs.Node.{Node, groupOf}
 use Rattle.rules.specs.Valid.{Valid}
+use Rattle.rules.proofs.Map.MapHead.{nobody-part, untested-part}
 use Rattle.rules.proofs.Map.MapLaws.{test-valid}
 use Rattle.memory.specs.Holds.{Holds}
-use Rattle.node.proofs.message.HeadLaws.{nobody-part, first-frame, buffered-part, idle-part, queued-part, part-inside, head-tested, tested-holds}
-use Rattle.node.proofs.TestedLaws.{untested-part}
+use Rattle.node.proofs.message.HeadLaws.{first-frame, buffered-part, idle-part, queued-part, part-inside, head-tested, tested-holds}
 
 module _ {m : List ℕ} {n : Node} {r : List ℕ} (h : Holds m n r) (v : Valid paper01 n) where
   -- in a frame, at the head of the queue, or nowhere

@@ -1,6 +1,8 @@
 -- A run of the public calls is a run of the rules, call by call, so the demands hold of the calls. Assumes nothing.
-use Rattle.node.specs.Calls.{none, next, Call, CallHolds, Calls, CallsDemanded, Promised, inputOf, reportsOf}
-use Rattle.rules.specs.MemoryTest.{stepMemory, MemoryStep, isMemory}
+use Rattle.node.specs.Calls.{none, next, Call, CallHolds, Calls, CallsDemanded, Promised, inputOf, reportsOf, shownBy}
+use Rattle.node.specs.Parts.{partOf}
+use Rattle.node.specs.declared.message.Part.{Part as Part·rt}
+use Rattle.rules.specs.MemoryTest.{stepMemory, MemoryStep, isMemory, headPart, headWords}
 use Rattle.rules.specs.Types.{operationOf, reportOf}
 use Prim.Native.Nat.{ℕ}
 use mathlib.Core.List.{List, _∷_, map}
@@ -11,9 +13,13 @@ use Rattle.rules.specs.DemandOne.{onlyNumber}
 use Rattle.rules.specs.Memory.{nodeAt}
 use Rattle.rules.specs.Operation.{Operation}
 use Rattle.rules.specs.Run.{PlayedMemory, asked, playMemory, runMemory}
+use Rattle.rules.specs.Reading.{Reads, peeked}
+use Rattle.rules.specs.declared.Operation.{Operation as Operation·rt}
+use Rattle.rules.specs.declared.Operation.the-variants.{Peek}
 use Rattle.rules.specs.declared.Report.{Report as Report·rt}
 use Rattle.rules.proofs.Demands.DemandOneLaws.{demand-one}
 use Rattle.rules.proofs.Demands.DemandThreeLaws.{demand-three}
+use Rattle.rules.proofs.Demands.ReadingLaws.{reading}
 
 -- the memory and the reports of calls from m on
 calls-play : {m m′ : List ℕ} {cs : List Call} → Calls m cs m′
@@ -46,11 +52,24 @@ call-holds m c m′ p =
       stays-node = λ t. ap isMemory (p .left) ∙ d .stays-node t;
     }
 
+-- E and the head calls
+call-reads : (m : List ℕ) (c : Call) (m′ : List ℕ) (i : ℕ) (p : Part·rt) (ws : List ℕ)
+    → c .op ≡ Peek i
+    → Promised m c m′
+    → p ≡ partOf (headPart m)
+    → ws ≡ headWords m
+    → Reads m i (c .report .answer) (c .report .value) (shownBy p) ws
+unfolding operationOf
+call-reads m c m′ i p ws e call part shown =
+    let told : c .report ≡ reportOf (peeked m i) = call .reported ∙ ap (λ (o : Operation·rt). reportOf (stepMemory m (operationOf o (c .words)) .report)) e in
+    rw (told, part, shown) (reading .any-peek m i)
+
 pub calls-demanded : CallsDemanded
 unfolding runMemory
 calls-demanded =
     record {
       any-call = call-holds;
+      any-peek = call-reads;
       any-calls = λ m m₀ m′ rep cs long on calls.
           let t = calls-play calls in
           let same : playMemory m₀ (map inputOf cs) ≡ runMemory m (map inputOf cs) = ap (λ (k : List ℕ). playMemory k (map inputOf cs)) (on .left) in

@@ -1,7 +1,7 @@
 -- The tested calls: memory that fails the test is refused and left, and memory that passes it holds the node that is read from it.
 -- Assumes nothing.
 use Rattle.node.specs.declared.message.Part.{Part as Part·rt}
-use Rattle.rules.specs.MemoryTest.{stepMemory, headPart, MemoryStep, emptyPart, isMemory, pageCounts, replaced}
+use Rattle.rules.specs.MemoryTest.{stepMemory, headPart, MemoryStep, isMemory, pageCounts, replaced}
 use Prim.Native.Nat.{ℕ}
 use mathlib.Core.Bool.{false, true}
 use mathlib.Core.List.{List, map}
@@ -57,10 +57,6 @@ started-node m m′ e =
     record { node = powerOn paper01; rest = drop size m; holds = record { mapped = valid-mapped v; map = e }; fact = v }
 
 -- The head.
-
-pub untested-part : (m : List ℕ) → isMemory m ≡ false → headPart m ≡ emptyPart
-unfolding headPart
-untested-part m e = rw (e, headPart)
 
 pub tested-part : (m : List ℕ) {p : Part·rt} → isMemory m ≡ true → FirstPart m p → p ≡ partOf (headPart m)
 tested-part m e f = f (nodeAt m) (drop size m) (tested-holds m e) (test-valid m e) ∙ ap partOf (sym (head-tested (tested-holds m e) (test-valid m e)))

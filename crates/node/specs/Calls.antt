@@ -7,15 +7,19 @@ use mathlib.Core.Logic.{_≢_}
 use mathlib.Core.Path.{_≡_}
 use lib.ListN.{length, drop}
 use Rattle.rules.specs.Memory.{size, nodeAt}
-use Rattle.rules.specs.MemoryTest.{isMemory, powerOnMemory, stepMemory}
+use Rattle.rules.specs.MemoryTest.{isMemory, powerOnMemory, stepMemory, Part, headPart, headWords}
 use Rattle.rules.specs.Run.{Input, operation, Event, runMemory}
 use Rattle.rules.specs.Types.{operationOf, reportOf}
 use Rattle.rules.specs.Conditions.{FirstDue}
 use Rattle.rules.specs.DemandOne.{onlyNumber}
 use Rattle.rules.specs.DemandThree.{OverMemory}
+use Rattle.rules.specs.Reading.{Reads}
 use Rattle.rules.specs.declared.Operation.{Operation as Operation·rt}
+use Rattle.rules.specs.declared.Operation.the-variants.{Peek}
 use Rattle.rules.specs.declared.Report.{Report as Report·rt}
 use Rattle.memory.specs.Answers.{Answers}
+use Rattle.node.specs.declared.message.Part.{Part as Part·rt}
+use Rattle.node.specs.Parts.{partOf}
 
 -- what is handed to a call of `step` beside the memory, and what it reports
 pub record Call : Type 0 where
@@ -60,9 +64,20 @@ pub record CallHolds (m : List ℕ) (c : Call) (m′ : List ℕ) : Type 0 where
   -- a node stays a node
   pub stays-node : isMemory m ≡ true → isMemory m′ ≡ true
 
--- the demands, of the calls themselves
+-- the part that a head call says
+abbrev pub shownBy : Part·rt → Part
+shownBy p = record { start = p .start; len = p .len }
+
+-- the demands, and order 4, of the calls themselves
 pub record CallsDemanded : Type 0 where
   pub any-call : (m : List ℕ) (c : Call) (m′ : List ℕ) → Promised m c m′ → CallHolds m c m′
+  -- E and the head calls on the same memory: `head` hands back ws, and `head_part` says where they stand
+  pub any-peek : (m : List ℕ) (c : Call) (m′ : List ℕ) (i : ℕ) (p : Part·rt) (ws : List ℕ)
+      → c .op ≡ Peek i
+      → Promised m c m′
+      → p ≡ partOf (headPart m)
+      → ws ≡ headWords m
+      → Reads m i (c .report .answer) (c .report .value) (shownBy p) ws
   -- any list of calls behind a power-on on memory that is long enough
   pub any-calls : (m m₀ m′ : List ℕ) (rep : Report·rt) (cs : List Call)
       → size ≤ length m

@@ -9,5 +9,6 @@ pub mod MapTest
 pub mod MapRead
 pub mod MapLaws
 pub mod MapClean
+pub mod ShownLaws
 pub mod MapHead
 pub mod RunMemory

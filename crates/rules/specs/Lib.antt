@@ -22,3 +22,4 @@ pub mod DemandOne
 pub mod DemandThree
 pub mod Unseen
 pub mod Dumps
+pub mod Reading

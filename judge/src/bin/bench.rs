@@ -19,11 +19,12 @@ usage: bin/bench [--script FILE] [PROGRAM]
        bin/bench --help
 
 Plays a script by target/bin/fugu, by the judge and by PROGRAM, which takes it on standard input and
-writes the listing to standard output. If none is named, these are two random ones of a million lines:
-one of the flavour mixed, and one of the flavour swap, which keeps the frames full. Then plays the
-lines of the script's first 64 KiB, 64 times over, by target/bin/tested, which tests the memory before
-every step, by the judge, which keeps no memory to test, and by `PROGRAM --test`, which is to test its
-own.
+writes the listing to standard output. If none is named, these are four of a million lines: a random
+one of the flavour mixed, a random one of the flavour swap, which keeps the frames full, and two that
+bring one message and then are E alone, which reads its words in turn, over and over: in the hardware
+queue (E, direct) and in a frame (E, buffered). Then plays the lines of the script's first 64 KiB, at
+most 4096, 64 times over, by target/bin/tested, which tests the memory before every step, by the
+judge, which keeps no memory to test, and by `PROGRAM --test`, which is to test its own.
 
 The listings must be the judge's, else the exit status is 1. The programs then run by turns, their
 standard output to /dev/null; the time told is the best of fifteen runs, of five for the judge.

@@ -178,7 +178,7 @@ fn compare_tells_what_was_met() {
     let told = text(&output.stdout);
     assert!(told.starts_with("answer"));
     assert!(told.ends_with("\n52000 lines compared\n"));
-    assert_eq!(told.lines().count(), 1 + 11 + 1 + 3 + 5 + 7 + 1);
+    assert_eq!(told.lines().count(), 1 + 11 + 1 + 3 + 3 + 5 + 7 + 1);
     assert!(text(&output.stderr).contains("mixed: 4000 of 4000 lines"));
 }
 

@@ -71,7 +71,10 @@ fn all_flavours_together_meet_everything() {
 fn each_flavour_meets_what_it_is_for() {
     let purposes = [
         ("uniform", "trap 1, trap 2, trap 3, answer 7"),
-        ("direct", "trap 0, answer 8"),
+        (
+            "direct",
+            "trap 0, answer 8, words read in the hardware queue",
+        ),
         ("arrivals", "answer 3, answer 4, answer 5, answer 6"),
         (
             "swap",
@@ -94,8 +97,9 @@ fn each_flavour_meets_what_it_is_for() {
         ("hogs", "answer 10, trap 3"),
         (
             "disposals",
-            "answer 8, answer 9, trap 1, trap 2, places used up in a page that stays, pages used up \
-             with messages left, buffers emptied",
+            "answer 8, answer 9, trap 1, trap 2, words read in a page's first place, words read \
+             behind used-up places, places used up in a page that stays, pages used up with messages \
+             left, buffers emptied",
         ),
         ("launches", "answer 11, answer 12, answer 13"),
         (
@@ -116,12 +120,13 @@ fn each_flavour_meets_what_it_is_for() {
 #[test]
 fn nothing_met_is_all_missing() {
     let missing = Counts::default().missing();
-    assert_eq!(missing.len(), 14 + 4 + 3 + 5 + 7);
+    assert_eq!(missing.len(), 14 + 4 + 3 + 3 + 5 + 7);
     assert_eq!(missing[0], "answer 2");
     assert_eq!(missing[17], "trap 3");
-    assert_eq!(missing[18], "places used up in a page that stays");
-    assert_eq!(missing[21], "pages sent out");
-    assert_eq!(missing[26], "timeouts with an empty queue");
+    assert_eq!(missing[18], "words read in the hardware queue");
+    assert_eq!(missing[21], "places used up in a page that stays");
+    assert_eq!(missing[24], "pages sent out");
+    assert_eq!(missing[29], "timeouts with an empty queue");
 }
 
 #[test]

@@ -1,10 +1,13 @@
 //! The judge's own tests: every case that the paper gives, the choices that it leaves, the private line
-//! over random runs, memories and what is told of them, and the programs as they are called.
+//! over random runs, memories and what is told of them, the programs as they are called, and the scripts
+//! that they are measured with.
 
 mod cases;
 mod comparisons;
 mod forced;
 mod generator;
+mod in_place;
+mod measured;
 mod memory;
 mod private_line;
 mod programs;

@@ -234,7 +234,10 @@ fn scripts_counts_and_names_what_is_missing() {
     let enough = scripts("--counts 1 2000");
     assert!(enough.status.success(), "{}", text(&enough.stderr));
     assert!(text(&enough.stdout).starts_with("answer"));
-    assert_eq!(text(&enough.stdout).lines().count(), 1 + 11 + 1 + 3 + 5 + 7);
+    assert_eq!(
+        text(&enough.stdout).lines().count(),
+        1 + 11 + 1 + 3 + 3 + 5 + 7
+    );
 
     let few = scripts("--counts 1 1");
     assert_eq!(few.status.code(), Some(1));

@@ -21,10 +21,11 @@ const USAGE: &str = "\
 usage: calls [--script FILE]
        calls --help
 
-Plays the lines of a script's first 64 KiB, 64 times over from power-on, by fugu_step, by fugu_line
-and by the judge's step on words, each of which tests the memory first; the lines are read to
-operations before, but for fugu_line. If no script is named, these are those of bin/bench. The time of a memory test is that of as many steps with one
-more test after each, less that of the steps; that of a step without a test is what is left of it.
+Plays the lines of a script's first 64 KiB, at most 4096, 64 times over from power-on, by fugu_step,
+by fugu_line and by the judge's step on words, each of which tests the memory first; the lines are
+read to operations before, but for fugu_line. If no script is named, these are those of bin/bench, E
+alone among them. The time of a memory test is that of as many steps with one more test after each,
+less that of the steps; that of a step without a test is what is left of it.
 
 The reports and the memory must be the judge's, else the exit status is 1. The time of each of the 64
 passes is the best of fifteen rounds, of five for the judge, so that other work on the machine counts

@@ -15,12 +15,14 @@ Makes COUNT random memories: nodes that scripts lead to, the same with words cha
 longer ones. Of each, the proved calls and the judge are asked for the memory test, the head message,
 the counts of pages, and a step by a letter or by a line, or power-on. Compared are the verdict, where
 the head message stands, the counts, all words of the report, and all words of the memory after it.
+Before that step E is asked for each word of the head message and for one past it: its values are to
+be the words that stand there, its last answer 9, and the memory is to stay as it was.
 
 At the end there is a table of what was met. The exit status is 1 at the first difference, which is
 told with the number of its memory; and if COUNT is 100000 or more and some clause of the memory
-test, some place of a stray word or of the head message, some operation, some answer, some trap, some
-cause of a page's being used up, going out or coming in, or something that a forced timer or a revoked
-group does was met by none.";
+test, some place of a stray word, of the head message or of a word that is read, some operation, some
+answer, some trap, some cause of a page's being used up, going out or coming in, or something that a
+forced timer or a revoked group does was met by none.";
 
 const PROGRESS: u64 = 1_000_000;
 

@@ -118,7 +118,7 @@ fn asked_for_length(memory: Vec<u32>) -> Trial {
 #[test]
 fn a_table_knows_what_it_has_not_met() {
     let mut table = Table::default();
-    let all = 33 + 8 + 3 + 3 + 23 + 16 + 4 + 3 + 5 + 7;
+    let all = 33 + 8 + 3 + 3 + 23 + 16 + 4 + 3 + 3 + 5 + 7;
     assert_eq!(table.not_met().len(), all);
     let trial = asked_for_length(vec![]);
     let met = compare(&Proved, &trial).expect("no difference");

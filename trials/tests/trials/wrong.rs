@@ -16,6 +16,8 @@ type Verdict = Box<dyn Fn(&[u32], u32) -> u32>;
 type Part = Box<dyn Fn(&mut [u32], u32) -> u32>;
 /// Another memory, of what is asked, the memory before it and the memory after it.
 type Memory = Box<dyn Fn(&Asked, &[u32], &mut [u32])>;
+/// Another E, of its index, where the head message stands, and the memory and the report after it.
+type Read = Box<dyn Fn(usize, Range<usize>, &mut [u32], &mut [u32])>;
 
 /// The proved calls, and what is done behind their back.
 struct Wrong {
@@ -24,6 +26,7 @@ struct Wrong {
     paging: Part,
     report: Part,
     memory: Memory,
+    read: Read,
 }
 
 fn right() -> Wrong {
@@ -33,7 +36,16 @@ fn right() -> Wrong {
         paging: Box::new(|_, written| written),
         report: Box::new(|_, written| written),
         memory: Box::new(|_, _, _| ()),
+        read: Box::new(|_, _, _, _| ()),
     }
+}
+
+/// Where the head message stands.
+fn head_part(memory: &[u32]) -> Range<usize> {
+    let mut head = [0; HEAD];
+    Proved.head(memory, &mut head);
+    let [start, length] = head.map(|word| word as usize);
+    start..start + length
 }
 
 impl Calls for Wrong {
@@ -51,7 +63,17 @@ impl Calls for Wrong {
         (self.paging)(part, written)
     }
 
+    /// E by its letter is wrong by `read` alone: it is asked for the words of every head message first,
+    /// and any other difference would be told there.
     fn ask(&self, asked: &Asked, memory: &mut [u32], part: &mut [u32]) -> u32 {
+        if let Asked::Step(b'E', numbers) = asked {
+            let written = Proved.ask(asked, memory, part);
+            let head = head_part(memory);
+            if numbers.len() == 1 && !head.is_empty() && part.len() >= REPORT {
+                (self.read)(numbers[0] as usize, head, memory, part);
+            }
+            return written;
+        }
         let before = memory.to_vec();
         let written = Proved.ask(asked, memory, part);
         (self.memory)(asked, &before, memory);
@@ -73,8 +95,14 @@ fn first_difference(calls: &impl Calls, memories: usize) -> Option<String> {
 
 /// A difference is found within so many memories, and told in these words.
 fn found(calls: Wrong, told: &str) {
+    found_with(calls, told, "");
+}
+
+/// A difference is found, and told in words that begin so and have these among them.
+fn found_with(calls: Wrong, start: &str, told: &str) {
     let difference = first_difference(&calls, MEMORIES).expect("a difference");
-    assert!(difference.starts_with(told), "{difference}, not {told}");
+    assert!(difference.starts_with(start), "{difference}, not {start}");
+    assert!(difference.contains(told), "{difference}, not {told}");
 }
 
 fn memory(change: impl Fn(&Asked, &[u32], &mut [u32]) + 'static) -> Wrong {
@@ -240,6 +268,91 @@ fn each_word_of_the_head() {
     }
 }
 
+/// An E that is wrong is found where the words of a head message are asked for.
+fn a_read_with(told: &str, change: impl Fn(usize, Range<usize>, &mut [u32], &mut [u32]) + 'static) {
+    let wrong = Wrong {
+        read: Box::new(change),
+        ..right()
+    };
+    found_with(wrong, "asked before, step 'E' [", told);
+}
+
+/// An accepted E whose value is the word at another address, of its index and of where the head
+/// message stands.
+fn a_read_of(another: impl Fn(usize, Range<usize>) -> usize + 'static) {
+    let told = "]: the report differs\n  value: judge ";
+    a_read_with(told, move |index, head, memory, report| {
+        if index < head.len() {
+            report[1] = memory[another(index, head)];
+        }
+    });
+}
+
+#[test]
+fn each_index_of_a_read() {
+    for at in 0..8 {
+        let told = format!("[{at}]: the report differs\n  value: judge ");
+        a_read_with(&told, move |index, head, _, report| {
+            if index == at && index < head.len() {
+                report[1] ^= 1;
+            }
+        });
+    }
+}
+
+/// The hardware queue's first place, where the message stands in a frame.
+#[test]
+fn a_read_in_the_queue_for_a_buffered_group() {
+    a_read_of(|index, head| match head.start {
+        ..1092 => head.start + index,
+        _ => 6 + index,
+    });
+}
+
+/// Its page's first place, where the message stands in a later one.
+#[test]
+fn a_read_that_forgets_used_up_places() {
+    a_read_of(|index, head| match head.start.checked_sub(1092) {
+        None => head.start + index,
+        Some(word) => places(word as u32 / 72, 0..1).start + 1 + index,
+    });
+}
+
+#[test]
+fn a_read_of_the_next_word() {
+    a_read_of(|index, head| head.start + index + 1);
+}
+
+#[test]
+fn a_read_past_the_message() {
+    for length in 1..=8 {
+        let told = format!("[{length}]: the report differs\n  answer: judge 9, library 0");
+        a_read_with(&told, move |index, head, memory, report| {
+            if index == length && head.len() == length {
+                report[0] = 0;
+                report[1] = memory[head.end];
+            }
+        });
+    }
+}
+
+/// Accepted, it takes its word away; refused, it sets the timer back.
+#[test]
+fn a_read_that_changes_the_memory() {
+    let changed = "]: the memory after it differs\n  word ";
+    a_read_with(changed, |index, head, memory, _| {
+        if let Some(at) = head.clone().nth(index) {
+            memory[at] = 0;
+        }
+    });
+    let timer = format!("{changed}1, the timer: judge ");
+    a_read_with(&timer, |index, head, memory, _| {
+        if index == head.len() {
+            memory[1] = 0;
+        }
+    });
+}
+
 #[test]
 fn each_count_of_pages() {
     for (at, name) in ["pages sent out", "pages brought in"].iter().enumerate() {
@@ -281,9 +394,8 @@ fn words_that_stay(stay: impl Fn(&Asked, &[u32], &[u32]) -> Option<Range<usize>>
 fn a_message_disposed_of_that_stays() {
     for part in [0..1, 1..2, 0..9] {
         words_that_stay(move |asked, before, _| {
-            let mut head = [0; HEAD];
-            Proved.head(before, &mut head);
-            let place = (head[0] as usize).checked_sub(1).filter(|at| *at >= 1092)?;
+            let first = head_part(before).start;
+            let place = first.checked_sub(1).filter(|at| *at >= 1092)?;
             let disposed = asked.operation() == Some(Operation::Dispose);
             disposed.then_some(place + part.start..place + part.end)
         });
@@ -459,9 +571,7 @@ fn a_step_with(letter: u8, told: &str, change: impl Fn(usize, &[u32], &mut [u32]
             change(before[0] as usize, before, after);
         }
     });
-    let difference = first_difference(&wrong, MEMORIES).expect("a difference");
-    assert!(difference.starts_with("the memory after it differs\n  word "));
-    assert!(difference.contains(told), "{difference}, not {told}");
+    found_with(wrong, "the memory after it differs\n  word ", told);
 }
 
 #[test]

@@ -81,4 +81,5 @@ fn vectors() {
     play("vectors/order1");
     play("vectors/order2");
     play("vectors/order3");
+    play("vectors/order4");
 }

@@ -3,7 +3,8 @@ use borrow.Author.Tests.{not-true, not-false}
 use mathlib.Core.Path.{_∙_, ap, sym}
 use borrow.Author.Needs.{needs}
 use Rattle.node.specs.Parts.{partOf}
-use Rattle.node.proofs.TestedLaws.{tested-node, tested-part, untested-part}
+use Rattle.rules.proofs.Map.MapHead.{untested-part}
+use Rattle.node.proofs.TestedLaws.{tested-node, tested-part}
 use Rattle.node.proofs.head_part.Statement.{statement}
 use Rattle.node.proofs.head_part.Tie as tie
 

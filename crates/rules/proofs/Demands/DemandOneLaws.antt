@@ -32,6 +32,10 @@ step-answer : (b : Build) (n : Node) (op : Operation) → step b n op .report .a
 unfolding finish
 step-answer b n op = step-cases b n op (λ s. s .report .answer ≡ refusal b n op) sym (λ r e. sym e)
 
+-- and so on memory that is a node
+pub answer-tested : (m : List ℕ) (op : Operation) → isMemory m ≡ true → stepMemory m op .report .answer ≡ refusal paper01 (nodeAt m) op
+answer-tested m op e = ap (λ (x : MemoryStep). x .report .answer) (step-tested m op e) ∙ step-answer paper01 (nodeAt m) op
+
 -- a step on memory that is no node
 step-untested : (m : List ℕ) (op : Operation) → isMemory m ≡ false → stepMemory m op ≡ record { report = refused notNode; memory = m }
 unfolding stepMemory
@@ -42,10 +46,7 @@ answer-first : (m : List ℕ) (op : Operation) → FirstDue m (nodeAt m) op (ste
 answer-first m op = go (isMemory m) refl
   where
     go : (t : Bool) → isMemory m ≡ t → FirstDue m (nodeAt m) op (stepMemory m op .report .answer)
-    go true e =
-        let a : stepMemory m op .report .answer ≡ refusal paper01 (nodeAt m) op =
-        ap (λ (x : MemoryStep). x .report .answer) (step-tested m op e) ∙ step-answer paper01 (nodeAt m) op in
-        subst (FirstDue m (nodeAt m) op) (sym a) (refusal-first m (nodeAt m) e (test-valid m e) op)
+    go true e = subst (FirstDue m (nodeAt m) op) (sym (answer-tested m op e)) (refusal-first m (nodeAt m) e (test-valid m e) op)
     go false e =
         subst (FirstDue m (nodeAt m) op) (sym (ap (λ (x : MemoryStep). x .report .answer) (step-untested m op e)))
         (no-node-first m (nodeAt m) op e)

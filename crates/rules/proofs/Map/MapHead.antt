@@ -1,24 +1,25 @@
--- The head call: the part of the memory that it names holds the words of the running group's first message. Where the group's buffer holds
--- one, the first waits at the place after the used-up ones of its first frame, whose number stands first in the group's list; where it holds
--- none, the first is the head of the hardware queue, which may stay only if it is the running group's. Both places are within the memory, for
--- a frame's number is below 96 and a buffer's used-up places are fewer than a frame's. Assumes nothing.
+-- The head call: the part of the memory that it names holds the words of the running group's first message, and is empty exactly where the line
+-- is. Where the group's buffer holds a message, the first waits at the place after the used-up ones of its first page, whose number stands first
+-- in the group's list; where it holds none, the first is the head of the hardware queue, which may stay only if it is the running group's. Both
+-- places are within the memory, for a page's number is below 96 and a buffer's used-up places are fewer than a page's. Assumes nothing.
 use Prim.Native.Nat.{ℕ, zero, suc, pred, _+_, _-_, _*_, _≤_, _<_}
 use mathlib.Core.Path.{_≡_, refl, sym, ap, _∙_}
-use mathlib.Core.Bool.{Bool, true, false, true≢false, false≢true}
+use mathlib.Core.Bool.{Bool, true, false, true≢false}
 use mathlib.Core.List.{List, [], _∷_}
 use native.Mathlib.Nat.{add-zero, zero-add}
 use native.Mathlib.Omega.{arith}
 use lib.Dec.{eqb}
 use lib.ListN.{length, take, drop, getD}
-use lib.Seq.{drop-cons}
-use borrow.Author.Tests.{ltb-true, ne-eqb}
+use lib.Seq.{drop-cons, length-take-le}
+use borrow.Author.Tests.{eq-eqb, ltb-true, ne-eqb}
 use Rattle.rules.specs.Lists.{Every, isEmpty}
 use Rattle.rules.specs.Build.{paper01, pageCount, groupCount, wordLimit}
 use Rattle.rules.specs.Node.{Message, Place, Buffer, Group, Node, emptyGroup, emptyPlace, groupOf, bufferHolds, messageOf, waiting, inBuffer, isOf, inQueue, line}
-use Rattle.rules.specs.Valid.{GoodBuffer, Valid, frameList}
+use Rattle.rules.specs.Valid.{GoodWaiting, GoodBuffer, FirstInFrame, Valid, frameList}
 use Rattle.rules.specs.Memory.{queuedAt, queueAt, queueStride, groupsAt, groupStride, placeStride, listOffset, heldOffset, usedOffset}
 use Rattle.rules.specs.Memory.{word, wordsAt, frameAddress, groupAddress, messageAt, messagesAt, placeAt, listAt, bufferAt, groupAt, nodeAt}
-use Rattle.rules.specs.MemoryTest.{isMemory, Part, firstPlace, bufferPart, queuePart, runnerPart, headPart, headWords}
+use Rattle.rules.specs.MemoryTest.{isMemory, Part, emptyPart, firstPlace, bufferPart, queuePart, runnerPart, headPart, headWords}
+use Rattle.rules.specs.Reading.{InPlace, in-queue, in-frame}
 use Rattle.rules.proofs.Steps.EveryLaws.{every-getD, every-concat}
 use Rattle.rules.proofs.Steps.ListLaws.{filter-pass}
 use Rattle.rules.proofs.Steps.SoundLaws.{valid-sound, valid-mapped}
@@ -30,17 +31,7 @@ use Rattle.rules.proofs.Map.MapParts.{messages, groups}
 use Rattle.rules.proofs.Map.MapFrames.{page-place, both-bounded}
 use Rattle.rules.proofs.Map.MapTest.{memory-fits}
 use Rattle.rules.proofs.Map.MapLaws.{test-size, test-valid}
-
--- the words of the first message of a line
-unfoldable pub firstWords : List Message → List ℕ
-firstWords [] = []
-firstWords (x ∷ xs) = x .words
-
--- an empty line has none
-first-empty : (l : List Message) → isEmpty l ≡ true → firstWords l ≡ []
-unfolding firstWords
-first-empty [] e = refl
-first-empty (x ∷ xs) e = absurd (false≢true e)
+use Rattle.rules.proofs.Map.ShownLaws.{firstWords, partWords, Shows, empty-shows}
 
 -- some of the eight words at an address, within the memory
 some-words : (m : List ℕ) (a k : ℕ) → k ≤ wordLimit → a + wordLimit ≤ length m → take k (wordsAt m a wordLimit) ≡ take k (drop a m)
@@ -80,10 +71,6 @@ list-bounded n v g low high =
     every-getD (λ G. Every (λ f. f < pageCount paper01) (frameList G)) (n .groups) (pred g) emptyGroup
     (every-concat (λ f. f < pageCount paper01) frameList (n .groups) .0 (both-bounded n (valid-mapped v) .1)) (within (valid-sound v) g low high)
 
--- the words of a part of the memory
-unfoldable partWords : List ℕ → Part → List ℕ
-partWords m p = take (p .len) (drop (p .start) m)
-
 -- The first message of a group whose buffer holds one.
 
 module _ (m : List ℕ) (h : isMemory m ≡ true) (g : ℕ) (low : 1 ≤ g) (high : g ≤ groupCount)
@@ -110,8 +97,15 @@ module _ (m : List ℕ) (h : isMemory m ≡ true) (g : ℕ) (low : 1 ≤ g) (hig
       let b = rw (buffer-at m g low high) at (list-bounded (nodeAt m) (test-valid m h) g low high) in
       rw e at b .0
 
+  -- in a frame, where the running group's is
+  first-resident : FirstInFrame paper01 (groupOf (nodeAt m) g .buffer .frames) → word m (groupAddress g + listOffset) < paper01 .frames
+  unfolding bufferAt listAt wordsAt
+  first-resident r =
+      let e : word m (groupAddress g + heldOffset) ≡ suc (word m (groupAddress g + heldOffset) - 1) = omega (arith, some-held) in
+      rw e at (rw (buffer-at m g low high) at r)
+
   -- its first message waits at the place that the head call names
-  pub waits-there : waiting (bufferAt m (groupAddress g))
+  waits-there : waiting (bufferAt m (groupAddress g))
       ≡ placeAt m (firstPlace m g)
       ∷ take (bufferAt m (groupAddress g) .count - 1) (drop (suc (bufferAt m (groupAddress g) .used)) (bufferAt m (groupAddress g) .places))
   unfolding firstPlace bufferAt
@@ -120,17 +114,42 @@ module _ (m : List ℕ) (h : isMemory m ≡ true) (g : ℕ) (low : 1 ≤ g) (hig
       (first-waiting (bufferAt m (groupAddress g)) emptyPlace some-count (omega (arith, fits good-buffer, some-count)))
 
   -- that place is within the memory
-  pub place-within : firstPlace m g + 1 + wordLimit ≤ length m
+  place-within : firstPlace m g + 1 + wordLimit ≤ length m
   unfolding firstPlace frameAddress bufferAt
   place-within = omega (arith, first-bounded, test-size m h, good-buffer .used-bound)
+
+  -- of a frame, where the first page is in one
+  buffer-in-place : FirstInFrame paper01 (groupOf (nodeAt m) g .buffer .frames) → InPlace (bufferPart m g)
+  unfolding bufferPart firstPlace bufferAt
+  buffer-in-place r = in-frame (word m (groupAddress g + listOffset)) (word m (groupAddress g + usedOffset)) (first-resident r) (good-buffer .used-bound) refl
+
+  -- the message there is good
+  first-good : GoodWaiting (placeAt m (firstPlace m g))
+  first-good = (rw waits-there at (good-buffer .waiting-good)) .0
+
+  -- so the line is not empty
+  buffer-line : isEmpty (line (nodeAt m) g) ≡ false
+  unfolding line inBuffer
+  buffer-line = rw (buffer-at m g low high, waits-there)
 
   -- and the part that the head call names holds the message's words
   buffer-first : firstWords (line (nodeAt m) g) ≡ partWords m (bufferPart m g)
   unfolding firstWords partWords line inBuffer messageOf bufferPart placeAt
   buffer-first =
-      let few = rw waits-there at (good-buffer .waiting-good) in
       rw (buffer-at m g low high, waits-there)
-      (some-words m (firstPlace m g + 1) (word m (firstPlace m g)) (few .0 .few-words) place-within)
+      (some-words m (firstPlace m g + 1) (word m (firstPlace m g)) (first-good .few-words) place-within)
+
+  -- and shows the line
+  buffer-shows : Shows m (bufferPart m g) (line (nodeAt m) g)
+  unfolding bufferPart placeAt
+  buffer-shows =
+      let good = first-good in
+      record {
+        inside = omega (arith, place-within, good .few-words);
+        few = good .few-words;
+        empty = buffer-line ∙ sym (ne-eqb (word m (firstPlace m g)) 0 (omega (arith, good .some-words)));
+        words = buffer-first;
+      }
 
 -- The first message of the running group where its buffer holds none: the head of the hardware queue.
 
@@ -147,51 +166,102 @@ module _ (n : Node) (none : bufferHolds n (n .running) ≡ false) where
       let own = is-of (n .running) x (stays n x (v .head-stays x q e) .0) in
       rw (direct-line n (n .running) none, e, filter-pass (isOf (n .running)) x q own)
 
-module _ (m : List ℕ) (h : isMemory m ≡ true) where
-  -- so the part that the head call names holds its words
-  queue-head : bufferHolds (nodeAt m) (nodeAt m .running) ≡ false → isEmpty (line (nodeAt m) (nodeAt m .running)) ≡ false
-      → firstWords (line (nodeAt m) (nodeAt m .running)) ≡ partWords m (queuePart m)
-  unfolding nodeAt partWords queuePart messageAt
-  queue-head none some = go (word m queuedAt) refl
+-- The part by its cases.
+
+-- nobody runs
+pub nobody-part : (m : List ℕ) (n : Node) → n .running ≡ 0 → runnerPart m n ≡ emptyPart
+unfolding runnerPart
+nobody-part m n e = rw (eq-eqb (n .running) 0 e)
+
+module _ (m : List ℕ) (n : Node) (low : 1 ≤ n .running) where
+  -- somebody does
+  runs : eqb (n .running) 0 ≡ false
+  runs = ne-eqb (n .running) 0 (λ e. omega arith)
+
+  -- the line is empty
+  pub empty-part : isEmpty (line n (n .running)) ≡ true → runnerPart m n ≡ emptyPart
+  unfolding runnerPart
+  empty-part e = rw (runs, e)
+
+  -- its first message is in the buffer
+  pub frame-part : isEmpty (line n (n .running)) ≡ false → bufferHolds n (n .running) ≡ true → runnerPart m n ≡ bufferPart m (n .running)
+  unfolding runnerPart
+  frame-part e b = rw (runs, e, b)
+
+  -- or at the head of the queue
+  pub queue-part : isEmpty (line n (n .running)) ≡ false → bufferHolds n (n .running) ≡ false → runnerPart m n ≡ queuePart m
+  unfolding runnerPart
+  queue-part e b = rw (runs, e, b)
+
+  -- so what holds of the part in each case holds of it
+  part-cases : (P : Part → Type 0)
+      → (isEmpty (line n (n .running)) ≡ true → P emptyPart)
+      → (1 ≤ groupOf n (n .running) .buffer .count → P (bufferPart m (n .running)))
+      → (bufferHolds n (n .running) ≡ false → isEmpty (line n (n .running)) ≡ false → P (queuePart m))
+      → P (runnerPart m n)
+  unfolding bufferHolds
+  part-cases P none waits queued = go (isEmpty (line n (n .running))) (bufferHolds n (n .running)) refl refl
     where
-      go : (k : ℕ) → word m queuedAt ≡ k → firstWords (line (nodeAt m) (nodeAt m .running)) ≡ partWords m (queuePart m)
+      go : (empty holds : Bool) → isEmpty (line n (n .running)) ≡ empty → bufferHolds n (n .running) ≡ holds → P (runnerPart m n)
+      go true holds e b = rw (empty-part e) (none e)
+      go false true e b = rw (frame-part e b) (waits (ltb-true 0 _ b))
+      go false false e b = rw (queue-part e b) (queued b e)
+
+-- What the head call shows of any memory.
+
+-- of memory that is no node nothing
+pub untested-part : (m : List ℕ) → isMemory m ≡ false → headPart m ≡ emptyPart
+unfolding headPart
+untested-part m e = rw (e, headPart)
+
+pub head-none : (m : List ℕ) → isMemory m ≡ false → headWords m ≡ []
+unfolding headWords
+head-none m e = rw (untested-part m e)
+
+module _ (m : List ℕ) (h : isMemory m ≡ true) where
+  -- a memory that is a node is read by its running group
+  pub tested-part : headPart m ≡ runnerPart m (nodeAt m)
+  unfolding headPart
+  tested-part = rw (h, headPart)
+
+  -- the head of the queue is shown where it stands
+  queue-shows : bufferHolds (nodeAt m) (nodeAt m .running) ≡ false → isEmpty (line (nodeAt m) (nodeAt m .running)) ≡ false
+      → Shows m (queuePart m) (line (nodeAt m) (nodeAt m .running))
+  unfolding nodeAt partWords queuePart messageAt
+  queue-shows none some = go (word m queuedAt) refl
+    where
+      go : (k : ℕ) → word m queuedAt ≡ k → Shows m (queuePart m) (line (nodeAt m) (nodeAt m .running))
       go zero e = absurd (true≢false (sym (queue-empty (nodeAt m) none (rw e (messages m .none queueAt))) ∙ some))
       go (suc k) e =
+          let v = test-valid m h in
           let fits = memory-fits m .0 h .1 .0 .messages 0 (omega arith) in
-          queue-first (nodeAt m) none (test-valid m h) (messageAt m queueAt) (messagesAt m (queueAt + queueStride) k)
-          (rw e (messages m .more queueAt k))
-          ∙ some-words m (queueAt + 2) (word m (queueAt + 1)) (fits .few-words) (omega (arith, test-size m h))
+          let q : nodeAt m .queue ≡ messageAt m queueAt ∷ messagesAt m (queueAt + queueStride) k = rw e (messages m .more queueAt k) in
+          let least = (rw q at (v .queue-good)) .0 .some-words in
+          let len : length (take (word m (queueAt + 1)) (wordsAt m (queueAt + 2) wordLimit)) ≡ word m (queueAt + 1) =
+          length-take-le (word m (queueAt + 1)) (wordsAt m (queueAt + 2) wordLimit) (rw (length-wordsAt m (queueAt + 2) wordLimit) (fits .few-words)) in
+          record {
+            inside = omega (arith, test-size m h, fits .few-words);
+            few = fits .few-words;
+            empty = some ∙ sym (ne-eqb (word m (queueAt + 1)) 0 (omega (arith, least)));
+            words =
+                queue-first (nodeAt m) none v (messageAt m queueAt) (messagesAt m (queueAt + queueStride) k) q
+                ∙ some-words m (queueAt + 2) (word m (queueAt + 1)) (fits .few-words) (omega (arith, test-size m h));
+          }
 
-  -- a memory that is a node is read by its running group
-  head-runner : headWords m ≡ partWords m (runnerPart m (nodeAt m))
-  unfolding headWords headPart partWords
-  head-runner = rw (h, headPart)
+  module _ (low : 1 ≤ nodeAt m .running) where
+    -- the running group's first message is shown
+    pub head-shows : Shows m (runnerPart m (nodeAt m)) (line (nodeAt m) (nodeAt m .running))
+    head-shows =
+        part-cases m (nodeAt m) low (λ p. Shows m p (line (nodeAt m) (nodeAt m .running)))
+        (empty-shows m (line (nodeAt m) (nodeAt m .running)))
+        (buffer-shows m h (nodeAt m .running) low (test-valid m h .running-bound))
+        queue-shows
 
-  -- the head call's words are those of the running group's first message
-  pub head-part : 1 ≤ nodeAt m .running → headWords m ≡ firstWords (line (nodeAt m) (nodeAt m .running))
-  unfolding runnerPart bufferHolds partWords
-  head-part low =
-      let n = nodeAt m in
-      let runs = ne-eqb (n .running) 0 (omega arith) in
-      head-runner ∙ go runs (isEmpty (line n (n .running))) (bufferHolds n (n .running)) refl refl
-    where
-      go : eqb (nodeAt m .running) 0 ≡ false → (empty waits : Bool)
-          → isEmpty (line (nodeAt m) (nodeAt m .running)) ≡ empty → bufferHolds (nodeAt m) (nodeAt m .running) ≡ waits
-          → partWords m (runnerPart m (nodeAt m)) ≡ firstWords (line (nodeAt m) (nodeAt m .running))
-      go runs true waits e w = rw (runs, e) (sym (first-empty (line (nodeAt m) (nodeAt m .running)) e))
-      go runs false true e w =
-          rw (runs, e, w)
-          (sym (buffer-first m h (nodeAt m .running) low (test-valid m h .running-bound) (ltb-true 0 _ w)))
-      go runs false false e w =
-          rw (runs, e, w)
-          (sym (queue-head w e))
-
-  -- none where nobody runs
-  pub head-nobody : nodeAt m .running ≡ 0 → headWords m ≡ []
-  unfolding runnerPart partWords
-  head-nobody e = head-runner ∙ rw e
-
--- and none where the memory is no node
-pub head-none : (m : List ℕ) → isMemory m ≡ false → headWords m ≡ []
-unfolding headWords headPart
-head-none m e = rw (e, headPart)
+    -- from the queue's place or a frame's
+    pub head-in-place : 1 ≤ runnerPart m (nodeAt m) .len → InPlace (runnerPart m (nodeAt m))
+    unfolding queuePart
+    head-in-place =
+        part-cases m (nodeAt m) low (λ p. 1 ≤ p .len → InPlace p)
+        (λ e some. absurd (omega arith))
+        (λ waits some. buffer-in-place m h (nodeAt m .running) low (test-valid m h .running-bound) waits (test-valid m h .runner-resident low))
+        (λ direct e some. in-queue refl)

@@ -16,7 +16,8 @@ use Rattle.memory.specs.Writes.{InGroup}
 use Rattle.memory.proofs.group.GroupLaws.{group-words}
 use Rattle.memory.proofs.PieceLaws.{holds-pieces}
 use Rattle.node.specs.Parts.{partOf}
-use Rattle.node.proofs.message.HeadLaws.{buffered-part, first-frame, idle-part, nobody-part, queued-part}
+use Rattle.rules.proofs.Map.MapHead.{nobody-part}
+use Rattle.node.proofs.message.HeadLaws.{buffered-part, first-frame, idle-part, queued-part}
 use Rattle.node.proofs.ServedLaws.{runner}
 use Rattle.node.proofs.message.first.Statement.{statement}
 use Rattle.node.proofs.message.first.Tie as tie

@@ -1,0 +1,67 @@
+//! The scripts that programs are measured with: as long as is told, and E alone where its name says.
+
+use std::io;
+
+use judge::node::{Event, Operation, Standing};
+use judge::program::{tested_lines, Measured, TESTED_TIMES};
+use judge::script;
+
+const LINES: usize = 1_000_000;
+
+fn measured() -> Vec<Measured> {
+    Measured::scripts(None).expect("no file is read")
+}
+
+#[test]
+fn each_script_has_a_million_lines() {
+    let names = measured().into_iter().map(|Measured { name, script }| {
+        let lines = script.iter().filter(|&&byte| byte == b'\n').count();
+        assert_eq!(lines, LINES, "{name}");
+        name
+    });
+    assert!(names.eq(["mixed", "swap", "E, direct", "E, buffered"]));
+}
+
+#[test]
+fn the_lines_that_are_tested_are_not_too_many() {
+    let few = b"M\nD\nS,1";
+    assert_eq!(tested_lines(few), b"M\nD\n");
+    assert_eq!(tested_lines(&b"M\n".repeat(4097)), b"M\n".repeat(4096));
+    let long = [[b'M'; 127].as_slice(), b"\n"].concat();
+    assert_eq!(tested_lines(&long.repeat(513)), long.repeat(512));
+    assert_eq!(tested_lines(&[b'M'; 70_000]), b"");
+}
+
+/// How many lines of a script are E: each reads its word in a message that stands so.
+fn reads(script: &[u8], standing: Standing) -> usize {
+    let mut reads = 0;
+    script::run(script, |line, report| {
+        if let Operation::MessageWord { index } = script::read(line) {
+            assert_eq!(report.events, [Event::WordRead(standing)]);
+            assert_eq!(report.value, 11 + index);
+            reads += 1;
+        }
+        Ok::<(), io::Error>(())
+    })
+    .expect("memory is read without error");
+    reads
+}
+
+/// Also where its first lines are played again and again on one memory.
+#[test]
+fn e_alone_reads_where_its_name_says() {
+    let alone = [
+        ("E, direct", 2, Standing::Queued),
+        ("E, buffered", 3, Standing::FirstPlace),
+    ];
+    let scripts = measured();
+    for (name, before, standing) in alone {
+        let named = scripts.iter().find(|measured| measured.name == name);
+        let script = &named.expect("a script of this name").script;
+        assert_eq!(reads(script, standing), LINES - before, "{name}");
+        let first = tested_lines(script);
+        let once = reads(first, standing);
+        let repeated = reads(&first.repeat(TESTED_TIMES), standing);
+        assert_eq!(repeated, TESTED_TIMES * once, "{name}");
+    }
+}

@@ -91,7 +91,8 @@ uint32_t fugu_line(uint32_t *FUGU_LENT memory, size_t memory_length, const uint8
                    size_t report_length);
 
 /* The running group's first message, where it stands: into the part go the index in the memory of its first word, and how many words it has,
- * 1 to 8; 0 and 0 where there is none or the memory is no node. */
+ * 1 to 8; 0 and 0 where there is none or the memory is no node. The value of an accepted E with i is the memory's word at that index + i, and E
+ * is accepted exactly where i is below that count. */
 uint32_t fugu_head(const uint32_t *memory, size_t memory_length, uint32_t *FUGU_LENT part, size_t part_length);
 
 /* Pages that went to swap space and back: into the part go how many were sent out so far, and how many were brought in, an exchange being one

@@ -67,7 +67,7 @@ impl<M: AsRef<[u32]> + AsMut<[u32]>> Node<M> {
         start..start + count
     }
 
-    /// Its words, in the memory itself.
+    /// Its words, in the memory itself: an accepted E with i hands back word i of them.
     pub fn head(&self) -> &[u32] {
         &self.memory()[self.head_part()]
     }

@@ -1,6 +1,6 @@
 -- A run of the public calls is a run of the rules, call by call, so the demands hold of the calls. Assumes nothing.
-use Rattle.node.specs.Calls.{none, next, Call, CallHolds, Calls, CallsDemanded, Promised, inputOf, reportsOf, shownBy}
-use Rattle.node.specs.Parts.{partOf}
+use Rattle.node.specs.Calls.{none, next, Call, CallHolds, Calls, CallsDemanded, Promised, inputOf, reportsOf}
+use Rattle.node.specs.Parts.{partOf, shownBy}
 use Rattle.node.specs.declared.message.Part.{Part as Part·rt}
 use Rattle.rules.specs.MemoryTest.{stepMemory, MemoryStep, isMemory, headPart, headWords}
 use Rattle.rules.specs.Types.{operationOf, reportOf}

@@ -7,7 +7,7 @@ use mathlib.Core.Logic.{_≢_}
 use mathlib.Core.Path.{_≡_}
 use lib.ListN.{length, drop}
 use Rattle.rules.specs.Memory.{size, nodeAt}
-use Rattle.rules.specs.MemoryTest.{isMemory, powerOnMemory, stepMemory, Part, headPart, headWords}
+use Rattle.rules.specs.MemoryTest.{isMemory, powerOnMemory, stepMemory, headPart, headWords}
 use Rattle.rules.specs.Run.{Input, operation, Event, runMemory}
 use Rattle.rules.specs.Types.{operationOf, reportOf}
 use Rattle.rules.specs.Conditions.{FirstDue}
@@ -19,7 +19,7 @@ use Rattle.rules.specs.declared.Operation.the-variants.{Peek}
 use Rattle.rules.specs.declared.Report.{Report as Report·rt}
 use Rattle.memory.specs.Answers.{Answers}
 use Rattle.node.specs.declared.message.Part.{Part as Part·rt}
-use Rattle.node.specs.Parts.{partOf}
+use Rattle.node.specs.Parts.{partOf, shownBy}
 
 -- what is handed to a call of `step` beside the memory, and what it reports
 pub record Call : Type 0 where
@@ -63,10 +63,6 @@ pub record CallHolds (m : List ℕ) (c : Call) (m′ : List ℕ) : Type 0 where
   pub rest-kept : drop 8104 m′ ≡ drop 8104 m
   -- a node stays a node
   pub stays-node : isMemory m ≡ true → isMemory m′ ≡ true
-
--- the part that a head call says
-abbrev pub shownBy : Part·rt → Part
-shownBy p = record { start = p .start; len = p .len }
 
 -- the demands, and order 4, of the calls themselves
 pub record CallsDemanded : Type 0 where

@@ -14,6 +14,10 @@ use Rattle.node.specs.declared.message.Part.{Part as Part·rt}
 abbrev pub partOf : Part → Part·rt
 partOf p = record { start = p .start; len = p .len }
 
+-- and back
+abbrev pub shownBy : Part·rt → Part
+shownBy p = record { start = p .start; len = p .len }
+
 -- whatever node m holds, p is the part with the words of its running group's first message, empty if there is none
 abbrev pub FirstPart : List ℕ → Part·rt → Type 0
 FirstPart m p = (n : Node) (r : List ℕ) → Holds m n r → Valid paper01 n → p ≡ partOf (runnerPart m n)

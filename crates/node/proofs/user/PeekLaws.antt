@@ -15,7 +15,7 @@ use Rattle.rules.specs.Types.{reportOf}
 use Rattle.rules.specs.declared.Report.{Report as Report·rt}
 use Rattle.rules.proofs.Map.ShownLaws.{Shows, shown-length, shown-none, shown-past, shown-below, shown-word}
 use Rattle.memory.specs.Holds.{Holds}
-use Rattle.node.specs.Parts.{partOf}
+use Rattle.node.specs.Parts.{partOf, shownBy}
 use Rattle.node.specs.Steps.{Running, Stepping}
 use Rattle.node.specs.declared.message.Part.{Part as Part·rt}
 use Rattle.node.proofs.message.HeadLaws.{part-shows}
@@ -24,8 +24,8 @@ use Rattle.node.proofs.ServedLaws.{ownReport, request-quiet, request-re
 
 module _ {m : List ℕ} {n : Node} {r : List ℕ} {p : Part·rt} (h : Holds m n r) (runs : Running n) (e : p ≡ partOf (runnerPart m n)) where
   -- the part shows the first message of the running group's line
-  shown : Shows m (record { start = p .start; len = p .len }) (line n (n .running))
-  shown = subst (λ (q : Part·rt). Shows m (record { start = q .start; len = q .len }) (line n (n .running))) (sym e) (part-shows h (runs .valid) (runs .some))
+  shown : Shows m (shownBy p) (line n (n .running))
+  shown = subst (λ (q : Part·rt). Shows m (shownBy q) (line n (n .running))) (sym e) (part-shows h (runs .valid) (runs .some))
 
   -- it lies within the memory
   pub first-inside : (p .start + p .len ≤ length m) × (p .len ≤ wordLimit)

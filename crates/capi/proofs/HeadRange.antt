@@ -5,44 +5,40 @@ use native.Mathlib.Omega.{arith}
 use mathlib.Core.Bool.{Bool, true, false}
 use mathlib.Core.List.{List}
 use mathlib.Core.Path.{_≡_, refl}
-use lib.ListN.{length}
-use Rattle.rules.specs.Build.{paper01, wordLimit}
-use Rattle.rules.specs.Memory.{frameAddress, size}
+use Rattle.rules.specs.Build.{wordLimit}
+use Rattle.rules.specs.Memory.{bufferAt, frameAddress, nodeAt, size}
 use Rattle.rules.specs.MemoryTest.{Part, bufferPart, firstPlace, headPart, isMemory, queuePart, runnerPart}
-use Rattle.rules.specs.Node.{Node, groupOf}
-use Rattle.rules.specs.Valid.{Valid}
-use Rattle.rules.proofs.Map.MapHead.{nobody-part, untested-part}
+use Rattle.rules.proofs.Map.MapHead.{first-bounded, good-buffer, nobody-part, part-cases, untested-part, tested-part, head-shows}
 use Rattle.rules.proofs.Map.MapLaws.{test-valid}
-use Rattle.memory.specs.Holds.{Holds}
-use Rattle.node.proofs.message.HeadLaws.{first-frame, buffered-part, idle-part, queued-part, part-inside, head-tested, tested-holds}
-
-module _ {m : List ℕ} {n : Node} {r : List ℕ} (h : Holds m n r) (v : Valid paper01 n) where
-  -- in a frame, at the head of the queue, or nowhere
-  part-low : runnerPart m n .start ≤ size
-  unfolding bufferPart firstPlace frameAddress queuePart
-  part-low = go (ℕ-discrete (n .running) 0) (ℕ-discrete (groupOf n (n .running) .buffer .count) 0) (ℕ-discrete (length (n .queue)) 0)
-    where
-      go : Dec (n .running ≡ 0) → Dec (groupOf n (n .running) .buffer .count ≡ 0) → Dec (length (n .queue) ≡ 0) → runnerPart m n .start ≤ size
-      go (yes e) b q = rw (nobody-part m n e) (omega arith)
-      go (no some) (no b) q =
-          let low : 1 ≤ n .running = omega arith in
-          let many : 1 ≤ groupOf n (n .running) .buffer .count = omega arith in
-          rw (buffered-part h v low many) (omega (arith, first-frame h v low many .0, first-frame h v low many .1))
-      go (no some) (yes b) (no q) = rw (queued-part h v (omega arith) b (omega arith)) (omega arith)
-      go (no some) (yes b) (yes q) = rw (idle-part h v (omega arith) b q) (omega arith)
 
 -- both are small
 pub record Small (p : Part) : Type 0 where
   pub start : p .start ≤ size
   pub len : p .len ≤ wordLimit
 
+module _ (m : List ℕ) (t : isMemory m ≡ true) where
+  -- in a page, at the head of the queue, or nowhere
+  part-low : 1 ≤ nodeAt m .running → runnerPart m (nodeAt m) .start ≤ size
+  unfolding bufferPart firstPlace frameAddress queuePart bufferAt
+  part-low low =
+      let g = nodeAt m .running in
+      let high = test-valid m t .running-bound in
+      part-cases m (nodeAt m) low (λ p. p .start ≤ size)
+      (λ none. omega arith)
+      (λ waits. omega (arith, first-bounded m t g low high waits, good-buffer m t g low high waits .used-bound))
+      (λ direct some. omega arith)
+
+  tested-small : Small (headPart m)
+  tested-small = rw (tested-part m t) (go (ℕ-discrete (nodeAt m .running) 0))
+    where
+      go : Dec (nodeAt m .running ≡ 0) → Small (runnerPart m (nodeAt m))
+      go (yes e) = rw (nobody-part m (nodeAt m) e) (record { start = omega arith; len = omega arith })
+      go (no some) = record { start = part-low (omega arith); len = head-shows m t (omega arith) .few }
+
 -- those that the head call tells
 pub head-small : (m : List ℕ) → Small (headPart m)
 head-small m = go (isMemory m) refl
   where
     go : (t : Bool) → isMemory m ≡ t → Small (headPart m)
-    go true e =
-        let h = tested-holds m e in
-        let v = test-valid m e in
-        rw (head-tested h v) (record { start = part-low h v; len = part-inside h v .1 })
+    go true e = tested-small m e
     go false e = rw (untested-part m e) (record { start = omega arith; len = omega arith })

@@ -16,7 +16,7 @@ use Rattle.rules.specs.MemoryTest.{Part, bufferPart, emptyPart, headPart, headW
 use Rattle.rules.specs.Node.{Node, bufferHolds, groupOf, line}
 use Rattle.rules.specs.Valid.{Valid}
 use Rattle.rules.proofs.Map.ShownLaws.{Shows}
-use Rattle.rules.proofs.Map.MapHead.{first-bounded, good-buffer, nobody-part, empty-part, frame-part, queue-part, head-shows}
+use Rattle.rules.proofs.Map.MapHead.{first-bounded, good-buffer, nobody-part, empty-part, frame-part, queue-part, tested-part, head-shows}
 use Rattle.rules.proofs.Map.MapLaws.{read-back, test-written, test-valid, test-words}
 use Rattle.rules.proofs.Steps.SoundLaws.{valid-sound, valid-mapped}
 use Rattle.memory.specs.Holds.{Holds}
@@ -35,8 +35,7 @@ module _ {m : List ℕ} {n : Node} {r : List ℕ} (h : Holds m n r) (v : Valid p
 
   -- so the head call, which tests, names the same part
   pub head-tested : headPart m ≡ runnerPart m n
-  unfolding headPart
-  head-tested = rw (held-test, headPart) (ap (runnerPart m) held-node)
+  head-tested = tested-part m held-test ∙ ap (runnerPart m) held-node
 
   -- and its words are those of the part
   pub head-words : headWords m ≡ take (runnerPart m n .len) (drop (runnerPart m n .start) m)

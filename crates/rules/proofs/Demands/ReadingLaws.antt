@@ -8,8 +8,8 @@ use mathlib.Core.Path.{_≡_, refl, sym, ap, _∙_}
 use mathlib.Core.Logic.{_↔_}
 use mathlib.Core.Bool.{Bool, true, false, true≢false}
 use mathlib.Core.List.{List, head-eq-of-cons-eq}
-use lib.ListN.{length, drop, getD}
-use lib.Seq.{drop-cons, getD-take, getD-drop}
+use lib.ListN.{length, getD}
+use lib.Seq.{drop-cons}
 use lib.Dec.{leb}
 use borrow.Author.Tests.{eq-eqb, ne-eqb, leb-false}
 use Rattle.rules.specs.Build.{paper01}
@@ -23,7 +23,7 @@ use Rattle.rules.specs.Reading.{peeked, InPlace, AnyPeek, Reading}
 use Rattle.rules.proofs.Steps.StepLaws.{step-accepted}
 use Rattle.rules.proofs.Map.TestLaws.{leb-tells}
 use Rattle.rules.proofs.Map.RunMemory.{step-tested}
-use Rattle.rules.proofs.Map.ShownLaws.{Shows, shown-none, shown-past, shown-below, shown-word}
+use Rattle.rules.proofs.Map.ShownLaws.{partWords, part-word, Shows, shown-none, shown-past, shown-below, shown-word}
 use Rattle.rules.proofs.Map.MapHead.{untested-part, tested-part, nobody-part, head-shows, head-in-place}
 use Rattle.rules.proofs.Demands.DemandOneLaws.{answer-tested, demand-one}
 
@@ -64,15 +64,13 @@ module _ (m : List ℕ) (i : ℕ) (inside : headPart m .start + headPart m .len 
 
   -- word i is one of them
   word-peek : i < headPart m .len → peeked m i .answer ≡ 0 → peeked m i .value ≡ word m (headPart m .start + i) → InPlace (headPart m) → AnyPeek m i
-  unfolding headWords word
+  unfolding headWords partWords word
   word-peek below zero value place =
       let p = headPart m in
       record {
         accepted = (λ z. below, λ l. zero);
         by-address = λ z. value;
-        by-word = λ z d.
-            value ∙ any-default m (p .start + i) 0 d (omega arith)
-            ∙ sym (getD-take (p .len) (drop (p .start) m) i d below ∙ getD-drop (p .start) m i d);
+        by-word = λ z d. value ∙ any-default m (p .start + i) 0 d (omega arith) ∙ sym (part-word m p i d below);
         in-place = λ z. place;
         inside = inside;
         past-message = (λ z. absurd (omega arith), λ l. absurd (omega (arith, l .1)));

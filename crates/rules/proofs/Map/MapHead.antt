@@ -89,20 +89,22 @@ module _ (m : List ℕ) (h : isMemory m ≡ true) (g : ℕ) (low : 1 ≤ g) (hig
   unfolding bufferAt listAt
   some-held = omega (arith, held good-buffer some-count, length-wordsAt m (groupAddress g + listOffset) (word m (groupAddress g + heldOffset)))
 
-  -- the first of which is below 96
-  pub first-bounded : word m (groupAddress g + listOffset) < pageCount paper01
-  unfolding frameList bufferAt listAt wordsAt
-  first-bounded =
-      let e : word m (groupAddress g + heldOffset) ≡ suc (word m (groupAddress g + heldOffset) - 1) = omega (arith, some-held) in
-      let b = rw (buffer-at m g low high) at (list-bounded (nodeAt m) (test-valid m h) g low high) in
-      rw e at b .0
-
-  -- in a frame, where the running group's is
-  first-resident : FirstInFrame paper01 (groupOf (nodeAt m) g .buffer .frames) → word m (groupAddress g + listOffset) < paper01 .frames
+  -- the first of which stands first in its list
+  first-listed : groupOf (nodeAt m) g .buffer .frames
+      ≡ word m (groupAddress g + listOffset) ∷ wordsAt m (groupAddress g + listOffset + 1) (word m (groupAddress g + heldOffset) - 1)
   unfolding bufferAt listAt wordsAt
-  first-resident r =
+  first-listed =
       let e : word m (groupAddress g + heldOffset) ≡ suc (word m (groupAddress g + heldOffset) - 1) = omega (arith, some-held) in
-      rw e at (rw (buffer-at m g low high) at r)
+      ap (λ (v : Buffer). v .frames) (buffer-at m g low high) ∙ ap (wordsAt m (groupAddress g + listOffset)) e
+
+  -- so its number is below 96
+  pub first-bounded : word m (groupAddress g + listOffset) < pageCount paper01
+  unfolding frameList
+  first-bounded = (rw first-listed at (list-bounded (nodeAt m) (test-valid m h) g low high)) .0
+
+  -- and a frame's, where the first page is in one
+  first-resident : FirstInFrame paper01 (groupOf (nodeAt m) g .buffer .frames) → word m (groupAddress g + listOffset) < paper01 .frames
+  first-resident r = rw first-listed at r
 
   -- its first message waits at the place that the head call names
   waits-there : waiting (bufferAt m (groupAddress g))
@@ -118,7 +120,7 @@ module _ (m : List ℕ) (h : isMemory m ≡ true) (g : ℕ) (low : 1 ≤ g) (hig
   unfolding firstPlace frameAddress bufferAt
   place-within = omega (arith, first-bounded, test-size m h, good-buffer .used-bound)
 
-  -- of a frame, where the first page is in one
+  -- of a frame then
   buffer-in-place : FirstInFrame paper01 (groupOf (nodeAt m) g .buffer .frames) → InPlace (bufferPart m g)
   unfolding bufferPart firstPlace bufferAt
   buffer-in-place r = in-frame (word m (groupAddress g + listOffset)) (word m (groupAddress g + usedOffset)) (first-resident r) (good-buffer .used-bound) refl
@@ -194,7 +196,7 @@ module _ (m : List ℕ) (n : Node) (low : 1 ≤ n .running) where
   queue-part e b = rw (runs, e, b)
 
   -- so what holds of the part in each case holds of it
-  part-cases : (P : Part → Type 0)
+  pub part-cases : (P : Part → Type 0)
       → (isEmpty (line n (n .running)) ≡ true → P emptyPart)
       → (1 ≤ groupOf n (n .running) .buffer .count → P (bufferPart m (n .running)))
       → (bufferHolds n (n .running) ≡ false → isEmpty (line n (n .running)) ≡ false → P (queuePart m))

@@ -62,6 +62,11 @@ peek-within (x ∷ l) i h = rw (lt-leb _ i h)
 unfoldable pub partWords : List ℕ → Part → List ℕ
 partWords m p = take (p .len) (drop (p .start) m)
 
+-- word i of them is the one that stands i words behind the part's start
+pub part-word : (m : List ℕ) (p : Part) (i d : ℕ) → i < p .len → getD (partWords m p) i d ≡ getD m (p .start + i) d
+unfolding partWords
+part-word m p i d below = getD-take (p .len) (drop (p .start) m) i d below ∙ getD-drop (p .start) m i d
+
 -- A part that shows the first message of a line.
 
 pub record Shows (m : List ℕ) (p : Part) (l : List Message) : Type 0 where
@@ -95,11 +100,8 @@ module _ {m : List ℕ} {p : Part} {l : List Message} (s : Shows m p l) where
 
   -- with the word that stands there
   pub shown-word : (i : ℕ) → i < p .len → firstWord l i ≡ word m (p .start + i)
-  unfolding partWords word
-  shown-word i below =
-      first-word l i ∙ ap (λ (ws : List ℕ). getD ws i 0) (s .words)
-      ∙ getD-take (p .len) (drop (p .start) m) i 0 below
-      ∙ getD-drop (p .start) m i 0
+  unfolding word
+  shown-word i below = first-word l i ∙ ap (λ (ws : List ℕ). getD ws i 0) (s .words) ∙ part-word m p i 0 below
 
 -- a line without messages is shown by the empty part
 pub empty-shows : (m : List ℕ) (l : List Message) → isEmpty l ≡ true → Shows m emptyPart l

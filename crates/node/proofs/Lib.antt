@@ -1,5 +1,4 @@
 pub mod RunnerLaws
-pub mod QuietLaws
 pub mod StepMap
 pub mod ServedLaws
 pub mod OperationLaws

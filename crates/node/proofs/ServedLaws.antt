@@ -20,7 +20,7 @@ use Rattle.memory.specs.Holds.{Holds}
 use Rattle.memory.proofs.PieceLaws.{holds-pieces}
 use Rattle.node.specs.Steps.{Acted, Running, Stepping, done, effect, unsettled}
 use Rattle.node.specs.declared.acted.Act.{Act as Act·rt}
-use Rattle.node.proofs.QuietLaws.{Quiet}
+use Rattle.rules.proofs.Steps.QuietLaws.{Quiet}
 use Rattle.node.proofs.StepMap.{acted-refused, acted-unsettled, stepping-quiet, stepping-refused}
 
 -- the running group is the first number of the memory

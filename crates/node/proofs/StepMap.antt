@@ -15,7 +15,7 @@ use Rattle.memory.specs.Holds.{Holds}
 use Rattle.rules.specs.Sound.{Sound}
 use Rattle.node.specs.Steps.{Acted, Acting, Finished, Stepping, done, effect, unsettled}
 use Rattle.node.specs.declared.acted.Act.{Act as Act·rt}
-use Rattle.node.proofs.QuietLaws.{Quiet, quiet-finish}
+use Rattle.rules.proofs.Steps.QuietLaws.{Quiet, quiet-finish}
 
 module _ {m : List ℕ} {n : Node} {r : List ℕ} (op : Operation) {rep : Report·rt} where
   -- a refused step leaves the memory as it was

@@ -1,4 +1,4 @@
--- A node stays a node: lists, then buffers and frames, settling, lines, ticks, each operation, a step.
+-- A node stays a node: lists, then buffers and frames, settling, lines, ticks, each operation, a step, and steps after which nothing is due.
 pub mod EveryLaws
 pub mod ListLaws
 pub mod SoundLaws
@@ -12,3 +12,4 @@ pub mod LineLaws
 pub mod TickLaws
 pub mod ActLaws
 pub mod StepLaws
+pub mod QuietLaws

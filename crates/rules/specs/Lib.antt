@@ -20,6 +20,7 @@ pub mod Cases
 pub mod Conditions
 pub mod DemandOne
 pub mod DemandThree
+pub mod Touches
 pub mod Unseen
 pub mod Dumps
 pub mod Reading

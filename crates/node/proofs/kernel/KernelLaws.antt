@@ -1,13 +1,13 @@
 -- S and T: when they are refused, and what they do to a node. Assumes nothing.
-use Rattle.rules.specs.Node.{line, Node, bufferHolds, buffered, forced, groupOf, inBuffer, inQueue, timerRuns, withQueue, withRunning, withTimer, withTimerFlags}
+use Rattle.rules.specs.Node.{Node, forced, groupOf, timerRuns, withQueue, withRunning, withTimer, withTimerFlags}
 use Rattle.rules.specs.Step.{act, Effect, revoke, scheduled, timedOut, timerFlagged, valued}
-use Rattle.rules.specs.Settling.{drain, calls, mayStay}
+use Rattle.rules.specs.Settling.{drain}
 use Prim.Native.Nat.{_+_, _%_, _<_, _≤_, ℕ}
 use native.Mathlib.Nat.{mod-lt, zero-add}
 use native.Mathlib.Omega.{arith}
-use mathlib.Core.Bool.{Bool, cond, false, true, true≢false}
+use mathlib.Core.Bool.{Bool, cond, false, true}
 use mathlib.Core.Logic.{_≢_}
-use mathlib.Core.Path.{_∙_, _≡_, ap, refl, subst, sym}
+use mathlib.Core.Path.{_∙_, _≡_, ap, refl, subst}
 use lib.ListN.{length}
 use borrow.Author.Tests.{eq-eqb, le-ltb, lt-ltb, ne-eqb}
 use Rattle.rules.specs.Build.{groupCount, paper01, tickLimit}
@@ -21,7 +21,6 @@ use Rattle.rules.specs.Sound.{Sound}
 use Rattle.rules.proofs.Steps.SoundLaws.{valid-sound}
 use Rattle.rules.proofs.Steps.StepLaws.{act-sound}
 use Rattle.rules.proofs.Steps.TickLaws.{leftOver, ticks-counted, ticks-idle, ticks-timeout, timed}
-use Rattle.node.proofs.QuietLaws.{valid-quiet, Quiet}
 use Rattle.node.specs.Steps.{Ticking, effect, late, rest}
 
 -- S.
@@ -80,17 +79,6 @@ module _ {n : Node} (v : Valid paper01 n) (k : ℕ) where
   tick-timeout runs reached =
       ticks-timeout paper01 k n runs (v .timer-bound) reached
       ∙ ap (effect (withTimer (rest (n .timer + k) n) (revoke (drain paper01 (n .queue) n))) timeoutTrap) (zero-add (length (n .queue)))
-
--- a timer that goes on makes nothing due
-pub counted-quiet : {n : Node} → Valid paper01 n → timerRuns n ≡ true → (t : ℕ) → Quiet paper01 (withTimer t n)
-unfolding withTimer mayStay buffered bufferHolds groupOf calls line inBuffer inQueue timerRuns forced
-counted-quiet {n} v runs t =
-    record {
-      head = v .head-stays;
-      idle = λ rests. absurd (true≢false (sym runs ∙ rests));
-      resident = v .runner-resident;
-      uncalled = valid-quiet v .uncalled;
-    }
 
 -- a node whose timer runs
 pub valid-ticking : {n : Node} → Valid paper01 n → timerRuns n ≡ true → Ticking n

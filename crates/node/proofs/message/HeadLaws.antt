@@ -15,13 +15,14 @@ use Rattle.rules.specs.Memory.{bufferAt, groupAddress, listOffset, nodeAt, used
 use Rattle.rules.specs.MemoryTest.{Part, bufferPart, emptyPart, headPart, headWords, isMemory, queuePart, runnerPart}
 use Rattle.rules.specs.Node.{Node, bufferHolds, groupOf, line}
 use Rattle.rules.specs.Valid.{Valid}
+use Rattle.rules.proofs.Steps.LineLaws.{line-buffered}
 use Rattle.rules.proofs.Map.ShownLaws.{Shows}
 use Rattle.rules.proofs.Map.MapHead.{first-bounded, good-buffer, nobody-part, empty-part, frame-part, queue-part, tested-part, head-shows}
 use Rattle.rules.proofs.Map.MapLaws.{read-back, test-written, test-valid, test-words}
 use Rattle.rules.proofs.Steps.SoundLaws.{valid-sound, valid-mapped}
 use Rattle.memory.specs.Holds.{Holds}
 use Rattle.node.specs.Parts.{FirstWords}
-use Rattle.node.proofs.settling.CallLaws.{line-buffered, line-none, line-queued}
+use Rattle.node.proofs.settling.CallLaws.{line-none, line-queued}
 use Rattle.node.proofs.section.SectionLaws.{valid-settles}
 
 module _ {m : List ℕ} {n : Node} {r : List ℕ} (h : Holds m n r) (v : Valid paper01 n) where

@@ -17,7 +17,7 @@ use Rattle.rules.specs.Refusal.{refuseDispose, refuseEnd, refuseRequest}
 use Rattle.rules.specs.Step.{disposed, flagged, removed}
 use Rattle.rules.specs.Valid.{Valid}
 use Rattle.rules.proofs.Steps.FrameLaws.{held}
-use Rattle.rules.proofs.Steps.LineLaws.{direct-head, removed-running, without-running}
+use Rattle.rules.proofs.Steps.LineLaws.{direct-head, line-buffered, removed-running, without-running}
 use Rattle.rules.proofs.Steps.NodeLaws.{group-good}
 use Rattle.rules.proofs.Steps.PagingLaws.{first-entered}
 use Rattle.rules.proofs.Steps.SoundLaws.{line-lengths, valid-sound}
@@ -28,7 +28,7 @@ use Rattle.memory.proofs.PieceWrites.{timer-held}
 use Rattle.memory.proofs.WriteLaws.{wrote-set}
 use Rattle.node.specs.Steps.{Running, Settles}
 use Rattle.node.proofs.RunnerLaws.{runner-count}
-use Rattle.node.proofs.settling.CallLaws.{line-buffered, line-none, line-queued}
+use Rattle.node.proofs.settling.CallLaws.{line-none, line-queued}
 
 -- a valid node has settled
 pub valid-settles : {n : Node} → Valid paper01 n → Settles n

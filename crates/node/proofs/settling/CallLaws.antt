@@ -2,22 +2,21 @@
 use Prim.Native.Nat.{_+_, _≤_, ℕ}
 use native.Mathlib.Omega.{arith}
 use mathlib.Core.Bool.{Bool, false, true}
-use mathlib.Core.List.{List, [], _∷_, map}
+use mathlib.Core.List.{List, [], _∷_}
 use mathlib.Core.Logic.{_≢_}
 use mathlib.Core.Path.{_∙_, _≡_, ap, refl, sym, subst}
 use lib.Dec.{eqb}
-use lib.ListN.{drop, length, length-drop, length-map, length-take, take}
+use lib.ListN.{length}
 use borrow.Author.Tests.{eq-eqb, ne-eqb}
 use Rattle.rules.specs.Build.{groupCount, paper01}
 use Rattle.rules.specs.Lists.{isEmpty}
 use Rattle.rules.specs.Memory.{atomicOffset, countOffset, flagWord, groupAddress, queuedAt, word}
-use Rattle.rules.specs.Node.{line, Group, Message, Node, bufferHolds, groupOf, inBuffer, inQueue, isOf, messageOf, waiting}
+use Rattle.rules.specs.Node.{line, Group, Message, Node, bufferHolds, groupOf, inQueue, isOf}
 use Rattle.rules.specs.Paging.{runnerResident}
 use Rattle.rules.specs.Settling.{settle, upcall, calls, upcallGroup}
-use Rattle.rules.proofs.Steps.FrameLaws.{fits}
-use Rattle.rules.proofs.Steps.LineLaws.{stays, direct-line}
-use Rattle.rules.proofs.Steps.ListLaws.{filter-pass, length-some, some-append}
-use Rattle.rules.proofs.Steps.NodeLaws.{group-good, is-of}
+use Rattle.rules.proofs.Steps.LineLaws.{stays, direct-line, line-buffered}
+use Rattle.rules.proofs.Steps.ListLaws.{filter-pass}
+use Rattle.rules.proofs.Steps.NodeLaws.{is-of}
 use Rattle.rules.proofs.Steps.PagingLaws.{runner-repaged, runner-sound}
 use Rattle.rules.proofs.Steps.SettlingLaws.{settle-head, settle-sound}
 use Rattle.rules.proofs.Steps.StepLaws.{repaged-stays}
@@ -28,16 +27,6 @@ use Rattle.memory.proofs.PieceLaws.{holds-pieces}
 use Rattle.node.specs.Steps.{Called, Settles}
 
 -- Lines.
-
--- a group with a buffered message has a line
-pub line-buffered : {n : Node} → Sound paper01 n → (g : ℕ) → 1 ≤ g → g ≤ groupCount → 1 ≤ groupOf n g .buffer .count → isEmpty (line n g) ≡ false
-unfolding line inBuffer waiting
-line-buffered {n} s g low high some =
-    let B = groupOf n g .buffer in
-    let l = fits (group-good s g low high .buffer) in
-    let ms = map (messageOf g) (take (B .count) (drop (B .used) (B .places))) in
-    let k : 1 ≤ length ms = simp (length-map, length-take, length-drop) (omega arith) in
-    some-append ms (inQueue n g) (length-some ms k)
 
 -- a settled queue that is not empty is the running group's
 pub line-queued : {n : Node} → Settles n → groupOf n (n .running) .buffer .count ≡ 0 → 1 ≤ length (n .queue) → isEmpty (line n (n .running)) ≡ false

@@ -19,7 +19,7 @@ use Rattle.node.specs.Parts.{partOf, shownBy}
 use Rattle.node.specs.Steps.{Running, Stepping}
 use Rattle.node.specs.declared.message.Part.{Part as Part·rt}
 use Rattle.node.proofs.message.HeadLaws.{part-shows}
-use Rattle.node.proofs.QuietLaws.{valid-quiet}
+use Rattle.rules.proofs.Steps.QuietLaws.{valid-quiet}
 use Rattle.node.proofs.ServedLaws.{ownReport, request-quiet, request-refused}
 
 module _ {m : List ℕ} {n : Node} {r : List ℕ} {p : Part·rt} (h : Holds m n r) (runs : Running n) (e : p ≡ partOf (runnerPart m n)) where

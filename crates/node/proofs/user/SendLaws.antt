@@ -21,7 +21,7 @@ use Rattle.memory.specs.declared.descriptor.Descriptor.{Descriptor as Descripto
 use Rattle.memory.proofs.PieceLaws.{holds-pieces}
 use Rattle.node.specs.Sending.{sending}
 use Rattle.node.specs.Steps.{Running, Stepping}
-use Rattle.node.proofs.QuietLaws.{described-quiet}
+use Rattle.rules.proofs.Steps.QuietLaws.{described-quiet}
 use Rattle.node.proofs.ServedLaws.{ownReport, request-quiet, request-refused}
 
 -- L's refusals: none of its words

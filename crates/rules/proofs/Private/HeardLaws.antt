@@ -206,7 +206,7 @@ request-accepted {b} {n} v q s run e g lo hi = go (eqb (n .running) g) refl
     go true t = mine (eqb-true _ _ t)
 
 -- an accepted step of any kind
-accepted-agrees : {b : Build} {n : Node} → Valid b n → (op : Operation) → refusal b n op ≡ 0 → (g : ℕ) → 1 ≤ g → g ≤ groupCount
+pub accepted-agrees : {b : Build} {n : Node} → Valid b n → (op : Operation) → refusal b n op ≡ 0 → (g : ℕ) → 1 ≤ g → g ≤ groupCount
     → Agrees g n op (finish b (act b n op))
 unfolding told hear answerTo refusal act valued finish
 accepted-agrees {b} {n} v (arrive h ws) e g lo hi = go (eqb h g) refl

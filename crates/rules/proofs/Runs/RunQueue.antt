@@ -13,17 +13,15 @@ use Rattle.rules.specs.Build.{Build}
 use Rattle.rules.specs.Node.{Message, Node, withRunning, withTimer, withQueue, withGroup, bufferHolds, buffered, line}
 use Rattle.rules.specs.Operation.{poll, peek, dispose, beginAtomic, endAtomic, describe, launch}
 use Rattle.rules.specs.Operation.{Operation, arrive, schedule, tick, user, unknown, accepted, noTrap, disposeExtend}
-use Rattle.rules.specs.Paging.{runnerResident}
 use Rattle.rules.specs.Refusal.{refusal, refuseRequest, queued}
-use Rattle.rules.specs.Settling.{settle, drain, upcall}
+use Rattle.rules.specs.Settling.{settle, drain}
 use Rattle.rules.specs.Step.{Effect, Stepped, valued, scheduled, timerFlagged, revoke, timedOut, ticks, removed, flagged, disposed, sectionBegun, sectionEnded, extending, described, launched, serve, act, finish, step}
 use Rattle.rules.specs.Run.{Input, asked, Event, play, wasAccepted, arrivedBy, arrived, arrivals, disposedBy, leftBy, left}
 use Rattle.rules.specs.Valid.{Valid}
-use Rattle.rules.proofs.Steps.PagingLaws.{runner-repaged}
-use Rattle.rules.proofs.Steps.SettlingLaws.{upcall-kept, settle-queue, settle-moved, drain-queue}
+use Rattle.rules.proofs.Steps.SettlingLaws.{settle-queue, settle-moved, drain-queue}
 use Rattle.rules.proofs.Steps.LineLaws.{direct-head, buffered-holds, removed-queue-buffered, removed-queue-direct}
 use Rattle.rules.proofs.Steps.TickLaws.{timed, Ticked, idle, counting, timeout, ticked-by}
-use Rattle.rules.proofs.Steps.StepLaws.{step-cases, step-valid}
+use Rattle.rules.proofs.Steps.StepLaws.{finish-queue, step-cases, step-valid}
 use Rattle.rules.proofs.Private.EventLaws.{eventOf, refusal-answer, disposed-none, arrived-none}
 use Rattle.rules.proofs.Private.RequestLaws.{suc-zero, dispose-some}
 use Rattle.rules.proofs.Steps.ActLaws.{scheduled-cases, user-accepted}
@@ -93,11 +91,6 @@ act-queue {b} {n} v (user (describe w)) e = flow-kept refl
 act-queue {b} {n} v (user (launch k)) e = flow-kept refl
 act-queue {b} {n} v unknown e = suc-zero e
 
--- the upcall leaves the queue
-pub upcall-queue : (n : Node) → upcall n .queue ≡ n .queue
-unfolding withGroup
-upcall-queue n = upcall-kept (λ k. k .queue) n (λ G. refl)
-
 -- a step: what was accepted joins the queue, and as many leave it as `left` counts
 pub step-queue : {b : Build} {n : Node} → Valid b n → (op : Operation)
     → Flow (n .queue) (step b n op .node .queue) (arrivedBy op (eqb (step b n op .report .answer) accepted))
@@ -121,8 +114,7 @@ step-queue {b} {n} v op =
         let f : Flow (n .queue) (drop s (e .node .queue)) (arrivedBy op true) (e .moved + d + s) =
         flow-drop s (act-queue v op z) (omega (arith, settle-moved b (e .node))) in
         let order : e .moved + d + s ≡ e .moved + s + d = omega arith in
-        let q : finish b e .node .queue ≡ drop s (e .node .queue) =
-        upcall-queue (runnerResident b (settle b (e .node) .node)) ∙ runner-repaged b (settle b (e .node) .node) .queue ∙ settle-queue b (e .node) in
+        let q : finish b e .node .queue ≡ drop s (e .node .queue) = finish-queue b e ∙ settle-queue b (e .node) in
         subst₂ (λ (l : List Message) (k : ℕ). Flow (n .queue) l (arrivedBy op true) k) (sym q) order f
 
 -- a run

@@ -14,27 +14,20 @@ use Rattle.rules.specs.Build.{Build}
 use Rattle.rules.specs.Node.{Message, Node, withRunning, withTimer, withQueue, withGroup, buffered}
 use Rattle.rules.specs.Operation.{poll, peek, dispose, beginAtomic, endAtomic, describe, launch}
 use Rattle.rules.specs.Operation.{Operation, arrive, schedule, tick, user, unknown, accepted, noTrap, disposeExtend}
-use Rattle.rules.specs.Paging.{runnerResident}
 use Rattle.rules.specs.Refusal.{refusal, queued}
-use Rattle.rules.specs.Settling.{mayStay, pass, settle, drain, upcall}
+use Rattle.rules.specs.Settling.{mayStay, pass, settle, drain}
 use Rattle.rules.specs.Step.{Effect, Stepped, valued, scheduled, timerFlagged, revoke, timedOut, ticks, flagged, disposed, sectionBegun, sectionEnded, extending, described, launched, serve, act, finish, step}
 use Rattle.rules.specs.Run.{wasAccepted, disposedBy, leftBy, tickedBy}
 use Rattle.rules.specs.Valid.{Valid}
-use Rattle.rules.proofs.Steps.PagingLaws.{runner-repaged}
-use Rattle.rules.proofs.Steps.SettlingLaws.{runs-queued, pass-moves, settle-keeps, upcall-kept, settle-moved, drain-queue}
+use Rattle.rules.proofs.Steps.SettlingLaws.{runs-queued, pass-moves, settle-keeps, settle-moved, drain-queue}
 use Rattle.rules.proofs.Steps.LineLaws.{stays, buffered-empty}
 use Rattle.rules.proofs.Steps.TickLaws.{timed, leftOver, Ticked, idle, counting, timeout, ticked-by}
 use Rattle.rules.proofs.Steps.ActLaws.{scheduled-cases}
-use Rattle.rules.proofs.Steps.StepLaws.{step-cases}
+use Rattle.rules.proofs.Steps.StepLaws.{finish-queue, finish-timer, step-cases}
 use Rattle.rules.proofs.Private.RequestLaws.{suc-zero}
 use Rattle.rules.proofs.Steps.ListLaws.{some-length}
 use Rattle.rules.proofs.Private.EventLaws.{eventOf, refusal-answer, ticked-none}
-use Rattle.rules.proofs.Runs.RunQueue.{taken, upcall-queue}
-
--- the upcall leaves the timer
-upcall-timer : (n : Node) → upcall n .timer ≡ n .timer
-unfolding withGroup
-upcall-timer n = upcall-kept (λ k. k .timer) n (λ G. refl)
+use Rattle.rules.proofs.Runs.RunQueue.{taken}
 
 -- What an accepted operation does to the timer, where the queue had a message and one stays after settling. l is how many leave.
 module _ {b : Build} {n : Node} (v : Valid b n) (some : isEmpty (n .queue) ≡ false) where
@@ -137,10 +130,8 @@ module _ {b : Build} {n : Node} (v : Valid b n) (some : isEmpty (n .queue) ≡ f
       finished z s =
           let e : Effect = act b n op in
           let k : Node = settle b (e .node) .node in
-          let paged = runner-repaged b k in
-          let left : isEmpty (k .queue) ≡ false = ap isEmpty (sym (upcall-queue (runnerResident b k) ∙ paged .queue)) ∙ s in
-          let kept : upcall (runnerResident b k) .timer ≡ e .node .timer =
-          upcall-timer (runnerResident b k) ∙ paged .timer ∙ settle-keeps b (e .node) (runs-queued k left) in
+          let left : isEmpty (k .queue) ≡ false = ap isEmpty (sym (finish-queue b e)) ∙ s in
+          let kept : finish b e .node .timer ≡ e .node .timer = finish-timer b e ∙ settle-keeps b (e .node) (runs-queued k left) in
           let d : ℕ = disposedBy op (eqb (e .trap) noTrap) in
           let m : ℕ = settle b (e .node) .moved in
           let order : b .timeout * (e .moved + d + m) ≡ b .timeout * (e .moved + m + d) = ap (λ (x : ℕ). b .timeout * x) (omega arith) in

@@ -9,7 +9,7 @@ use mathlib.Core.List.{List, [], _∷_, _++_, map, append-assoc}
 use native.Mathlib.Decide.{ℕ-discrete}
 use native.Mathlib.Omega.{arith}
 use lib.Dec.{eqb}
-use lib.ListN.{length, drop, length-drop, length-take, length-map}
+use lib.ListN.{length, take, drop, length-drop, length-take, length-map}
 use lib.Seq.{drop-append-le}
 use borrow.Author.Tests.{ltb-true, ltb-false, eqb-true, eqb-false, eq-eqb, ne-eqb, not-true}
 use Rattle.rules.specs.Lists.{Every, filter, isEmpty}
@@ -22,7 +22,7 @@ use Rattle.rules.specs.Step.{withoutFirst, removed}
 use Rattle.rules.specs.Valid.{GoodMessage, Valid}
 use Rattle.rules.specs.Sound.{Sound}
 use Rattle.rules.proofs.Steps.SoundLaws.{SameFlags, flags-refl, valid-sound}
-use Rattle.rules.proofs.Steps.ListLaws.{filter-pass, filter-fail, filter-tail, filter-append, map-drop}
+use Rattle.rules.proofs.Steps.ListLaws.{some-append, length-some, filter-pass, filter-fail, filter-tail, filter-append, map-drop}
 use Rattle.rules.proofs.Steps.FrameLaws.{fits, removed-first}
 use Rattle.rules.proofs.Steps.NodeLaws.{is-of, not-of, stock-same, stock-other, within, group-good, line-same, restocked-flags}
 use Rattle.rules.proofs.Steps.SettlingLaws.{runs-cases}
@@ -31,6 +31,11 @@ use Rattle.rules.proofs.Steps.SettlingLaws.{runs-cases}
 pub neither : (t u : Bool) → t || u ≡ false → (t ≡ false) × (u ≡ false)
 neither true u e = absurd (true≢false e)
 neither false u e = (refl, e)
+
+-- what holds of both holds of the one that a test picks
+pub either : {A : Type 0} (P : A → Type 0) (t : Bool) (x y : A) → P x → P y → P (cond t x y)
+either P true x y yes′ no′ = yes′
+either P false x y yes′ no′ = no′
 
 -- an arrival joins the end of its group's line
 pub arrive-line : (m : Message) (n : Node) (g : ℕ) → line (queued m n) g ≡ line n g ++ filter (isOf g) (m ∷ [])
@@ -66,6 +71,38 @@ unfolding bufferHolds line inBuffer waiting
 direct-line n g direct =
     let none : groupOf n g .buffer .count ≡ 0 = omega (arith, ltb-false 0 (groupOf n g .buffer .count) direct) in
     rw none
+
+-- a group with a buffered message has a line
+pub line-buffered : {b : Build} {n : Node} → Sound b n → (g : ℕ) → 1 ≤ g → g ≤ groupCount → 1 ≤ groupOf n g .buffer .count → isEmpty (line n g) ≡ false
+unfolding line inBuffer waiting
+line-buffered {n = n} s g low high some =
+    let v = groupOf n g .buffer in
+    let ms = map (messageOf g) (take (v .count) (drop (v .used) (v .places))) in
+    let front : 1 ≤ length ms = simp (length-map, length-take, length-drop) (omega (arith, fits (group-good s g low high .buffer))) in
+    some-append ms (inQueue n g) (length-some ms front)
+
+-- a direct group has no message in its buffer
+pub direct-none : (n : Node) (g : ℕ) → buffered n g ≡ false → groupOf n g .buffer .count ≡ 0
+unfolding bufferHolds
+direct-none n g direct = omega (arith, ltb-false 0 (groupOf n g .buffer .count) (direct-holds n g direct))
+
+-- a running group that is buffered is atomic
+pub buffered-atomic : {b : Build} {n : Node} → Valid b n → 1 ≤ n .running → buffered n (n .running) ≡ true → groupOf n (n .running) .atomic ≡ true
+unfolding buffered bufferHolds
+buffered-atomic {b} {n} v low e = go (bufferHolds n (n .running)) refl
+  where
+    s : Sound b n
+    s = valid-sound v
+
+    go : (t : Bool) → bufferHolds n (n .running) ≡ t → groupOf n (n .running) .atomic ≡ true
+    go true holds = v .running-atomic low (line-buffered s (n .running) low (v .running-bound) (ltb-true 0 (groupOf n (n .running) .buffer .count) holds))
+    go false none = group-good s (n .running) low (v .running-bound) .revoked-atomic (sym (ap (λ (t : Bool). t || groupOf n (n .running) .revoked) none) ∙ e)
+
+-- a message of the running group may stay where its buffer holds none and it is not revoked
+pub may-stay : (n : Node) (x : Message) → x .group ≡ n .running → groupOf n (n .running) .buffer .count ≡ 0 → groupOf n (n .running) .revoked ≡ false
+    → mayStay n x ≡ true
+unfolding mayStay buffered bufferHolds
+may-stay n x same none off = rw (same, eq-eqb (n .running) (n .running) refl, none, off)
 
 -- a running group whose buffer holds nothing and that has a line has the queue's head
 pub direct-head : {b : Build} {n : Node} → Valid b n → bufferHolds n (n .running) ≡ false → isEmpty (line n (n .running)) ≡ false

@@ -3,6 +3,7 @@
 -- each of the numbers below k stands once among k numbers, there is no room for another, so all of them are below k. Assumes nothing.
 use Prim.Native.Nat.{ℕ, zero, suc, _+_, _-_, _*_, _≤_, _<_}
 use mathlib.Core.Path.{_≡_, refl, sym, subst, ap, _∙_}
+use mathlib.Core.Logic.{_≢_}
 use mathlib.Core.Bool.{Bool, true, false, true≢false, cond}
 use mathlib.Core.List.{List, [], _∷_, _++_, map, List·Memᴰ, List·Memᴰ·head, List·Memᴰ·tail}
 use native.Mathlib.Nat.{zero-add, suc-add, le-of-suc-le-suc, not-suc-le-zero, add-zero, mul-zero, mul-suc}
@@ -55,6 +56,16 @@ some-length (x ∷ xs) some = omega arith
 pub length-some : {A : Type 0} (xs : List A) → 1 ≤ length xs → isEmpty xs ≡ false
 length-some [] h = absurd (omega arith)
 length-some (x ∷ xs) h = refl
+
+-- a list with one more at its end is not empty
+pub some-last : {A : Type 0} (xs : List A) (y : A) → isEmpty (xs ++ (y ∷ [])) ≡ false
+some-last [] y = refl
+some-last (x ∷ xs) y = refl
+
+-- a list of no length is empty
+pub no-length : {A : Type 0} (xs : List A) → length xs ≡ 0 → xs ≡ []
+no-length [] e = refl
+no-length (x ∷ xs) e = absurd (omega arith)
 
 -- a list with something in front is not empty
 pub some-append : {A : Type 0} (xs ys : List A) → isEmpty xs ≡ false → isEmpty (xs ++ ys) ≡ false
@@ -122,6 +133,16 @@ pub count-part : {A : Type 0} (k : ℕ) (f : A → List ℕ) (d : A) (xs : List 
 count-part k f d [] i h = absurd (omega arith)
 count-part k f d (x ∷ xs) zero h = omega (arith, count-append k (f x) (concatMap f xs))
 count-part k f d (x ∷ xs) (suc i) h = omega (arith, count-append k (f x) (concatMap f xs), count-part k f d xs i (omega arith))
+
+-- a number counted in two of the parts
+pub count-two : {A : Type 0} (k : ℕ) (f : A → List ℕ) (d : A) (xs : List A) (i j : ℕ) → i < length xs → j < length xs → i ≢ j
+    → countOf k (f (getD xs i d)) + countOf k (f (getD xs j d)) ≤ countOf k (concatMap f xs)
+count-two k f d [] i j low high other = absurd (omega arith)
+count-two k f d (x ∷ xs) zero zero low high other = absurd (other refl)
+count-two k f d (x ∷ xs) zero (suc j) low high other = omega (arith, count-append k (f x) (concatMap f xs), count-part k f d xs j (omega arith))
+count-two k f d (x ∷ xs) (suc i) zero low high other = omega (arith, count-append k (f x) (concatMap f xs), count-part k f d xs i (omega arith))
+count-two k f d (x ∷ xs) (suc i) (suc j) low high other =
+    omega (arith, count-append k (f x) (concatMap f xs), count-two k f d xs i j (omega arith) (omega arith) (λ e. other (ap suc e)))
 
 -- and back: a number that is counted stands at an index
 pub count-index : (k : ℕ) (xs : List ℕ) → 1 ≤ countOf k xs → (i : ℕ) × ((i < length xs) × (getD xs i 0 ≡ k))

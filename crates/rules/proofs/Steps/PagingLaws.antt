@@ -7,7 +7,7 @@ use mathlib.Core.Path.{_≡_, refl, sym, subst, ap, _∙_}
 use mathlib.Core.Logic.{_≢_}
 use mathlib.Core.Bool.{Bool, true, false, true≢false, cond, not, and-eq-true-iff}
 use mathlib.Core.List.{List, [], _∷_, _++_, map, map-append}
-use native.Mathlib.Nat.{div-lt-iff-lt-mul}
+use native.Mathlib.Nat.{zero-add, div-lt-iff-lt-mul}
 use native.Mathlib.Decide.{ℕ-discrete}
 use native.Mathlib.Omega.{arith}
 use lib.Dec.{ltb, eqb}
@@ -97,7 +97,7 @@ unfolding exchange trading withGroups withFree withPaging
 exchange-repaged f p n = repaged-trading f p (n .free) _ n
 
 -- a page brought in
-bring-repaged : (p : ℕ) (fs : List ℕ) (n : Node) → Repaged (bringIn p fs n) n
+pub bring-repaged : (p : ℕ) (fs : List ℕ) (n : Node) → Repaged (bringIn p fs n) n
 unfolding bringIn
 bring-repaged p [] n = exchange-repaged (victim n) p n
 bring-repaged p (f ∷ fs) n = repaged-trading f p fs _ n
@@ -188,6 +188,25 @@ traded-second p q x d e = rw (ne-eqb x p d, eq-eqb x q e)
 pub traded-other : (p q x : ℕ) → x ≢ p → x ≢ q → traded p q x ≡ x
 unfolding traded
 traded-other p q x d e = rw (ne-eqb x p d, ne-eqb x q e)
+
+-- numbers traded that do not stand in a list
+pub traded-none : (p q : ℕ) (xs : List ℕ) → countOf p xs ≡ 0 → countOf q xs ≡ 0 → map (traded p q) xs ≡ xs
+traded-none p q [] e d = refl
+traded-none p q (x ∷ xs) e d = go (ℕ-discrete x p) (ℕ-discrete x q) (traded-none p q xs)
+  where
+    go : Dec (x ≡ p) → Dec (x ≡ q) → (countOf p xs ≡ 0 → countOf q xs ≡ 0 → map (traded p q) xs ≡ xs) → traded p q x ∷ map (traded p q) xs ≡ x ∷ xs
+    go (yes same) u later = absurd (omega (arith, rw (eq-eqb x p same) at e))
+    go (no other) (yes same) later = absurd (omega (arith, rw (eq-eqb x q same) at d))
+    go (no other) (no another) later =
+        let rest = later (sym (zero-add (countOf p xs)) ∙ rw (ne-eqb x p other) at e) (sym (zero-add (countOf q xs)) ∙ rw (ne-eqb x q another) at d) in
+        let first = traded-other p q x other another in
+        cc
+
+-- a group in whose list neither stands
+pub untraded : (p q : ℕ) (G : Group) → map (traded p q) (G .buffer .frames) ≡ G .buffer .frames → tradedIn p q G ≡ G
+unfolding tradedIn withBuffer
+untraded p q G same =
+    ap (λ (ps : List ℕ). withBuffer (record { used = G .buffer .used; count = G .buffer .count; frames = ps; places = G .buffer .places }) G) same
 
 -- numbers of which two are traded weigh what they weighed, but for these
 weight-traded : (w : ℕ → ℕ) (p q : ℕ) → p ≢ q → (xs : List ℕ)

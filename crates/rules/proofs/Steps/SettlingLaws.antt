@@ -20,7 +20,7 @@ use Rattle.rules.proofs.Steps.PagingLaws.{prepared-repaged}
 use Rattle.rules.proofs.Steps.StoreLaws.{store-sound, store-line, store-flags}
 
 -- what holds of a pass that ends and is handed on by a message stored holds of every pass
-pass-induct : (b : Build) (P : List Message → Node → Moved → Type 0)
+pub pass-induct : (b : Build) (P : List Message → Node → Moved → Type 0)
     → ((n : Node) → P [] n (record { node = withQueue [] n; moved = 0 }))
     → ((m : Message) (q : List Message) (n : Node) → mayStay n m ≡ true → P (m ∷ q) n (record { node = withQueue (m ∷ q) n; moved = 0 }))
     → ((m : Message) (q : List Message) (n : Node) (s : Moved) → P q (store b m n) s → P (m ∷ q) n (oneMore s))
@@ -117,7 +117,7 @@ unfolding forced
 forced-same n k same flags = let f = flags (n .running) in rw (f .force, f .atomic, same)
 
 -- a timer put to rest, or not
-rest-cases : (P : Node → Type 0) (n : Node) → (timerRuns n ≡ false → P (withTimer 0 n)) → (timerRuns n ≡ true → P n) → P (restTimer n)
+pub rest-cases : (P : Node → Type 0) (n : Node) → (timerRuns n ≡ false → P (withTimer 0 n)) → (timerRuns n ≡ true → P n) → P (restTimer n)
 unfolding restTimer
 rest-cases P n rest runs = go (timerRuns n) refl
   where

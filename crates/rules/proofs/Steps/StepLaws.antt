@@ -26,7 +26,7 @@ use Rattle.rules.proofs.Steps.EveryLaws.{every-replicate, every-upFrom}
 use Rattle.rules.proofs.Steps.ListLaws.{sum-le, count-within, length-upFrom, upFrom-append}
 use Rattle.rules.proofs.Steps.FrameLaws.{ceil-none}
 use Rattle.rules.proofs.Steps.NodeLaws.{group-same, kept, within, group-good, reflagged}
-use Rattle.rules.proofs.Steps.SettlingLaws.{runs-empty, forced-same, upcall-cases, settle-sound, settle-line, settle-flags, settle-head, settle-timer}
+use Rattle.rules.proofs.Steps.SettlingLaws.{runs-empty, forced-same, upcall-cases, upcall-kept, settle-sound, settle-line, settle-flags, settle-head, settle-timer}
 use Rattle.rules.proofs.Steps.PagingLaws.{Repaged, repaged-line, repaged-buffered, runner-repaged, runner-sound, runner-first}
 use Rattle.rules.proofs.Steps.LineLaws.{neither}
 use Rattle.rules.proofs.Steps.ActLaws.{Ready, reflagged-pending, act-ready}
@@ -187,6 +187,19 @@ finish-valid {b} e y =
     let r = runner-repaged b k .running in
     upcall-valid (paged d)
     (λ low. subst (λ (g : ℕ). FirstInFrame b (groupOf (runnerResident b k) g .buffer .frames)) (sym r) (runner-first (d .ready .sound) (omega arith)))
+
+-- the rest of a step does to queue and timer what settling does
+pub finish-queue : (b : Build) (e : Effect) → finish b e .node .queue ≡ settle b (e .node) .node .queue
+unfolding finish withGroup
+finish-queue b e =
+    let k = settle b (e .node) .node in
+    upcall-kept (λ m. m .queue) (runnerResident b k) (λ G. refl) ∙ runner-repaged b k .queue
+
+pub finish-timer : (b : Build) (e : Effect) → finish b e .node .timer ≡ settle b (e .node) .node .timer
+unfolding finish withGroup
+finish-timer b e =
+    let k = settle b (e .node) .node in
+    upcall-kept (λ m. m .timer) (runnerResident b k) (λ G. refl) ∙ runner-repaged b k .timer
 
 -- what an accepted operation leaves is sound
 pub act-sound : {b : Build} {n : Node} → Valid b n → (op : Operation) → refusal b n op ≡ 0 → Sound b (act b n op .node)

@@ -10,7 +10,7 @@ use Rattle.rules.specs.Memory.{runningAt, timerAt, word}
 use Rattle.rules.specs.Node.{Node, withRunning, withTimer}
 use Rattle.rules.specs.Operation.{schedule}
 use Rattle.rules.specs.Step.{valued}
-use Rattle.node.proofs.QuietLaws.{valid-quiet}
+use Rattle.rules.proofs.Steps.QuietLaws.{valid-quiet}
 use Rattle.memory.specs.Holds.{Holds}
 use Rattle.memory.proofs.PieceLaws.{holds-pieces}
 use Rattle.memory.proofs.PieceWrites.{running-held, timer-held}

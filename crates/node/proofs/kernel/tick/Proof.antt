@@ -12,12 +12,12 @@ use Rattle.rules.specs.Node.{withTimer}
 use Rattle.rules.specs.Operation.{tick, timeoutTrap}
 use Rattle.rules.specs.Step.{valued}
 use Rattle.rules.proofs.Steps.SoundLaws.{valid-sound}
-use Rattle.node.proofs.QuietLaws.{valid-quiet}
+use Rattle.rules.proofs.Steps.QuietLaws.{counted-quiet, valid-quiet}
 use Rattle.memory.proofs.PieceLaws.{holds-pieces}
 use Rattle.memory.proofs.PieceWrites.{timer-held}
 use Rattle.memory.proofs.WriteLaws.{wrote-as, wrote-set}
 use Rattle.node.specs.Steps.{late}
-use Rattle.node.proofs.kernel.KernelLaws.{counted-quiet, late-sound, tick-accepted, tick-counted, tick-idle, tick-many, tick-none, tick-timeout, valid-ticking}
+use Rattle.node.proofs.kernel.KernelLaws.{late-sound, tick-accepted, tick-counted, tick-idle, tick-many, tick-none, tick-timeout, valid-ticking}
 use Rattle.node.proofs.StepMap.{acted-quiet, acted-refused, acted-unsettled}
 use Rattle.node.proofs.kernel.tick.Statement.{statement}
 use Rattle.node.proofs.kernel.tick.Tie as tie

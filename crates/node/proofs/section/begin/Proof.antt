@@ -15,7 +15,7 @@ use Rattle.memory.specs.Holds.{Holds, timerFlagging}
 use Rattle.memory.specs.declared.group.Group.{Group as Group·rt}
 use Rattle.memory.proofs.PieceLaws.{holds-pieces}
 use Rattle.node.specs.Steps.{Running}
-use Rattle.node.proofs.QuietLaws.{begun-quiet}
+use Rattle.rules.proofs.Steps.QuietLaws.{begun-quiet}
 use Rattle.node.proofs.RunnerLaws.{runner-flagged, runner-force, runner-in, runner-pending, runner-revoked}
 use Rattle.node.proofs.ServedLaws.{ownReport, request-quiet}
 use Rattle.node.proofs.section.begin.Statement.{statement}

@@ -3,22 +3,22 @@
 use Prim.Native.Nat.{ℕ, pred, _≤_, _<_}
 use native.Mathlib.Nat.{add-zero}
 use native.Mathlib.Omega.{arith}
-use mathlib.Core.Bool.{Bool, cond, false, true, false≢true, not, _&&_, _||_, or-true}
+use mathlib.Core.Bool.{Bool, cond, false, true, false≢true, true≢false, not, _&&_, _||_, or-true}
 use mathlib.Core.List.{List, [], _∷_}
 use mathlib.Core.Path.{_≡_, _∙_, ap, refl, subst, sym}
 use lib.Dec.{eqb}
 use lib.ListN.{length, length-set}
 use borrow.Author.Tests.{eqb-false}
 use Rattle.rules.specs.Build.{Build}
 use Rattle.rules.specs.Lists.{isEmpty}
-use Rattle.rules.specs.Node.{Group, Message, Node, bufferHolds, buffered, forced, groupOf, line, timerRuns, withDescriptor, withFlags, withGroup, withQueue, withTimer, withTimerFlags}
+use Rattle.rules.specs.Node.{Group, Message, Node, bufferHolds, buffered, forced, groupOf, inBuffer, inQueue, line, timerRuns, withDescriptor, withFlags, withGroup, withQueue, withTimer, withTimerFlags}
 use Rattle.rules.specs.Operation.{accepted}
 use Rattle.rules.specs.Settling.{Moved, calls, mayStay, pass, restTimer, settle, upcall, upcallGroup}
 use Rattle.rules.specs.Step.{Effect, sectionBegun, described, finish, flagged, timerFlagged}
 use Rattle.rules.specs.Valid.{FirstInFrame, Valid}
 use Rattle.rules.proofs.Steps.LineLaws.{neither, timer-rests}
 use Rattle.rules.proofs.Steps.NodeLaws.{group-same, kept, reflagged-line}
 use Rattle.rules.proofs.Steps.PagingLaws.{runner-quiet}
 
 -- nothing to settle, no page to bring in, and no upcall due
 pub record Quiet (b : Build) (n : Node) : Type 0 where
@@ -35,7 +35,7 @@ pass-ends b n [] stays = refl
 pass-ends b n (x ∷ q) stays = rw (pass, stays x q refl)
 
 -- a timer at rest is left
-rest-left : (n : Node) → (timerRuns n ≡ false → n .timer ≡ 0) → restTimer n ≡ n
+pub rest-left : (n : Node) → (timerRuns n ≡ false → n .timer ≡ 0) → restTimer n ≡ n
 unfolding restTimer withTimer
 rest-left n idle = go (timerRuns n) refl
   where
@@ -43,12 +43,15 @@ rest-left n idle = go (timerRuns n) refl
     go true e = refl
     go false e = λ i. record { running = n .running; timer = sym (idle e) i; queue = n .queue; free = n .free; paging = n .paging; groups = n .groups }
 
+-- where the head may stay settling does nothing but put the timer to rest
+pub staying-settle : (b : Build) (n : Node) → ((x : Message) (q : List Message) → n .queue ≡ x ∷ q → mayStay n x ≡ true)
+    → settle b n ≡ record { node = restTimer n; moved = 0 }
+unfolding settle withQueue
+staying-settle b n stays = ap (λ (s : Moved). record { node = restTimer (s .node); moved = s .moved }) (pass-ends b n (n .queue) stays)
+
 -- settling leaves such a node
 pub quiet-settle : {b : Build} {n : Node} → Quiet b n → settle b n ≡ record { node = n; moved = 0 }
-unfolding settle withQueue
-quiet-settle {b} {n} q =
-    ap (λ (s : Moved). record { node = restTimer (s .node); moved = s .moved }) (pass-ends b n (n .queue) (q .head))
-    ∙ ap (λ (k : Node). record { node = k; moved = 0 }) (rest-left n (q .idle))
+quiet-settle {b} {n} q = staying-settle b n (q .head) ∙ ap (λ (k : Node). record { node = k; moved = 0 }) (rest-left n (q .idle))
 
 -- and so does the rest of a step: what is reported and left is the operation's
 pub quiet-finish : {b : Build} (e : Effect) → Quiet b (e .node)
@@ -77,6 +80,17 @@ none-due n h =
 -- a valid node is quiet
 pub valid-quiet : {b : Build} {n : Node} → Valid b n → Quiet b n
 valid-quiet {b} {n} v = record { head = v .head-stays; idle = timer-rests v; resident = v .runner-resident; uncalled = none-due n (v .running-atomic) }
+
+-- and a timer that goes on makes nothing due
+pub counted-quiet : {b : Build} {n : Node} → Valid b n → timerRuns n ≡ true → (t : ℕ) → Quiet b (withTimer t n)
+unfolding withTimer mayStay buffered bufferHolds groupOf calls line inBuffer inQueue timerRuns forced
+counted-quiet v runs t =
+    record {
+      head = v .head-stays;
+      idle = λ rests. absurd (true≢false (sym runs ∙ rests));
+      resident = v .runner-resident;
+      uncalled = valid-quiet v .uncalled;
+    }
 
 -- no upcall becomes due to a group that is atomic where it was
 undue : (nobody atomic atomic′ empty : Bool) → (atomic ≡ true → atomic′ ≡ true) → (not nobody && (not atomic && not empty)) ≡ false
@@ -123,7 +137,7 @@ exchanged-quiet {b} {n} q inside G same marked force atomic =
     }
 
 -- the running group's place among the groups, or the first where nobody runs
-runner-within : {b : Build} {n : Node} → Valid b n → pred (n .running) < length (n .groups)
+pub runner-within : {b : Build} {n : Node} → Valid b n → pred (n .running) < length (n .groups)
 runner-within {b} {n} v = omega (arith, v .group-count, v .running-bound)
 
 -- so with another descriptor

@@ -1,0 +1,232 @@
+-- What each operation may touch, as a table: for each accepted step the parts of the node, and of each group, that may be others after it. Every
+-- part that the table does not name is as it was. It is written from paper 01's table of operations, from settling and the upcall, and from
+-- orders 1 to 3. Assumes nothing.
+use Prim.Native.Nat.{ℕ, _≤_}
+use mathlib.Core.Path.{_≡_}
+use mathlib.Core.Logic.{_≢_, _⊎_}
+use mathlib.Core.Bool.{Bool, true, false, cond, not, _&&_, _||_}
+use mathlib.Core.List.{List, [], _∷_, _++_}
+use lib.Dec.{eqb}
+use lib.ListN.{take, drop}
+use Rattle.rules.specs.Lists.{filter, isEmpty}
+use Rattle.rules.specs.Build.{Build, groupCount}
+use Rattle.rules.specs.Node.{Message, Place, Group, Node, groupOf, isOf}
+use Rattle.rules.specs.Operation.{Request, poll, peek, dispose, beginAtomic, endAtomic, describe, launch}
+use Rattle.rules.specs.Operation.{Operation, arrive, schedule, tick, user, unknown, Report, accepted, noTrap, timeoutTrap}
+use Rattle.rules.specs.Step.{step}
+use Rattle.rules.specs.Valid.{Valid}
+
+-- The parts.
+
+-- those of a node beside its groups
+pub data NodePart : Type 0 where
+  running : NodePart
+  timer : NodePart
+  queue : NodePart
+  -- the free line
+  free : NodePart
+  -- the swap line
+  swap : NodePart
+  -- the order of entry
+  entered : NodePart
+  -- pages sent out
+  out : NodePart
+  -- pages brought in
+  brought : NodePart
+
+-- those of a group
+pub data GroupPart : Type 0 where
+  atomic : GroupPart
+  pending : GroupPart
+  force : GroupPart
+  revoked : GroupPart
+  -- h
+  used : GroupPart
+  -- n
+  count : GroupPart
+  -- the places of its pages, one page's after the other's, wherever the pages are
+  places : GroupPart
+  -- the list of its pages: where they are
+  pages : GroupPart
+  descriptor : GroupPart
+
+-- what each is made of
+abbrev pub Kind : NodePart → Type 0
+Kind running = ℕ
+Kind timer = ℕ
+Kind queue = List Message
+Kind free = List ℕ
+Kind swap = List ℕ
+Kind entered = List ℕ
+Kind out = ℕ
+Kind brought = ℕ
+
+abbrev pub GroupKind : GroupPart → Type 0
+GroupKind atomic = Bool
+GroupKind pending = Bool
+GroupKind force = Bool
+GroupKind revoked = Bool
+GroupKind used = ℕ
+GroupKind count = ℕ
+GroupKind places = List Place
+GroupKind pages = List ℕ
+GroupKind descriptor = List ℕ
+
+-- the part of a node
+abbrev pub part : (p : NodePart) → Node → Kind p
+part running n = n .running
+part timer n = n .timer
+part queue n = n .queue
+part free n = n .free
+part swap n = n .paging .swap
+part entered n = n .paging .entered
+part out n = n .paging .out
+part brought n = n .paging .brought
+
+-- and of a group
+abbrev pub groupPart : (p : GroupPart) → Group → GroupKind p
+groupPart atomic G = G .atomic
+groupPart pending G = G .pending
+groupPart force G = G .force
+groupPart revoked G = G .revoked
+groupPart used G = G .buffer .used
+groupPart count G = G .buffer .count
+groupPart places G = G .buffer .places
+groupPart pages G = G .buffer .frames
+groupPart descriptor G = G .descriptor
+
+-- parts are told apart by these numbers
+abbrev pub nodeNumber : NodePart → ℕ
+nodeNumber running = 0
+nodeNumber timer = 1
+nodeNumber queue = 2
+nodeNumber free = 3
+nodeNumber swap = 4
+nodeNumber entered = 5
+nodeNumber out = 6
+nodeNumber brought = 7
+
+abbrev pub groupNumber : GroupPart → ℕ
+groupNumber atomic = 0
+groupNumber pending = 1
+groupNumber force = 2
+groupNumber revoked = 3
+groupNumber used = 4
+groupNumber count = 5
+groupNumber places = 6
+groupNumber pages = 7
+groupNumber descriptor = 8
+
+-- x is one of these
+abbrev pub among : {A : Type 0} → (A → ℕ) → A → List A → Bool
+among number x [] = false
+among number x (y ∷ ys) = eqb (number x) (number y) || among number x ys
+
+-- The table.
+
+-- what an accepted step may touch: parts of the node, and of each group by its number
+pub record Row : Type 0 where
+  pub node : List NodePart
+  pub group : ℕ → List GroupPart
+
+abbrev pub row : List NodePart → (ℕ → List GroupPart) → Row
+row ps gs = record { node = ps; group = gs }
+
+-- nothing at all
+abbrev pub untouched : Row
+untouched = row [] (λ g. [])
+
+-- where frames and swap pages stand, and what is counted of them
+abbrev pub stores : List NodePart
+stores = free ∷ swap ∷ entered ∷ out ∷ brought ∷ []
+
+-- these parts where the test passes, else none
+abbrev pub when : Bool → List GroupPart → List GroupPart
+when t ps = cond t ps []
+
+-- group g runs
+abbrev pub runs : Node → ℕ → Bool
+runs n g = eqb (n .running) g
+
+-- a message of group g is among the first k of a queue
+unfoldable pub isMoved : ℕ → ℕ → List Message → Bool
+isMoved g k q = not (isEmpty (filter (isOf g) (take k q)))
+
+-- as messages move to buffers, pages of any group may be sent out and brought in; a group with a message among them has its buffer filled
+abbrev pub filling : Bool → List GroupPart
+filling own = pages ∷ when own (count ∷ places ∷ [])
+
+-- M to L
+unfoldable pub requestRow : Node → Request → Report → Row
+requestRow n poll r = untouched
+requestRow n (peek i) r = untouched
+-- from the hardware queue: messages behind the one disposed of may move
+requestRow n dispose r =
+    cond (eqb (r .trap) noTrap)
+    (row (timer ∷ queue ∷ stores) (λ g. filling (isMoved g (r .moved) (drop 1 (n .queue))) ++ when (runs n g) (pending ∷ [])))
+    -- from the buffer: a frame may be freed, and the next page brought in, for which none is sent out
+    (row (timer ∷ free ∷ swap ∷ entered ∷ brought ∷ []) (λ g. when (runs n g) (pending ∷ used ∷ count ∷ places ∷ pages ∷ [])))
+requestRow n (beginAtomic f) r = row [] (λ g. when (runs n g) (atomic ∷ force ∷ []))
+-- atomic and pending also by the upcall that may follow, the timer where it is forced no more
+requestRow n endAtomic r = row (timer ∷ []) (λ g. when (runs n g) (atomic ∷ pending ∷ force ∷ revoked ∷ []))
+requestRow n (describe w) r = row [] (λ g. when (runs n g) (descriptor ∷ []))
+requestRow n (launch k) r = row [] (λ g. when (runs n g) (descriptor ∷ []))
+
+-- the row of an accepted operation on node n that reports r
+unfoldable pub rowOf : Node → Operation → Report → Row
+-- A: the message stays in the hardware queue, or moves to its buffer at once
+rowOf n (arrive h ws) r =
+    cond (eqb (r .moved) 0)
+    (row (queue ∷ []) (λ g. when (eqb h g && runs n g) (atomic ∷ pending ∷ [])))
+    (row stores (λ g. filling (eqb h g)))
+-- S, to the one running or to another
+rowOf n (schedule h) r =
+    cond (eqb h (n .running)) untouched
+    (row (running ∷ timer ∷ queue ∷ stores) (λ g. filling (isMoved g (r .moved) (n .queue)) ++ when (eqb h g) (atomic ∷ pending ∷ [])))
+-- T, without a timeout or with one
+rowOf n (tick k) r =
+    cond (eqb (r .trap) noTrap)
+    (row (timer ∷ []) (λ g. []))
+    (row (timer ∷ queue ∷ stores) (λ g. filling (isMoved g (r .moved) (n .queue)) ++ when (runs n g) (revoked ∷ [])))
+rowOf n (user q) r = requestRow n q r
+rowOf n unknown r = untouched
+
+-- each part of node k, and of each of its groups, that the row does not name is that of node n
+pub record Touched (t : Row) (k n : Node) : Type 0 where
+  pub node : (p : NodePart) → among nodeNumber p (t .node) ≡ false → part p k ≡ part p n
+  pub group : (g : ℕ) → 1 ≤ g → g ≤ groupCount → (p : GroupPart) → among groupNumber p (t .group g) ≡ false
+      → groupPart p (groupOf k g) ≡ groupPart p (groupOf n g)
+
+-- What follows, by name: of an accepted operation, its report, node n before it and node k after it, for one of the groups.
+
+pub record ByName (n k : Node) (op : Operation) (r : Report) (g : ℕ) : Type 0 where
+  -- running changes by S
+  pub running-by : k .running ≢ n .running → (h : ℕ) × (op ≡ schedule h)
+  -- A leaves the timer
+  pub timer-left : (h : ℕ) (ws : List ℕ) → op ≡ arrive h ws → k .timer ≡ n .timer
+  -- h changes by D alone
+  pub used-by : groupOf k g .buffer .used ≢ groupOf n g .buffer .used → op ≡ user dispose
+  -- the descriptor by P and L
+  pub descriptor-by : groupOf k g .descriptor ≢ groupOf n g .descriptor
+      → ((w : ℕ) × (op ≡ user (describe w))) ⊎ ((d : ℕ) × (op ≡ user (launch d)))
+  -- force goes on by B with force, and off by N
+  pub force-on : groupOf n g .force ≡ false → groupOf k g .force ≡ true → op ≡ user (beginAtomic true)
+  pub force-off : groupOf n g .force ≡ true → groupOf k g .force ≡ false → op ≡ user endAtomic
+  -- revoked goes on by T with a timeout, and off by N
+  pub revoked-on : groupOf n g .revoked ≡ false → groupOf k g .revoked ≡ true → ((t : ℕ) × (op ≡ tick t)) × (r .trap ≡ timeoutTrap)
+  pub revoked-off : groupOf n g .revoked ≡ true → groupOf k g .revoked ≡ false → op ≡ user endAtomic
+  -- atomic goes off by N alone
+  pub atomic-off : groupOf n g .atomic ≡ true → groupOf k g .atomic ≡ false → op ≡ user endAtomic
+  -- pending goes off by D alone, and on only with an upcall
+  pub pending-off : groupOf n g .pending ≡ true → groupOf k g .pending ≡ false → op ≡ user dispose
+  pub pending-on : groupOf n g .pending ≡ false → groupOf k g .pending ≡ true → r .upcall ≡ g
+
+-- the statement: for every build that makes sense, every node and every operation
+pub record Touches : Type 0 where
+  -- an accepted step touches at most what the table names
+  pub accepted-step : (b : Build) (n : Node) → Valid b n → (op : Operation) → step b n op .report .answer ≡ accepted
+      → Touched (rowOf n op (step b n op .report)) (step b n op .node) n
+  pub by-name : (b : Build) (n : Node) → Valid b n → (op : Operation) → step b n op .report .answer ≡ accepted → (g : ℕ) → 1 ≤ g → g ≤ groupCount
+      → ByName n (step b n op .node) op (step b n op .report) g
+  -- a refused one touches nothing
+  pub refused-step : (b : Build) (n : Node) (op : Operation) → step b n op .report .answer ≢ accepted → step b n op .node ≡ n

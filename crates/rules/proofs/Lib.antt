@@ -1,7 +1,7 @@
 pub mod Cases
 pub mod Steps
 pub mod Private
-pub mod Touches
 pub mod Runs
 pub mod Map
 pub mod Demands
+pub mod Touches

@@ -4,8 +4,8 @@
 use Prim.Native.Nat.{ℕ, _≤_}
 use mathlib.Core.Path.{_≡_}
 use mathlib.Core.Logic.{_≢_, _⊎_}
-use mathlib.Core.Bool.{Bool, true, false, cond, not, _&&_, _||_}
-use mathlib.Core.List.{List, [], _∷_, _++_}
+use mathlib.Core.Bool.{Bool, true, false, cond, not, _&&_}
+use mathlib.Core.List.{List, [], _∷_, _++_, List·Memᴰ}
 use lib.Dec.{eqb}
 use lib.ListN.{take, drop}
 use Rattle.rules.specs.Lists.{filter, isEmpty}
@@ -95,33 +95,6 @@ groupPart places G = G .buffer .places
 groupPart pages G = G .buffer .frames
 groupPart descriptor G = G .descriptor
 
--- parts are told apart by these numbers
-abbrev pub nodeNumber : NodePart → ℕ
-nodeNumber running = 0
-nodeNumber timer = 1
-nodeNumber queue = 2
-nodeNumber free = 3
-nodeNumber swap = 4
-nodeNumber entered = 5
-nodeNumber out = 6
-nodeNumber brought = 7
-
-abbrev pub groupNumber : GroupPart → ℕ
-groupNumber atomic = 0
-groupNumber pending = 1
-groupNumber force = 2
-groupNumber revoked = 3
-groupNumber used = 4
-groupNumber count = 5
-groupNumber places = 6
-groupNumber pages = 7
-groupNumber descriptor = 8
-
--- x is one of these
-abbrev pub among : {A : Type 0} → (A → ℕ) → A → List A → Bool
-among number x [] = false
-among number x (y ∷ ys) = eqb (number x) (number y) || among number x ys
-
 -- The table.
 
 -- what an accepted step may touch: parts of the node, and of each group by its number
@@ -156,34 +129,36 @@ isMoved g k q = not (isEmpty (filter (isOf g) (take k q)))
 abbrev pub filling : Bool → List GroupPart
 filling own = pages ∷ when own (count ∷ places ∷ [])
 
--- M to L
+-- the rows of M to L, on node n with report r
 unfoldable pub requestRow : Node → Request → Report → Row
 requestRow n poll r = untouched
 requestRow n (peek i) r = untouched
--- from the hardware queue: messages behind the one disposed of may move
+-- D "removes that message; pending off; timer 0": from the hardware queue, and messages behind it may move; or from the buffer, where a frame may
+-- be freed and the group's next page brought in, for which none is sent out
 requestRow n dispose r =
     cond (eqb (r .trap) noTrap)
     (row (timer ∷ queue ∷ stores) (λ g. filling (isMoved g (r .moved) (drop 1 (n .queue))) ++ when (runs n g) (pending ∷ [])))
-    -- from the buffer: a frame may be freed, and the next page brought in, for which none is sent out
     (row (timer ∷ free ∷ swap ∷ entered ∷ brought ∷ []) (λ g. when (runs n g) (pending ∷ used ∷ count ∷ places ∷ pages ∷ [])))
+-- B: "atomic on"; "`B,1` turns force on"
 requestRow n (beginAtomic f) r = row [] (λ g. when (runs n g) (atomic ∷ force ∷ []))
--- atomic and pending also by the upcall that may follow, the timer where it is forced no more
+-- N: "atomic off", force and revoked too; a timer that was forced may come to rest, and an upcall follow
 requestRow n endAtomic r = row (timer ∷ []) (λ g. when (runs n g) (atomic ∷ pending ∷ force ∷ revoked ∷ []))
+-- P "adds to the descriptor", L "empties it"
 requestRow n (describe w) r = row [] (λ g. when (runs n g) (descriptor ∷ []))
 requestRow n (launch k) r = row [] (λ g. when (runs n g) (descriptor ∷ []))
 
--- the row of an accepted operation on node n that reports r
+-- the row of an accepted operation, on node n with report r
 unfoldable pub rowOf : Node → Operation → Report → Row
--- A: the message stays in the hardware queue, or moves to its buffer at once
+-- A "joins the hardware queue", and its group may be called up; or it moves to its buffer at once
 rowOf n (arrive h ws) r =
     cond (eqb (r .moved) 0)
     (row (queue ∷ []) (λ g. when (eqb h g && runs n g) (atomic ∷ pending ∷ [])))
     (row stores (λ g. filling (eqb h g)))
--- S, to the one running or to another
+-- S: "To the one already running (or 0 to 0): changes nothing"; to another, the queue settles, and the new runner may be called up
 rowOf n (schedule h) r =
     cond (eqb h (n .running)) untouched
     (row (running ∷ timer ∷ queue ∷ stores) (λ g. filling (isMoved g (r .moved) (n .queue)) ++ when (eqb h g) (atomic ∷ pending ∷ [])))
--- T, without a timeout or with one
+-- T "adds 1 to the timer"; at a timeout "the whole hardware queue moves to the buffers", and "the running group is marked revoked"
 rowOf n (tick k) r =
     cond (eqb (r .trap) noTrap)
     (row (timer ∷ []) (λ g. []))
@@ -193,8 +168,8 @@ rowOf n unknown r = untouched
 
 -- each part of node k, and of each of its groups, that the row does not name is that of node n
 pub record Touched (t : Row) (k n : Node) : Type 0 where
-  pub node : (p : NodePart) → among nodeNumber p (t .node) ≡ false → part p k ≡ part p n
-  pub group : (g : ℕ) → 1 ≤ g → g ≤ groupCount → (p : GroupPart) → among groupNumber p (t .group g) ≡ false
+  pub node : (p : NodePart) → ¬ List·Memᴰ p (t .node) → part p k ≡ part p n
+  pub group : (g : ℕ) → 1 ≤ g → g ≤ groupCount → (p : GroupPart) → ¬ List·Memᴰ p (t .group g)
       → groupPart p (groupOf k g) ≡ groupPart p (groupOf n g)
 
 -- What follows, by name: of an accepted operation, its report, node n before it and node k after it, for one of the groups.
@@ -221,7 +196,9 @@ pub record ByName (n k : Node) (op : Operation) (r : Report) (g : ℕ) : Type 0 
   pub pending-off : groupOf n g .pending ≡ true → groupOf k g .pending ≡ false → op ≡ user dispose
   pub pending-on : groupOf n g .pending ≡ false → groupOf k g .pending ≡ true → r .upcall ≡ g
 
--- the statement: for every build that makes sense, every node and every operation
+-- The statement.
+
+-- for every build that makes sense, every node and every operation
 pub record Touches : Type 0 where
   -- an accepted step touches at most what the table names
   pub accepted-step : (b : Build) (n : Node) → Valid b n → (op : Operation) → step b n op .report .answer ≡ accepted
@@ -230,3 +207,5 @@ pub record Touches : Type 0 where
       → ByName n (step b n op .node) op (step b n op .report) g
   -- a refused one touches nothing
   pub refused-step : (b : Build) (n : Node) (op : Operation) → step b n op .report .answer ≢ accepted → step b n op .node ≡ n
+  -- the parts are all of a node: one of which nothing is touched is the same node
+  pub parts-all : (b : Build) (n k : Node) → Valid b n → Valid b k → Touched untouched k n → k ≡ n

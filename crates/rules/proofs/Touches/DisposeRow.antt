@@ -23,7 +23,7 @@ use Rattle.rules.specs.Step.{Effect, withoutFirst, removed, flagged, dis
 use Rattle.rules.specs.Valid.{FirstInFrame, Valid, frameList}
 use Rattle.rules.specs.Sound.{Sound, Listed}
 use Rattle.rules.specs.Private.{PrivateLine, own}
-use Rattle.rules.specs.Touches.{NodePart, GroupPart, running, timer, queue, free, swap, entered, out, brought, atomic, pending, force, revoked, used, count, places, pages, descriptor, part, groupPart, nodeNumber, groupNumber, among, row, stores, when, runs, isMoved, filling, requestRow, rowOf, Touched}
+use Rattle.rules.specs.Touches.{NodePart, GroupPart, running, timer, queue, free, swap, entered, out, brought, atomic, pending, force, revoked, used, count, places, pages, descriptor, part, groupPart, row, stores, when, runs, isMoved, filling, requestRow, rowOf}
 use Rattle.rules.proofs.Steps.EveryLaws.{every-drop}
 use Rattle.rules.proofs.Steps.ListLaws.{count-part, count-two}
 use Rattle.rules.proofs.Steps.NodeLaws.{within, stock-same, kept}
@@ -36,7 +36,7 @@ use Rattle.rules.proofs.Steps.QuietLaws.{staying-settle, runner-within}
 use Rattle.rules.proofs.Private.ViewLaws.{view, called-quiet}
 use Rattle.rules.proofs.Private.HeardLaws.{finish-view}
 use Rattle.rules.proofs.Private.RequestLaws.{dispose-some}
-use Rattle.rules.proofs.Touches.PartLaws.{filling-inside, flags-kept, inside, inside-left, inside-none, inside-right, touched-inside, touched-same, touched-then, when-inside}
+use Rattle.rules.proofs.Touches.PartLaws.{nodeNumber, groupNumber, among, Kept, filling-inside, flags-kept, inside, inside-left, inside-none, inside-right, touched-inside, touched-same, touched-then, when-inside}
 use Rattle.rules.proofs.Touches.TouchLaws.{Differs, Grouped, Rows, finished-touched, group-touched, grouped, queue-touched, repaged-touched, rest-touched, stock-touched, timer-touched, upcall-touched}
 use Rattle.rules.proofs.Touches.QueueRows.{uncalled}
 
@@ -62,7 +62,7 @@ module _ {b : Build} {k : Node} (s : Sound b k) (low : 1 ≤ k .running) where
       omega (arith, count-part f frameList emptyGroup (k .groups) (pred g) (within s g low′ high), idle-unlisted s f (omega arith))
 
   abbrev Brought : Node → Type 0
-  Brought m = Touched (row (free ∷ swap ∷ entered ∷ brought ∷ []) (λ g. when (runs k g) (pages ∷ []))) m k
+  Brought m = Kept (row (free ∷ swap ∷ entered ∷ brought ∷ []) (λ g. when (runs k g) (pages ∷ []))) m k
 
   bring-touched : (p : ℕ) (ps : List ℕ) → groupOf k (k .running) .buffer .frames ≡ p ∷ ps → (f : ℕ) (fs : List ℕ) → k .free ≡ f ∷ fs
       → Brought (bringIn p (f ∷ fs) k)
@@ -133,7 +133,7 @@ module _ {b : Build} {n : Node} (v : Valid b n) (taken : refusal b n (user dispo
   disposed-running = removed-running b n
 
   disposed-touched : (ps : List NodePart) (qs : List GroupPart) → inside nodeNumber ps (timer ∷ ps) ≡ true → inside groupNumber qs (pending ∷ qs) ≡ true
-      → Touched (row ps (λ g. when (runs n g) qs)) (removed b n) n → Touched (row (timer ∷ ps) (λ g. when (runs n g) (pending ∷ qs))) (disposed b n) n
+      → Kept (row ps (λ g. when (runs n g) qs)) (removed b n) n → Kept (row (timer ∷ ps) (λ g. when (runs n g) (pending ∷ qs))) (disposed b n) n
   unfolding disposed flagged withFlags
   disposed-touched ps qs nodes groups h =
       let same = removed-running b n in
@@ -189,10 +189,10 @@ module _ {b : Build} {n : Node} (v : Valid b n) (taken : refusal b n (user dispo
     unfolding disposed flagged withTimer withGroup
     queue-left = removed-queue-direct v (direct-holds n (n .running) direct)
 
-    direct-touched : Touched (row (timer ∷ queue ∷ []) (λ g. when (runs n g) (pending ∷ []))) (disposed b n) n
+    direct-touched : Kept (row (timer ∷ queue ∷ []) (λ g. when (runs n g) (pending ∷ []))) (disposed b n) n
     direct-touched =
         disposed-touched (queue ∷ []) [] refl refl
-        (removed-cases (λ k. Touched (row (queue ∷ []) (λ g. when (runs n g) [])) k n) b n
+        (removed-cases (λ k. Kept (row (queue ∷ []) (λ g. when (runs n g) [])) k n) b n
         (λ holds. absurd (true≢false (sym holds ∙ direct-holds n (n .running) direct)))
         (λ none. touched-inside refl (λ g. refl) (queue-touched (withoutFirst (n .running) (n .queue)) n)))
 
@@ -227,11 +227,11 @@ module _ {b : Build} {n : Node} (v : Valid b n) (taken : refusal b n (user dispo
     holds : bufferHolds n (n .running) ≡ true
     holds = sym (buffered-holds v some) ∙ held
 
-    buffered-touched : Touched (row (timer ∷ free ∷ entered ∷ []) (λ g. when (runs n g) (pending ∷ gone))) (disposed b n) n
+    buffered-touched : Kept (row (timer ∷ free ∷ entered ∷ []) (λ g. when (runs n g) (pending ∷ gone))) (disposed b n) n
     unfolding withBuffer
     buffered-touched =
         disposed-touched (free ∷ entered ∷ []) gone refl refl
-        (removed-cases (λ k. Touched (row (free ∷ entered ∷ []) (λ g. when (runs n g) gone)) k n) b n
+        (removed-cases (λ k. Kept (row (free ∷ entered ∷ []) (λ g. when (runs n g) gone)) k n) b n
         (λ e. stock-touched gone (n .running) (removeFirst b (n .free) (n .paging .entered) (groupOf n (n .running) .buffer)) n low refl differs)
         (λ none. absurd (true≢false (sym holds ∙ none))))
       where

@@ -1,15 +1,90 @@
--- Lists of parts and rows compared: what is none of a list is none of a list inside it, a node touched twice within a row is touched within it,
+-- Lists of parts and rows compared: parts are told apart by numbers, what is none of a list is none of a list inside it, a node touched twice within a row is touched within it,
 -- and a row may be taken for one with more in it, or for one without a part that is as it was. Assumes nothing.
 use Prim.Native.Nat.{ℕ, _≤_}
 use mathlib.Core.Bool.{Bool, true, false, true≢false, false≢true, _||_, and-eq-true-iff, or-true}
-use mathlib.Core.List.{List, [], _∷_, _++_}
+use mathlib.Core.List.{List, [], _∷_, _++_, List·Memᴰ, List·Memᴰ·head, List·Memᴰ·tail}
 use mathlib.Core.Path.{_≡_, refl, sym, ap, _∙_}
 use lib.Dec.{eqb}
+use lib.ListN.{getD}
 use borrow.Author.Tests.{eqb-true}
 use Rattle.rules.specs.Lists.{all}
 use Rattle.rules.specs.Build.{groupCount}
 use Rattle.rules.specs.Node.{Node, groupOf}
-use Rattle.rules.specs.Touches.{NodePart, GroupPart, running, timer, queue, free, swap, entered, out, brought, atomic, pending, force, revoked, used, count, places, pages, descriptor, part, groupPart, nodeNumber, groupNumber, among, Row, row, when, filling, Touched}
+use Rattle.rules.specs.Touches.{NodePart, GroupPart, running, timer, queue, free, swap, entered, out, brought, atomic, pending, force, revoked, used, count, places, pages, descriptor, part, groupPart, Row, row, when, filling, Touched}
+
+-- Parts told apart.
+
+-- by these numbers, so that a list can be looked through
+abbrev pub nodeNumber : NodePart → ℕ
+nodeNumber running = 0
+nodeNumber timer = 1
+nodeNumber queue = 2
+nodeNumber free = 3
+nodeNumber swap = 4
+nodeNumber entered = 5
+nodeNumber out = 6
+nodeNumber brought = 7
+
+abbrev pub groupNumber : GroupPart → ℕ
+groupNumber atomic = 0
+groupNumber pending = 1
+groupNumber force = 2
+groupNumber revoked = 3
+groupNumber used = 4
+groupNumber count = 5
+groupNumber places = 6
+groupNumber pages = 7
+groupNumber descriptor = 8
+
+-- x is one of these
+abbrev pub among : {A : Type 0} → (A → ℕ) → A → List A → Bool
+among number x [] = false
+among number x (y ∷ ys) = eqb (number x) (number y) || among number x ys
+
+-- no two parts have one number: the part is told by it
+abbrev nodePartOf : ℕ → NodePart
+nodePartOf n = getD (running ∷ timer ∷ queue ∷ free ∷ swap ∷ entered ∷ out ∷ brought ∷ []) n running
+
+node-told : (p : NodePart) → nodePartOf (nodeNumber p) ≡ p
+node-told running = refl
+node-told timer = refl
+node-told queue = refl
+node-told free = refl
+node-told swap = refl
+node-told entered = refl
+node-told out = refl
+node-told brought = refl
+
+abbrev groupPartOf : ℕ → GroupPart
+groupPartOf n = getD (atomic ∷ pending ∷ force ∷ revoked ∷ used ∷ count ∷ places ∷ pages ∷ descriptor ∷ []) n atomic
+
+group-told : (p : GroupPart) → groupPartOf (groupNumber p) ≡ p
+group-told atomic = refl
+group-told pending = refl
+group-told force = refl
+group-told revoked = refl
+group-told used = refl
+group-told count = refl
+group-told places = refl
+group-told pages = refl
+group-told descriptor = refl
+
+-- so what is not named is none of the list
+module _ {A : Type 0} (number : A → ℕ) (back : ℕ → A) (told : (x : A) → back (number x) ≡ x) where
+  among-named : (x : A) (xs : List A) → among number x xs ≡ true → List·Memᴰ x xs
+  among-named x [] e = absurd (false≢true e)
+  among-named x (y ∷ xs) e = go (eqb (number x) (number y)) refl e (among-named x xs)
+    where
+      go : (t : Bool) → eqb (number x) (number y) ≡ t → t || among number x xs ≡ true → (among number x xs ≡ true → List·Memᴰ x xs) → List·Memᴰ x (y ∷ xs)
+      go true same h later = List·Memᴰ·head (sym (told x) ∙ ap back (eqb-true _ _ same) ∙ told y)
+      go false other h later = List·Memᴰ·tail (later h)
+
+  unnamed-none : (x : A) (xs : List A) → ¬ List·Memᴰ x xs → among number x xs ≡ false
+  unnamed-none x xs unnamed = go (among number x xs) refl
+    where
+      go : (t : Bool) → among number x xs ≡ t → t ≡ false
+      go true e = absurd (unnamed (among-named x xs e))
+      go false e = refl
 
 -- Lists of parts.
 
@@ -77,10 +152,24 @@ module _ {A : Type 0} (number : A → ℕ) where
 
 -- Rows.
 
-pub touched-same : {t : Row} {k n : Node} → k ≡ n → Touched t k n
+-- each part that the row does not name is as it was
+pub record Kept (t : Row) (k n : Node) : Type 0 where
+  pub node : (p : NodePart) → among nodeNumber p (t .node) ≡ false → part p k ≡ part p n
+  pub group : (g : ℕ) → 1 ≤ g → g ≤ groupCount → (p : GroupPart) → among groupNumber p (t .group g) ≡ false
+      → groupPart p (groupOf k g) ≡ groupPart p (groupOf n g)
+
+-- which is what the table says
+pub kept-touched : {t : Row} {k n : Node} → Kept t k n → Touched t k n
+kept-touched {t} h =
+    record {
+      node = λ p unnamed. h .node p (unnamed-none nodeNumber nodePartOf node-told p (t .node) unnamed);
+      group = λ g low high p unnamed. h .group g low high p (unnamed-none groupNumber groupPartOf group-told p (t .group g) unnamed);
+    }
+
+pub touched-same : {t : Row} {k n : Node} → k ≡ n → Kept t k n
 touched-same e = record { node = λ p none. ap (part p) e; group = λ g low high p none. ap (λ (m : Node). groupPart p (groupOf m g)) e }
 
-pub touched-then : {t : Row} {l k n : Node} → Touched t l k → Touched t k n → Touched t l n
+pub touched-then : {t : Row} {l k n : Node} → Kept t l k → Kept t k n → Kept t l n
 touched-then later first =
     record {
       node = λ p none. later .node p none ∙ first .node p none;
@@ -89,7 +178,7 @@ touched-then later first =
 
 -- a row with more in it
 pub touched-inside : {t u : Row} {k n : Node} → inside nodeNumber (t .node) (u .node) ≡ true
-    → ((g : ℕ) → inside groupNumber (t .group g) (u .group g) ≡ true) → Touched t k n → Touched u k n
+    → ((g : ℕ) → inside groupNumber (t .group g) (u .group g) ≡ true) → Kept t k n → Kept u k n
 touched-inside {t} {u} nodes groups h =
     record {
       node = λ p none. h .node p (inside-none nodeNumber p (t .node) (u .node) nodes none);
@@ -123,10 +212,10 @@ filled-inside t u w ps more self =
 
 -- a row without the upcall's parts, where the flags are as they were
 pub flags-kept : {ps : List NodePart} {k n : Node} (gs : ℕ → List GroupPart) (t : ℕ → Bool)
-    → Touched (row ps (λ g. gs g ++ when (t g) (atomic ∷ pending ∷ []))) k n
+    → Kept (row ps (λ g. gs g ++ when (t g) (atomic ∷ pending ∷ []))) k n
     → ((g : ℕ) → 1 ≤ g → g ≤ groupCount → among groupNumber atomic (gs g) ≡ false → groupOf k g .atomic ≡ groupOf n g .atomic)
     → ((g : ℕ) → 1 ≤ g → g ≤ groupCount → among groupNumber pending (gs g) ≡ false → groupOf k g .pending ≡ groupOf n g .pending)
-    → Touched (row ps gs) k n
+    → Kept (row ps gs) k n
 flags-kept {ps} {k} {n} gs t h atomics pendings = record { node = h .node; group = go }
   where
     other : (g : ℕ) → 1 ≤ g → g ≤ groupCount → (p : GroupPart) → among groupNumber p (atomic ∷ pending ∷ []) ≡ false → among groupNumber p (gs g) ≡ false
@@ -147,8 +236,8 @@ flags-kept {ps} {k} {n} gs t h atomics pendings = record { node = h .node; group
     go g low high descriptor none = other g low high descriptor refl none
 
 -- a row without timer and queue, where they are as they were
-pub front-kept : {ps : List NodePart} {gs : ℕ → List GroupPart} {k n : Node} → Touched (row (timer ∷ queue ∷ ps) gs) k n
-    → k .timer ≡ n .timer → k .queue ≡ n .queue → Touched (row ps gs) k n
+pub front-kept : {ps : List NodePart} {gs : ℕ → List GroupPart} {k n : Node} → Kept (row (timer ∷ queue ∷ ps) gs) k n
+    → k .timer ≡ n .timer → k .queue ≡ n .queue → Kept (row ps gs) k n
 front-kept {ps} {gs} {k} {n} h timers queues = record { node = go; group = h .group }
   where
     go : (p : NodePart) → among nodeNumber p ps ≡ false → part p k ≡ part p n

@@ -20,7 +20,7 @@ use Rattle.rules.specs.Step.{Effect, valued, timerFlagged, revoke, timed
 use Rattle.rules.specs.Valid.{GoodMessage, Valid}
 use Rattle.rules.specs.Sound.{Sound}
 use Rattle.rules.specs.Private.{PrivateLine, Heard, message, nothing, isCalled, afterwards, joined, told, hear, unheard, own}
-use Rattle.rules.specs.Touches.{running, timer, queue, atomic, pending, force, revoked, used, count, places, pages, descriptor, groupNumber, among, row, stores, when, runs, isMoved, filling, rowOf, Touched}
+use Rattle.rules.specs.Touches.{running, timer, queue, atomic, pending, force, revoked, used, count, places, pages, descriptor, row, stores, when, runs, isMoved, filling, rowOf}
 use Rattle.rules.proofs.Steps.EveryLaws.{every-mono}
 use Rattle.rules.proofs.Steps.SoundLaws.{valid-sound}
 use Rattle.rules.proofs.Steps.ListLaws.{filter-fail, some-last, no-length}
@@ -34,7 +34,7 @@ use Rattle.rules.proofs.Steps.StepLaws.{act-sound, finish-queue, finish
 use Rattle.rules.proofs.Steps.QuietLaws.{staying-settle, rest-left, valid-quiet, counted-quiet}
 use Rattle.rules.proofs.Private.ViewLaws.{view, called-quiet}
 use Rattle.rules.proofs.Private.HeardLaws.{accepted-agrees}
-use Rattle.rules.proofs.Touches.PartLaws.{filled-inside, filling-inside, flags-kept, front-kept, inside-left, inside-right, touched-inside, touched-same, touched-then, when-inside}
+use Rattle.rules.proofs.Touches.PartLaws.{groupNumber, among, Kept, filled-inside, filling-inside, flags-kept, front-kept, inside-left, inside-right, touched-inside, touched-same, touched-then, when-inside}
 use Rattle.rules.proofs.Touches.TouchLaws.{Differs, Grouped, Rows, drain-touched, finished-touched, group-touched, grouped, moved-none, queue-touched, running-touched, timer-touched, upcall-touched}
 use Rattle.rules.proofs.Touches.SectionRows.{quiet-left}
 
@@ -67,7 +67,7 @@ module _ {b : Build} {n : Node} (v : Valid b n) (k : ℕ) where
   abbrev drained : Node
   drained = drain b (n .queue) n
 
-  revoke-touched : timerRuns n ≡ true → Touched (row [] (λ g. when (runs n g) (revoked ∷ []))) (revoke drained) drained
+  revoke-touched : timerRuns n ≡ true → Kept (row [] (λ g. when (runs n g) (revoked ∷ []))) (revoke drained) drained
   unfolding revoke timerFlagged withTimerFlags
   revoke-touched ticks′ =
       let same = drain-running b (n .queue) n in
@@ -90,7 +90,7 @@ module _ {b : Build} {n : Node} (v : Valid b n) (k : ℕ) where
       differs descriptor none = refl
 
   late-touched : timerRuns n ≡ true
-      → Touched (row (timer ∷ queue ∷ stores) (λ g. filling (isMoved g (length (n .queue)) (n .queue)) ++ when (runs n g) (revoked ∷ []))) (late .node) n
+      → Kept (row (timer ∷ queue ∷ stores) (λ g. filling (isMoved g (length (n .queue)) (n .queue)) ++ when (runs n g) (revoked ∷ []))) (late .node) n
   unfolding timed timedOut valued
   late-touched ticks′ =
       let moved : ℕ → Bool = λ g. isMoved g (length (n .queue)) (n .queue) in
@@ -168,7 +168,7 @@ module _ {b : Build} {n : Node} (v : Valid b n) (k : ℕ) where
 
 module _ {b : Build} {n : Node} (v : Valid b n) (h : ℕ) where
   -- to another
-  switch-touched : Touched (row (running ∷ timer ∷ queue ∷ stores) (λ g. [])) (withTimer 0 (withRunning h n)) n
+  switch-touched : Kept (row (running ∷ timer ∷ queue ∷ stores) (λ g. [])) (withTimer 0 (withRunning h n)) n
   switch-touched =
       touched-then (touched-inside refl (λ g. refl) (timer-touched 0 (withRunning h n))) (touched-inside refl (λ g. refl) (running-touched h n))
 
@@ -232,7 +232,7 @@ module _ {b : Build} {n : Node} (v : Valid b n) (h : ℕ) (ws : List ℕ) (taken
   unfolding act valued
   arriving-sound = act-sound v (arrive h ws) taken
 
-  arriving-touched : Touched (row (queue ∷ []) (λ g. [])) (queued arriving n) n
+  arriving-touched : Kept (row (queue ∷ []) (λ g. [])) (queued arriving n) n
   unfolding queued
   arriving-touched = queue-touched (n .queue ++ (arriving ∷ [])) n
 
@@ -269,7 +269,7 @@ module _ {b : Build} {n : Node} (v : Valid b n) (h : ℕ) (ws : List ℕ) (taken
         ap (λ (m : Moved). upcall (runnerResident b (m .node))) staying
         ∙ ap upcall (runner-quiet b (queued arriving n) (v .runner-resident))
 
-    staying-touched : Touched (row (queue ∷ []) (λ g. when (eqb h g && runs n g) (atomic ∷ pending ∷ []))) (finish b arrival .node) n
+    staying-touched : Kept (row (queue ∷ []) (λ g. when (eqb h g && runs n g) (atomic ∷ pending ∷ []))) (finish b arrival .node) n
     unfolding queued withQueue
     staying-touched =
         flags-kept (λ g. when (eqb h g && runs n g) (atomic ∷ pending ∷ [])) (λ g. runs n g)
@@ -334,7 +334,7 @@ module _ {b : Build} {n : Node} (v : Valid b n) (h : ℕ) (ws : List ℕ) (taken
         let held : buffered n h ≡ true = not-false (buffered n h) (sym (ap (λ (t : Bool). t && not (buffered n h)) (eq-eqb h (n .running) mine)) ∙ leaves) in
         subst (λ (x : ℕ). groupOf n x .atomic ≡ true) own (buffered-atomic v (rw own low) (ap (buffered n) (sym mine) ∙ held))
 
-    moving-touched : Touched (row stores (λ g. filling (eqb h g))) (finish b arrival .node) n
+    moving-touched : Kept (row stores (λ g. filling (eqb h g))) (finish b arrival .node) n
     unfolding valued
     moving-touched =
         front-kept

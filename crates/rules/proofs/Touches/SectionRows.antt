@@ -14,13 +14,13 @@ use Rattle.rules.specs.Operation.{poll, peek, beginAtomic, endAtomic, de
 use Rattle.rules.specs.Settling.{Moved, mayStay, restTimer, upcall}
 use Rattle.rules.specs.Step.{Effect, Stepped, valued, timerFlagged, flagged, sectionBegun, sectionEnded, extending, described, launched, serve, finish}
 use Rattle.rules.specs.Valid.{FirstInFrame, Valid}
-use Rattle.rules.specs.Touches.{running, queue, atomic, pending, force, revoked, used, count, places, pages, descriptor, row, when, runs, requestRow, rowOf, Touched}
+use Rattle.rules.specs.Touches.{running, queue, atomic, pending, force, revoked, used, count, places, pages, descriptor, row, when, runs, requestRow, rowOf}
 use Rattle.rules.proofs.Steps.NodeLaws.{group-same, kept}
 use Rattle.rules.proofs.Steps.PagingLaws.{runner-quiet}
 use Rattle.rules.proofs.Steps.SettlingLaws.{rest-cases}
 use Rattle.rules.proofs.Steps.LineLaws.{stays, direct-none, may-stay}
 use Rattle.rules.proofs.Steps.QuietLaws.{Quiet, staying-settle, runner-within, quiet-finish, valid-quiet, described-quiet, begun-quiet}
-use Rattle.rules.proofs.Touches.PartLaws.{touched-inside, touched-same, touched-then, when-inside, when-none}
+use Rattle.rules.proofs.Touches.PartLaws.{Kept, touched-inside, touched-same, touched-then, when-inside, when-none}
 use Rattle.rules.proofs.Touches.TouchLaws.{Differs, Rows, group-touched, rest-touched, upcall-touched}
 
 -- a step after which nothing is due leaves what it did
@@ -31,7 +31,7 @@ quiet-left e q = ap (λ (s : Stepped). s .node) (quiet-finish e q)
 
 module _ (n : Node) (low : 1 ≤ n .running) where
   -- B
-  begun-touched : (f : Bool) → Touched (row [] (λ g. when (runs n g) (atomic ∷ force ∷ []))) (sectionBegun f n) n
+  begun-touched : (f : Bool) → Kept (row [] (λ g. when (runs n g) (atomic ∷ force ∷ []))) (sectionBegun f n) n
   unfolding sectionBegun flagged timerFlagged withFlags withTimerFlags withGroup
   begun-touched f =
       let r = n .running in
@@ -93,7 +93,7 @@ module _ (n : Node) (low : 1 ≤ n .running) where
       ∙ or-true f
 
   -- P and L
-  described-touched : (d : List ℕ) → Touched (row [] (λ g. when (runs n g) (descriptor ∷ []))) (described d n) n
+  described-touched : (d : List ℕ) → Kept (row [] (λ g. when (runs n g) (descriptor ∷ []))) (described d n) n
   unfolding described withDescriptor
   described-touched d = group-touched (descriptor ∷ []) (n .running) (withDescriptor d (groupOf n (n .running))) n low differs
     where
@@ -140,7 +140,7 @@ module _ {b : Build} {n : Node} (v : Valid b n) (low : 1 ≤ n .running) where
   unforced = timerFlagged false false n
 
   -- its flags
-  ended-touched : Touched (row [] (λ g. when (runs n g) (atomic ∷ force ∷ revoked ∷ []))) (sectionEnded n) n
+  ended-touched : Kept (row [] (λ g. when (runs n g) (atomic ∷ force ∷ revoked ∷ []))) (sectionEnded n) n
   unfolding sectionEnded timerFlagged flagged withTimerFlags withFlags withGroup
   ended-touched =
       touched-then {k = unforced}

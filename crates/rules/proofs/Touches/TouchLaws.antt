@@ -17,18 +17,18 @@ use Rattle.rules.specs.Settling.{pass, restTimer, settle, drain, upcall,
 use Rattle.rules.specs.Step.{Effect, finish}
 use Rattle.rules.specs.Valid.{GoodMessage, Valid}
 use Rattle.rules.specs.Private.{own}
-use Rattle.rules.specs.Touches.{NodePart, GroupPart, running, timer, queue, free, swap, entered, out, brought, atomic, pending, force, revoked, used, count, places, pages, descriptor, part, groupPart, nodeNumber, groupNumber, among, row, stores, when, runs, isMoved, filling, rowOf, Touched}
+use Rattle.rules.specs.Touches.{NodePart, GroupPart, running, timer, queue, free, swap, entered, out, brought, atomic, pending, force, revoked, used, count, places, pages, descriptor, part, groupPart, row, stores, when, runs, isMoved, filling, rowOf}
 use Rattle.rules.proofs.Steps.EveryLaws.{every-mono}
 use Rattle.rules.proofs.Steps.ListLaws.{filter-fail, filter-pass}
 use Rattle.rules.proofs.Steps.NodeLaws.{kept, group-other}
 use Rattle.rules.proofs.Steps.PagingLaws.{runner-repaged, Repaged, prepared-repaged}
 use Rattle.rules.proofs.Steps.SettlingLaws.{rest-cases, settle-running, pass-induct, upcall-cases}
 use Rattle.rules.proofs.Steps.StepLaws.{calls-group}
-use Rattle.rules.proofs.Touches.PartLaws.{filling-inside, inside, inside-join, inside-left, inside-right, touched-inside, touched-same, touched-then, when-inside}
+use Rattle.rules.proofs.Touches.PartLaws.{nodeNumber, groupNumber, among, Kept, filling-inside, inside, inside-join, inside-left, inside-right, touched-inside, touched-same, touched-then, when-inside}
 
 -- One part set.
 
-pub timer-touched : (x : ℕ) (n : Node) → Touched (row (timer ∷ []) (λ g. [])) (withTimer x n) n
+pub timer-touched : (x : ℕ) (n : Node) → Kept (row (timer ∷ []) (λ g. [])) (withTimer x n) n
 unfolding withTimer groupOf
 timer-touched x n = record { node = go; group = λ g low high p none. refl }
   where
@@ -42,7 +42,7 @@ timer-touched x n = record { node = go; group = λ g low high p none. refl }
     go out none = refl
     go brought none = refl
 
-pub queue-touched : (q : List Message) (n : Node) → Touched (row (queue ∷ []) (λ g. [])) (withQueue q n) n
+pub queue-touched : (q : List Message) (n : Node) → Kept (row (queue ∷ []) (λ g. [])) (withQueue q n) n
 unfolding withQueue groupOf
 queue-touched q n = record { node = go; group = λ g low high p none. refl }
   where
@@ -56,7 +56,7 @@ queue-touched q n = record { node = go; group = λ g low high p none. refl }
     go out none = refl
     go brought none = refl
 
-pub running-touched : (r : ℕ) (n : Node) → Touched (row (running ∷ []) (λ g. [])) (withRunning r n) n
+pub running-touched : (r : ℕ) (n : Node) → Kept (row (running ∷ []) (λ g. [])) (withRunning r n) n
 unfolding withRunning groupOf
 running-touched r n = record { node = go; group = λ g low high p none. refl }
   where
@@ -88,7 +88,7 @@ part-group out g G n = refl
 part-group brought g G n = refl
 
 pub group-touched : (ps : List GroupPart) (g : ℕ) (G : Group) (n : Node) → 1 ≤ g → Differs ps G (groupOf n g)
-    → Touched (row [] (λ h. when (eqb g h) ps)) (withGroup g G n) n
+    → Kept (row [] (λ h. when (eqb g h) ps)) (withGroup g G n) n
 group-touched ps g G n low differs = record { node = λ p none. part-group p g G n; group = λ h low′ high p. go h low′ p (eqb g h) refl }
   where
     go : (h : ℕ) → 1 ≤ h → (p : GroupPart) (t : Bool) → eqb g h ≡ t → among groupNumber p (when t ps) ≡ false
@@ -98,7 +98,7 @@ group-touched ps g G n low differs = record { node = λ p none. part-group p g G
 
 -- Pages moved.
 
-pub repaged-touched : {k n : Node} → Repaged k n → Touched (row stores (λ g. pages ∷ [])) k n
+pub repaged-touched : {k n : Node} → Repaged k n → Kept (row stores (λ g. pages ∷ [])) k n
 repaged-touched {k} {n} r = record { node = go; group = λ g low high. each g }
   where
     go : (p : NodePart) → among nodeNumber p stores ≡ false → part p k ≡ part p n
@@ -124,7 +124,7 @@ repaged-touched {k} {n} r = record { node = go; group = λ g low high. each g }
 
 -- A stock put in.
 
-lines-touched : (fs es : List ℕ) (n : Node) → Touched (row (free ∷ entered ∷ []) (λ g. [])) (withFree fs (withPaging (withEntered es (n .paging)) n)) n
+lines-touched : (fs es : List ℕ) (n : Node) → Kept (row (free ∷ entered ∷ []) (λ g. [])) (withFree fs (withPaging (withEntered es (n .paging)) n)) n
 unfolding withFree withPaging withEntered groupOf
 lines-touched fs es n = record { node = go; group = λ g low high p none. refl }
   where
@@ -143,7 +143,7 @@ lines-touched fs es n = record { node = go; group = λ g low high p none. refl }
 
 pub stock-touched : (ps : List GroupPart) (g : ℕ) (t : Stock) (n : Node) → 1 ≤ g → inside groupNumber ps ps ≡ true
     → Differs ps (withBuffer (t .buffer) (groupOf n g)) (groupOf n g)
-    → Touched (row (free ∷ entered ∷ []) (λ h. when (eqb g h) ps)) (withStock g t n) n
+    → Kept (row (free ∷ entered ∷ []) (λ h. when (eqb g h) ps)) (withStock g t n) n
 unfolding withStock withFree withPaging withEntered groupOf
 stock-touched ps g t n low self differs =
     let n′ = withFree (t .free) (withPaging (withEntered (t .entered) (n .paging)) n) in
@@ -163,7 +163,7 @@ room-used b fs es v = go fs (ltb (v .used + v .count) (length (v .places)))
     go (f ∷ fs) false = refl
 
 put-touched : (b : Build) (m : Message) (n : Node) → 1 ≤ m .group
-    → Touched (row (free ∷ entered ∷ []) (λ h. when (eqb (m .group) h) (count ∷ places ∷ pages ∷ []))) (put b m n) n
+    → Kept (row (free ∷ entered ∷ []) (λ h. when (eqb (m .group) h) (count ∷ places ∷ pages ∷ []))) (put b m n) n
 unfolding put withBuffer appended
 put-touched b m n low =
     stock-touched (count ∷ places ∷ pages ∷ []) (m .group) _ n low refl differs
@@ -190,7 +190,7 @@ pages-inside : (t : Bool) → inside groupNumber (pages ∷ []) (filling t) ≡ 
 pages-inside true = refl
 pages-inside false = refl
 
-pub store-touched : (b : Build) (m : Message) (n : Node) → 1 ≤ m .group → Touched (row stores (λ h. filling (eqb (m .group) h))) (store b m n) n
+pub store-touched : (b : Build) (m : Message) (n : Node) → 1 ≤ m .group → Kept (row stores (λ h. filling (eqb (m .group) h))) (store b m n) n
 unfolding store
 store-touched b m n low =
     let k = prepared-repaged b (m .group) n in
@@ -225,41 +225,41 @@ moved-none g (suc k) = refl
 
 -- one more
 stored-touched : (b : Build) (m : Message) (q : List Message) (n l : Node) (k : ℕ) → Grouped m
-    → Touched (row (queue ∷ stores) (λ g. filling (isMoved g k q))) l (store b m n)
-    → Touched (row (queue ∷ stores) (λ g. filling (isMoved g (suc k) (m ∷ q)))) l n
+    → Kept (row (queue ∷ stores) (λ g. filling (isMoved g k q))) l (store b m n)
+    → Kept (row (queue ∷ stores) (λ g. filling (isMoved g (suc k) (m ∷ q)))) l n
 stored-touched b m q n l k low later =
     touched-then
     (touched-inside refl (λ g. filling-inside (isMoved g k q) (isMoved g (suc k) (m ∷ q)) (moved-later g k m q)) later)
     (touched-inside refl (λ g. filling-inside (eqb (m .group) g) (isMoved g (suc k) (m ∷ q)) (moved-first g k m q)) (store-touched b m n low))
 
 pass-touched : (b : Build) (q : List Message) (n : Node) → Every Grouped q
-    → Touched (row (queue ∷ stores) (λ g. filling (isMoved g (pass b q n .moved) q))) (pass b q n .node) n
+    → Kept (row (queue ∷ stores) (λ g. filling (isMoved g (pass b q n .moved) q))) (pass b q n .node) n
 unfolding oneMore
 pass-touched b =
-    pass-induct b (λ q n s. Every Grouped q → Touched (row (queue ∷ stores) (λ g. filling (isMoved g (s .moved) q))) (s .node) n)
+    pass-induct b (λ q n s. Every Grouped q → Kept (row (queue ∷ stores) (λ g. filling (isMoved g (s .moved) q))) (s .node) n)
     (λ n all. touched-inside refl (λ g. refl) (queue-touched [] n)) (λ m q n e all. touched-inside refl (λ g. refl) (queue-touched (m ∷ q) n))
     (λ m q n s later all. stored-touched b m q n (s .node) (s .moved) (all .0) (later (all .1)))
 
 pub drain-touched : (b : Build) (q : List Message) (n : Node) → Every Grouped q
-    → Touched (row (queue ∷ stores) (λ g. filling (isMoved g (length q) q))) (drain b q n) n
+    → Kept (row (queue ∷ stores) (λ g. filling (isMoved g (length q) q))) (drain b q n) n
 unfolding drain
 drain-touched b [] n all = touched-inside refl (λ g. refl) (queue-touched [] n)
 drain-touched b (m ∷ q) n all = stored-touched b m q n (drain b q (store b m n)) (length q) (all .0) (drain-touched b q (store b m n) (all .1))
 
-pub rest-touched : (n : Node) → Touched (row (timer ∷ []) (λ g. [])) (restTimer n) n
-rest-touched n = rest-cases (λ k. Touched (row (timer ∷ []) (λ g. [])) k n) n (λ e. timer-touched 0 n) (λ e. touched-same refl)
+pub rest-touched : (n : Node) → Kept (row (timer ∷ []) (λ g. [])) (restTimer n) n
+rest-touched n = rest-cases (λ k. Kept (row (timer ∷ []) (λ g. [])) k n) n (λ e. timer-touched 0 n) (λ e. touched-same refl)
 
 pub settle-touched : (b : Build) (n : Node) → Every Grouped (n .queue)
-    → Touched (row (timer ∷ queue ∷ stores) (λ g. filling (isMoved g (settle b n .moved) (n .queue)))) (settle b n .node) n
+    → Kept (row (timer ∷ queue ∷ stores) (λ g. filling (isMoved g (settle b n .moved) (n .queue)))) (settle b n .node) n
 unfolding settle
 settle-touched b n all =
     touched-then (touched-inside refl (λ g. refl) (rest-touched (pass b (n .queue) n .node)))
     (touched-inside refl (λ g. filling-inside (isMoved g (pass b (n .queue) n .moved) (n .queue)) _ (λ e. e)) (pass-touched b (n .queue) n all))
 
-pub upcall-touched : (n : Node) → Touched (row [] (λ g. when (runs n g) (atomic ∷ pending ∷ []))) (upcall n) n
+pub upcall-touched : (n : Node) → Kept (row [] (λ g. when (runs n g) (atomic ∷ pending ∷ []))) (upcall n) n
 unfolding withFlags
 upcall-touched n =
-    upcall-cases (λ k. Touched (row [] (λ g. when (runs n g) (atomic ∷ pending ∷ []))) k n) n
+    upcall-cases (λ k. Kept (row [] (λ g. when (runs n g) (atomic ∷ pending ∷ []))) k n) n
     (λ e. group-touched (atomic ∷ pending ∷ []) (n .running) (withFlags true true (groupOf n (n .running))) n (calls-group n e) differs)
     (λ e. touched-same refl)
   where
@@ -277,7 +277,7 @@ upcall-touched n =
 -- The rest of a step.
 
 pub finish-touched : (b : Build) (e : Effect) → Every Grouped (e .node .queue)
-    → Touched
+    → Kept
     (row (timer ∷ queue ∷ stores)
     (λ g. filling (isMoved g (settle b (e .node) .moved) (e .node .queue)) ++ when (runs (e .node) g) (atomic ∷ pending ∷ [])))
     (finish b e .node) (e .node)
@@ -310,8 +310,8 @@ module _ (b : Build) (e : Effect) (n : Node) (all : Every Grouped (e .node .queu
   pub finished-touched : (ps : List NodePart) (fs ts : ℕ → List GroupPart)
       → inside nodeNumber (timer ∷ queue ∷ stores) ps ≡ true → inside nodeNumber ps ps ≡ true
       → ((g : ℕ) → inside groupNumber (fs g) (ts g) ≡ true) → ((g : ℕ) → inside groupNumber (filling (fills g)) (ts g) ≡ true)
-      → Touched (row ps fs) (e .node) n
-      → Touched (row ps (λ g. ts g ++ when (runs (e .node) g) (atomic ∷ pending ∷ []))) (finish b e .node) n
+      → Kept (row ps fs) (e .node) n
+      → Kept (row ps (λ g. ts g ++ when (runs (e .node) g) (atomic ∷ pending ∷ []))) (finish b e .node) n
   finished-touched ps fs ts enough self first later h =
       touched-then
       (touched-inside enough
@@ -330,4 +330,4 @@ grouped {n = n} v = every-mono GoodMessage Grouped (λ m good. good .group-low) 
 
 -- the row of an operation with this effect
 abbrev pub Rows : Build → Node → Operation → Effect → Type 0
-Rows b n op e = Touched (rowOf n op (finish b e .report)) (finish b e .node) n
+Rows b n op e = Kept (rowOf n op (finish b e .report)) (finish b e .node) n

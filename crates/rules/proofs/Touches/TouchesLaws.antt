@@ -2,7 +2,7 @@
 -- direction a flag goes, off what B, N and T leave and what a private line keeps. Assumes nothing.
 use Prim.Native.Nat.{ℕ, _≤_}
 use mathlib.Core.Bool.{Bool, true, false, true≢false, false≢true, _&&_}
-use mathlib.Core.List.{List, [], _∷_, _++_}
+use mathlib.Core.List.{List, [], _∷_, _++_, List·Memᴰ·not-nil}
 use mathlib.Core.Logic.{_≢_, _⊎_, inl, inr}
 use mathlib.Core.Path.{_≡_, refl, sym, ap, _∙_, subst}
 use native.Mathlib.Decide.{ℕ-discrete}
@@ -11,14 +11,15 @@ use lib.ListN.{drop}
 use borrow.Author.Tests.{eqb-true, ne-eqb}
 use Rattle.rules.specs.Lists.{Every, all}
 use Rattle.rules.specs.Build.{Build, groupCount}
-use Rattle.rules.specs.Node.{Group, Node, groupOf, withGroup, line}
+use Rattle.rules.specs.Node.{Group, Node, groupOf, withGroup, line, waiting, inBuffer, inQueue}
 use Rattle.rules.specs.Operation.{Request, poll, peek, dispose, beginAtomic, endAtomic, describe, launch, Operation, arrive, schedule, tick, user, unknown, Report, accepted, noTrap, timeoutTrap}
 use Rattle.rules.specs.Refusal.{refusal}
 use Rattle.rules.specs.Settling.{settle, upcall}
 use Rattle.rules.specs.Step.{Effect, Stepped, valued, timerFlagged, timedOut, flagged, sectionBegun, sectionEnded, extending, serve, act, finish}
 use Rattle.rules.specs.Valid.{Valid}
+use Rattle.rules.specs.Dumps.{Agree}
 use Rattle.rules.specs.Private.{PrivateLine, Heard, told, hear, Told, request, refuses}
-use Rattle.rules.specs.Touches.{GroupPart, running, timer, queue, atomic, pending, force, revoked, used, count, places, pages, descriptor, groupPart, nodeNumber, groupNumber, among, Row, when, runs, isMoved, filling, requestRow, rowOf, Touched, ByName, Touches}
+use Rattle.rules.specs.Touches.{GroupPart, running, timer, queue, atomic, pending, force, revoked, used, count, places, pages, descriptor, groupPart, Row, when, runs, isMoved, filling, requestRow, rowOf, ByName, Touches, Touched, NodePart, out, part, untouched, free, swap, entered, brought}
 use Rattle.rules.proofs.Steps.LineLaws.{stays, either}
 use Rattle.rules.proofs.Steps.TickLaws.{timed, Ticked, idle, counting, timeout, ticked-by}
 use Rattle.rules.proofs.Steps.ActLaws.{user-accepted}
@@ -27,7 +28,8 @@ use Rattle.rules.proofs.Steps.QuietLaws.{begun-quiet}
 use Rattle.rules.proofs.Private.ViewLaws.{view}
 use Rattle.rules.proofs.Private.HeardLaws.{accepted-agrees}
 use Rattle.rules.proofs.Private.RequestLaws.{suc-zero}
-use Rattle.rules.proofs.Touches.PartLaws.{inside-none, join-none, when-none}
+use Rattle.rules.proofs.Demands.DumpsLaws.{dumps}
+use Rattle.rules.proofs.Touches.PartLaws.{nodeNumber, groupNumber, among, Kept, inside-none, join-none, when-none, kept-touched}
 use Rattle.rules.proofs.Touches.TouchLaws.{Grouped, Rows, finish-touched, grouped}
 use Rattle.rules.proofs.Touches.SectionRows.{begin-row, begun-keeps, begun-leaves, describe-row, end-row, ended-force, ended-revoked, launch-row, peek-row, poll-row, quiet-left}
 use Rattle.rules.proofs.Touches.QueueRows.{arrive-row, late, late-queue, late-revoked, uncalled, schedule-row, tick-row}
@@ -239,7 +241,7 @@ module _ {b : Build} {n : Node} (v : Valid b n) (op : Operation) (taken : refusa
   abbrev after : Group
   after = groupOf (s .node) g
 
-  touched : Touched (rowOf n op r) (s .node) n
+  touched : Kept (rowOf n op r) (s .node) n
   touched = accepted-row v op taken
 
   -- what the group's private line makes of the step
@@ -425,7 +427,7 @@ module _ {b : Build} {n : Node} (v : Valid b n) (g : ℕ) (low : 1 ≤ g) (high 
   revoked-turned-off (by-tick k) taken on off = absurd (true≢false (sym (tick-keeps v k taken g low high on) ∙ off))
   revoked-turned-off by-end taken on off = refl
 
--- The statement.
+-- The facts by name.
 
 named-facts : {b : Build} {n : Node} → Valid b n → (op : Operation) → refusal b n op ≡ 0 → (g : ℕ) → 1 ≤ g → g ≤ groupCount
     → ByName n (finish b (act b n op) .node) op (finish b (act b n op) .report) g
@@ -447,7 +449,7 @@ named-facts {b} {n} v op taken g low high =
     report : Report
     report = finish b (act b n op) .report
 
-    touches : Touched (rowOf n op report) (finish b (act b n op) .node) n
+    touches : Kept (rowOf n op report) (finish b (act b n op) .node) n
     touches = accepted-row v op taken
 
     switched : finish b (act b n op) .node .running ≢ n .running
@@ -455,12 +457,49 @@ named-facts {b} {n} v op taken g low high =
     switched other (inl none) = absurd (other (touches .node running none))
     switched other (inr e) = e
 
+-- Nothing touched.
+
+module _ (n k : Node) (h : Touched untouched k n) where
+  -- two nodes with the same parts agree
+  untouched-agrees : Agree k n
+  unfolding line inBuffer inQueue waiting
+  untouched-agrees =
+      let of-node : (p : NodePart) → part p k ≡ part p n = λ p. h .node p List·Memᴰ·not-nil in
+      let of-group : (g : ℕ) → 1 ≤ g → g ≤ groupCount → (p : GroupPart) → groupPart p (groupOf k g) ≡ groupPart p (groupOf n g) =
+      λ g low high p. h .group g low high p List·Memᴰ·not-nil in
+      record {
+        running = of-node running;
+        timer = of-node timer;
+        queue = of-node queue;
+        free = of-node free;
+        swap = of-node swap;
+        entered = of-node entered;
+        out = of-node out;
+        brought = of-node brought;
+        groups = λ g low high.
+            let its = of-group g low high in
+            record {
+              atomic = its atomic;
+              pending = its pending;
+              force = its force;
+              revoked = its revoked;
+              used = its used;
+              count = its count;
+              pages = its pages;
+              descriptor = its descriptor;
+              messages = rw (its used, its count, its places, of-node queue) refl;
+            };
+      }
+
+-- The statement.
+
 pub touches : Touches
 touches =
     record {
       accepted-step = λ b n v op. step-cases b n op (λ s. s .report .answer ≡ accepted → Touched (rowOf n op (s .report)) (s .node) n)
-          (λ taken yes′. accepted-row v op taken) (λ r refuses yes′. suc-zero yes′);
+          (λ taken yes′. kept-touched (accepted-row v op taken)) (λ r refuses yes′. suc-zero yes′);
       by-name = λ b n v op. step-cases b n op (λ s. s .report .answer ≡ accepted → (g : ℕ) → 1 ≤ g → g ≤ groupCount → ByName n (s .node) op (s .report) g)
           (λ taken yes′. named-facts v op taken) (λ r refuses yes′. suc-zero yes′);
       refused-step = λ b n op. step-cases b n op (λ s. s .report .answer ≢ accepted → s .node ≡ n) (λ taken no′. absurd (no′ (unfold finish in refl))) (λ r refuses no′. refl);
+      parts-all = λ b n k v w h. dumps .same-node b k n w v (untouched-agrees n k h);
     }

@@ -1,19 +1,33 @@
 -- Calls of `feed` one after the other. Assumes nothing.
 use Prim.Native.Nat.{ℕ, _+_, _-_, _≤_, _<_}
+use native.Mathlib.Decide.{decLt}
 use native.Mathlib.Omega.{arith}
-use mathlib.Core.Bool.{Bool}
+use mathlib.Core.Bool.{Bool, true, false, true≢false, cond}
 use mathlib.Core.List.{List, [], _∷_, _++_, append-assoc, append-nil}
 use mathlib.Core.Path.{_≡_, _∙_, refl, sym, ap, subst}
+use lib.IntN.{ℤ, pos, negsuc}
 use lib.ListN.{length, take, drop, length-drop}
 use lib.Seq.{take-add}
-use Rattle.script.specs.Feed.{FedTo}
+use lib.Signed.{ltZ}
+use mir.Facts.{toZ-ofZ}
+use mir.Syntax.{w64}
+use mir.Val.{SFits, ofZ, toZ}
+use Rattle.io.specs.Counts.{clamped}
+use Rattle.libc.specs.Io.{Moved}
+use Rattle.rules.specs.Lists.{isEmpty}
+use Rattle.rules.specs.MemoryTest.{powerOnMemory}
+use Rattle.rules.specs.Script.{header, newline}
+use Rattle.script.specs.Feed.{FedTo, keptLine, keptRoom}
+use Rattle.script.specs.Feeding.{begun}
 use Rattle.script.specs.Play.{part}
-use Rattle.script.specs.Portions.{Portion, Feeds, usedBytes, usedOf}
+use Rattle.script.specs.Portions.{Portion, Feeds, endedScript, lastMemory, lastState, listedBytes, listedOf, usedBytes, usedOf}
 use Rattle.script.specs.Written.{lineRoom}
 use Rattle.script.specs.declared.feed.Fed.{Fed as Fed·rt}
 use Rattle.script.specs.declared.feed.State.{State as State·rt}
+use Rattle.script.proofs.PortionLaws.{whole-nil}
+use Rattle.script.proofs.PortionsLaws.{kept-begun, portions-listed}
 use Rattle.script.proofs.feed.FedLaws.{fed-forward, fed-inside, fed-numbers}
-use Rattle.fugu.specs.Run.{Plays, Reaches, lastMemory, lastState}
+use Rattle.fugu.specs.Run.{Finishes, GoesOn, Plays, PlaysAll, Reaches, RunListed, Runs, TakesIn, Turns, lastNewline, listedBy}
 use Rattle.fugu.specs.declared.Run.{Run as Run·rt}
 
 -- no call
@@ -72,9 +86,9 @@ reach-more {m} {st} {b} {m′} {st′} {c} r s =
 -- Within a portion.
 
 -- a call on what is left of it
-pub plays-some : {m : List ℕ} {run : Run·rt} {input out m′ out′ : List ℕ} {f : Fed·rt} {going : Bool}
+pub plays-some : {m : List ℕ} {run : Run·rt} {input out m′ out′ : List ℕ} {f : Fed·rt} {well : Bool}
     → FedTo m (run .state) (drop (run .used) input) out m′ out′ f → (f .stop ≡ 2 → ⊥) → run .used < length input → lineRoom ≤ length out
-    → Plays m run input m′ (record { state = f .state; used = run .used + f .used; going = going })
+    → Plays m run input m′ (record { state = f .state; used = run .used + f .used; well = well; ended = false })
 unfolding part
 plays-some {m} {run} {input} {m′ = m′} {f = f} g stop more room =
     let left = length-drop (run .used) input in
@@ -85,6 +99,7 @@ plays-some {m} {run} {input} {m′ = m′} {f = f} g stop more room =
       reaches = subst (λ (k : ℕ). Reaches m (run .state) (take k (drop (run .used) input)) m′ (f .state)) n (reach-one g stop);
       some = omega arith;
       inside = omega arith;
+      goes-on = refl;
     }
 
 -- what was used so far, and some more
@@ -96,3 +111,100 @@ plays-more {m} {st} {run} {input} {m″ = m″} {run′} r p =
     let n : run .used + (run′ .used - run .used) ≡ run′ .used = omega arith in
     subst (λ (x : List ℕ). Reaches m st x m″ (run′ .state)) (sym (take-add (run .used) (run′ .used - run .used) input) ∙ ap (λ (k : ℕ). take k input) n)
     (reach-more r (p .reaches))
+
+-- At the end of the input.
+
+-- no line has begun
+pub finishes-none : {m : List ℕ} {st : State·rt} {used : ℕ} → isEmpty (keptLine st) ≡ true
+    → Finishes m st m (record { state = st; used = used; well = true; ended = true })
+unfolding lastNewline
+finishes-none {m} {st} none = record { reaches = rw none (reach-none m st); unchanged = λ e. (refl, refl); ends = refl }
+
+-- one has, and a newline is played
+pub finishes-begun : {m : List ℕ} {st : State·rt} {m′ : List ℕ} {run : Run·rt} → isEmpty (keptLine st) ≡ false
+    → PlaysAll m st (newline ∷ []) m′ run
+    → Finishes m st m′ (record { state = run .state; used = run .used; well = run .well; ended = true })
+unfolding lastNewline
+finishes-begun some p = record { reaches = rw some (p .reaches); unchanged = λ none. absurd (true≢false (sym none ∙ some)); ends = refl }
+
+-- Reads.
+
+-- what one may answer hangs on the length of the part alone; the machine reads it back from its bits
+pub moved-as : {l k : ℕ} (z : ℤ) → l ≡ k → SFits w64 z → Moved k z → Moved l (toZ w64 (ofZ w64 z))
+moved-as {l} z same fits moved = subst (λ (x : ℤ). Moved l x) (sym (toZ-ofZ fits)) (subst (λ (i : ℕ). Moved i z) (sym same) moved)
+
+-- of what one answered n bytes are counted
+
+module _ {m : List ℕ} {st : State·rt} {input m′ : List ℕ} {run : Run·rt} {n : ℕ} where
+  -- they are played
+  pub takes-portion : (got : ℤ) → Moved (length input) got → n ≡ clamped got (length input) → 0 < n → PlaysAll m st (take n input) m′ run
+      → TakesIn m st got input m′ run
+  takes-portion (pos k) moved counted some p =
+      let e : n ≡ k = omega arith in
+      record { answered = k; read = refl; portion = λ _. rw e at p; at-end = λ none. absurd (omega arith) }
+  takes-portion (negsuc k) moved counted some p = absurd (omega arith)
+
+  -- there are none
+  pub takes-end : (got : ℤ) → Moved (length input) got → n ≡ clamped got (length input) → ltZ got (pos 0) ≡ false → n ≤ 0 → Finishes m st m′ run
+      → TakesIn m st got input m′ run
+  takes-end (pos k) moved counted read none f = record { answered = k; read = refl; portion = λ some. absurd (omega arith); at-end = λ _. f }
+  takes-end (negsuc k) moved counted read none f = absurd (true≢false read)
+
+-- Turns one after the other.
+
+-- none
+pub runs-none : {m : List ℕ} {st : State·rt} {used : ℕ} {well : Bool} → Runs m st m (record { state = st; used = used; well = well; ended = false })
+runs-none {m} {st} = record { goes-on = λ e. record { script = []; reaches = reach-none m st }; ends = λ e. absurd (true≢false (sym e)) }
+
+-- one more
+pub runs-more : {m : List ℕ} {st : State·rt} {m′ : List ℕ} {run : Run·rt} {input m″ : List ℕ} {run′ : Run·rt} → GoesOn m st m′ run
+    → Turns m′ (run .state) input m″ run′ → Runs m st m″ run′
+runs-more {m} {st} {m′} {run} {input} {m″} {run′} g t =
+    elim (decLt 0 (t .takes-in .answered)) [
+      | yes some ↦
+          let p = t .takes-in .portion some in
+          record { goes-on = λ e. record { script = _; reaches = reach-more (g .reaches) (p .reaches) }; ends = λ e. absurd (true≢false (sym e ∙ p .goes-on)) }
+      | no none ↦
+          let f = t .takes-in .at-end (omega arith) in
+          record {
+            goes-on = λ e. absurd (true≢false (sym (f .ends) ∙ e));
+            ends = λ e. record { script = g .script; memory = m′; state = run .state; reaches = g .reaches; finishes = f };
+          }
+    ]
+
+-- The listing.
+
+-- what has begun is empty where its front is
+front-empty : (b : List ℕ) → isEmpty (take keptRoom b) ≡ isEmpty b
+front-empty [] = refl
+front-empty (x ∷ b) = refl
+
+-- the newline that is fed is the script's last
+ended-by : (s : List ℕ) (st : State·rt) → keptLine st ≡ take keptRoom (begun s) → s ++ lastNewline st ≡ endedScript s
+unfolding lastNewline endedScript
+ended-by s st kept = go (isEmpty (begun s)) refl
+  where
+    same : isEmpty (keptLine st) ≡ isEmpty (begun s)
+    same = ap isEmpty kept ∙ front-empty (begun s)
+
+    go : (t : Bool) → isEmpty (begun s) ≡ t → s ++ cond (isEmpty (keptLine st)) [] (newline ∷ []) ≡ cond (isEmpty (begun s)) s (s ++ (newline ∷ []))
+    go true e = rw (same, e) (append-nil s)
+    go false e = rw (same, e)
+
+listed-append : (ps qs : List Portion) → listedBytes (ps ++ qs) ≡ listedBytes ps ++ listedBytes qs
+unfolding listedBytes
+listed-append [] qs = refl
+listed-append (p ∷ ps) qs = ap (λ (x : List ℕ). listedOf p ++ x) (listed-append ps qs) ∙ sym (append-assoc (listedOf p) (listedBytes ps) (listedBytes qs))
+
+pub run-listed : RunListed
+unfolding listedBy reach-more
+run-listed =
+    record {
+      listed = λ m m′ st run long zero none e.
+          let r = e .reaches in
+          let all = reach-more r (e .finishes .reaches) in
+          let kept : keptLine (e .state) ≡ take keptRoom (begun (e .script)) =
+          ap keptLine (sym (r .state)) ∙ kept-begun (r .calls) (powerOnMemory m .memory) [] st whole-nil none (r .fed) ∙ ap (λ (x : List ℕ). take keptRoom (begun x)) (r .used) in
+          ap (λ (x : List ℕ). header ++ x) (sym (listed-append (r .calls) (e .finishes .reaches .calls)))
+          ∙ portions-listed .listed m (e .script) st (all .calls) long zero none (all .fed) (all .used ∙ ended-by (e .script) (e .state) kept);
+    }

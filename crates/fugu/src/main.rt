@@ -13,17 +13,20 @@ ghost use mathlib.Core.Path.{_≡_};
 ghost use mathlib.Core.Bool.{true};
 ghost use Prim.Native.Nat.{_≤_, _<_};
 ghost use lib.ListN.{length};
+ghost use Rattle.libc.specs.Io.{Moved};
 ghost use Rattle.script.specs.Written.{lineRoom};
-ghost use Rattle.fugu.specs.Run.{Plays, Reaches};
+ghost use Rattle.fugu.specs.Run.{Plays, PlaysAll, Finishes, TakesIn, Turns, Runs};
 
 // How many bytes are read at a time, and how many the output holds.
 const PORTION: usize = 65536;
 
-// Where a run stands: what is carried from portion to portion, how many bytes of this one are used, and whether it goes on.
+// Where a run stands: what is carried from portion to portion, how many bytes of this one are used, whether all went well, and whether the
+// input is at its end.
 struct Run {
     state: State,
     used: usize,
-    going: bool,
+    well: bool,
+    ended: bool,
 }
 
 // Writes bytes of the listing, or says why not.
@@ -38,7 +41,7 @@ fn put(bytes: &[u8]) -> bool {
 // Some lines of a portion: what they list is written at once.
 fn play(memory: &mut [u32], run: Run, input: &[u8], out: &mut [u8]) -> Run
     requires { ⌜ (run .used < length (now input)) × (lineRoom ≤ length (now out)) ⌝ }
-    ensures { λ r. ⌜ (r .going ≡ true → Plays (now (memory .entry)) run (now (input .entry)) (now (memory .exit)) r) ⌝ }
+    ensures { λ r. ⌜ (r .well ≡ true → Plays (now (memory .entry)) run (now (input .entry)) (now (memory .exit)) r) ⌝ }
 {
     let state = run.state;
     let from = run.used;
@@ -49,47 +52,60 @@ fn play(memory: &mut [u32], run: Run, input: &[u8], out: &mut [u8]) -> Run
         return Run {
             state: next,
             used: from,
-            going: false,
+            well: false,
+            ended: false,
         };
     }
     let end = f.written;
     Run {
         state: next,
         used: from + f.used,
-        going: put(&out[..end]),
+        well: put(&out[..end]),
+        ended: false,
     }
 }
 
 // A portion, all of it.
 fn play_all(memory: &mut [u32], state: State, input: &[u8], out: &mut [u8]) -> Run
     requires { ⌜ lineRoom ≤ length (now out) ⌝ }
-    ensures { λ r. ⌜ (r .going ≡ true → Reaches (now (memory .entry)) state (now (input .entry)) (now (memory .exit)) (r .state)) ⌝ }
+    ensures { λ r. ⌜ (r .well ≡ true → PlaysAll (now (memory .entry)) state (now (input .entry)) (now (memory .exit)) r) ⌝ }
 {
     let mut run = Run {
         state: state,
         used: 0,
-        going: true,
+        well: true,
+        ended: false,
     };
     while run.used < input.len() {
         run = play(memory, run, input, out);
-        if !run.going {
+        if !run.well {
             break;
         }
     }
     run
 }
 
-// One read, and the portion that came. At the end of the input a line that has begun gets its newline.
+// One read, and what came of it.
 fn turn(memory: &mut [u32], state: State, input: &mut [u8], out: &mut [u8]) -> Run
     requires { ⌜ lineRoom ≤ length (now out) ⌝ }
+    ensures { λ r. ⌜ (r .well ≡ true → Turns (now (memory .entry)) state (now (input .exit)) (now (memory .exit)) r) ⌝ }
 {
     let got = libc::read(STDIN_FILENO, input);
+    take_in(memory, state, got, input, out)
+}
+
+// What a read answered: the bytes that it brought are played, all of them; with none the input is at its end.
+fn take_in(memory: &mut [u32], state: State, got: isize, input: &[u8], out: &mut [u8]) -> Run
+    requires { ⌜ Moved (length (now input)) got × (lineRoom ≤ length (now out)) ⌝ }
+    ensures { λ r. ⌜ (r .well ≡ true → TakesIn (now (memory .entry)) state got (now (input .entry)) (now (memory .exit)) r) ⌝ }
+{
     if got < 0 {
         os::fail(b"fugu: standard input");
         return Run {
             state: state,
             used: 0,
-            going: false,
+            well: false,
+            ended: false,
         };
     }
     let n = io::count(got, input);
@@ -102,16 +118,43 @@ fn turn(memory: &mut [u32], state: State, input: &mut [u8], out: &mut [u8]) -> R
 // The end of the input: a line that has begun gets its newline.
 fn finish(memory: &mut [u32], state: State, out: &mut [u8]) -> Run
     requires { ⌜ lineRoom ≤ length (now out) ⌝ }
+    ensures { λ r. ⌜ (r .well ≡ true → Finishes (now (memory .entry)) state (now (memory .exit)) r) ⌝ }
+{
+    if !state.begun() {
+        return Run {
+            state: state,
+            used: 0,
+            well: true,
+            ended: true,
+        };
+    }
+    let run = play_all(memory, state, b"\n", out);
+    let next = run.state;
+    Run {
+        state: next,
+        used: run.used,
+        well: run.well,
+        ended: true,
+    }
+}
+
+// Turns to the end of the input, or until something fails. They are counted down, since a loop has to end and nothing says that an input does.
+fn play_script(memory: &mut [u32], state: State, input: &mut [u8], out: &mut [u8]) -> Run
+    requires { ⌜ lineRoom ≤ length (now out) ⌝ }
+    ensures { λ r. ⌜ (r .well ≡ true → Runs (now (memory .entry)) state (now (memory .exit)) r) ⌝ }
 {
     let mut run = Run {
         state: state,
         used: 0,
-        going: true,
+        well: true,
+        ended: false,
     };
-    if state.count > 0 {
-        run = play_all(memory, state, b"\n", out);
+    let mut turns = u64::MAX;
+    while turns > 0 && run.well && !run.ended {
+        let next = run.state;
+        run = turn(memory, next, input, out);
+        turns -= 1;
     }
-    run.going = false;
     run
 }
 
@@ -121,15 +164,7 @@ fn main() {
     let mut out = [0u8; PORTION];
     Node::start(&mut memory);
     let header = put_header(&mut out, 0);
-    let mut run = Run {
-        state: State::new(),
-        used: 0,
-        going: put(&out[..header]),
-    };
-    let mut turns = u64::MAX;
-    while turns > 0 && run.going {
-        let state = run.state;
-        run = turn(&mut memory, state, &mut input, &mut out);
-        turns -= 1;
+    if put(&out[..header]) {
+        play_script(&mut memory, State::new(), &mut input, &mut out);
     }
 }

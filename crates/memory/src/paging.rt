@@ -128,7 +128,7 @@ pub fn victim(m: &[u32]) -> u32
     first
 }
 
-// It is sent out: its page goes to the front of the swap line, and its frame joins the free line.
+// It is sent out: its page goes to the front of the swap line, and its frame, wiped, joins the free line.
 pub fn send_out(m: &mut [u32])
     requires { ⌜ Some (now m) Sending ⌝ }
     ensures { λ _. ⌜ Becomes (now (m .entry)) (now (m .exit)) Sending sending ⌝ }
@@ -141,7 +141,7 @@ pub fn send_out(m: &mut [u32])
     lines::join(m, map::FREE_COUNT, map::FREE_AT, f);
 }
 
-// The page in swap page p comes into the front of the free line, and p joins the swap line.
+// The page in swap page p comes into the front of the free line, and p, wiped, joins the swap line.
 pub fn fetch(m: &mut [u32], p: u32)
     requires { ⌜ Some (now m) (Fetching p) ⌝ }
     ensures { λ _. ⌜ Becomes (now (m .entry)) (now (m .exit)) (Fetching p) (bringing p) ⌝ }
@@ -154,7 +154,7 @@ pub fn fetch(m: &mut [u32], p: u32)
     lines::join(m, map::SWAP_COUNT, map::SWAP_AT, p);
 }
 
-// Where no frame is free, it trades places with the page to send out.
+// Where no frame is free, it trades places with the page to send out: nothing is wiped, since neither place is left without a page.
 pub fn exchange(m: &mut [u32], p: u32)
     requires { ⌜ Some (now m) (Exchanging p) ⌝ }
     ensures { λ _. ⌜ Becomes (now (m .entry)) (now (m .exit)) (Exchanging p) (bringing p) ⌝ }
@@ -167,7 +167,7 @@ pub fn exchange(m: &mut [u32], p: u32)
     swap_pages(m, f, p);
 }
 
-// The page in swap page p is brought in.
+// The page in swap page p is brought in: p is wiped, unless it takes the page to send out.
 pub fn bring_in(m: &mut [u32], p: u32)
     requires { ⌜ Some (now m) (Away p) ⌝ }
     ensures { λ _. ⌜ Becomes (now (m .entry)) (now (m .exit)) (Away p) (bringing p) ⌝ }

@@ -1,9 +1,9 @@
 -- A run of the public calls is a run of the rules, call by call, so the demands hold of the calls. Assumes nothing.
-use Rattle.node.specs.Calls.{none, next, Call, CallHolds, Calls, CallsDemanded, Promised, inputOf, reportsOf}
+use Rattle.node.specs.Calls.{none, next, Call, CallHolds, Calls, CallsDemanded, Promised, inputsOf, reportsOf}
 use Rattle.node.specs.Parts.{partOf, shownBy}
 use Rattle.node.specs.declared.message.Part.{Part as Part·rt}
 use Rattle.rules.specs.MemoryTest.{stepMemory, MemoryStep, isMemory, headPart, headWords}
-use Rattle.rules.specs.Types.{operationOf, reportOf}
+use Rattle.rules.specs.Types.{reportOf}
 use Prim.Native.Nat.{ℕ}
 use mathlib.Core.List.{List, _∷_, map}
 use mathlib.Core.Path.{_∙_, _≡_, ap, refl, subst, sym}
@@ -11,25 +11,24 @@ use lib.ListN.{drop, length}
 use Rattle.rules.specs.Conditions.{FirstDue}
 use Rattle.rules.specs.DemandOne.{onlyNumber}
 use Rattle.rules.specs.Memory.{nodeAt}
-use Rattle.rules.specs.Operation.{Operation}
+use Rattle.rules.specs.Operation.{Operation, user, peek}
 use Rattle.rules.specs.Run.{PlayedMemory, asked, playMemory, runMemory}
 use Rattle.rules.specs.Reading.{Reads, peeked}
-use Rattle.rules.specs.declared.Operation.{Operation as Operation·rt}
-use Rattle.rules.specs.declared.Operation.the-variants.{Peek}
 use Rattle.rules.specs.declared.Report.{Report as Report·rt}
 use Rattle.rules.proofs.Demands.DemandOneLaws.{demand-one}
 use Rattle.rules.proofs.Demands.DemandThreeLaws.{demand-three}
+use Rattle.rules.proofs.Demands.DumpsLaws.{dumps}
 use Rattle.rules.proofs.Demands.ReadingLaws.{reading}
 
 -- the memory and the reports of calls from m on
 calls-play : {m m′ : List ℕ} {cs : List Call} → Calls m cs m′
-    → (m′ ≡ playMemory m (map inputOf cs) .memory) × (map (λ (c : Call). c .report) cs ≡ reportsOf (playMemory m (map inputOf cs) .events))
-unfolding playMemory asked
+    → (m′ ≡ playMemory m (inputsOf cs) .memory) × (map (λ (c : Call). c .report) cs ≡ reportsOf (playMemory m (inputsOf cs) .events))
+unfolding playMemory
 calls-play none = (refl, refl)
 calls-play {m} (next {m₁ = m₁} {c = c} {cs = cs} p rest) =
     let t = calls-play rest in
-    let s : List ℕ = stepMemory m (operationOf (c .op) (c .words)) .memory in
-    let same : playMemory m₁ (map inputOf cs) ≡ playMemory s (map inputOf cs) = ap (λ (k : List ℕ). playMemory k (map inputOf cs)) (p .left) in (
+    let s : List ℕ = stepMemory m (asked (c .input)) .memory in
+    let same : playMemory m₁ (inputsOf cs) ≡ playMemory s (inputsOf cs) = ap (λ (k : List ℕ). playMemory k (inputsOf cs)) (p .left) in (
       t .0 ∙ ap (λ (k : PlayedMemory). k .memory) same,
       (λ i. p .reported i ∷ (t .1 ∙ ap (λ (k : PlayedMemory). reportsOf (k .events)) same) i),
     )
@@ -37,7 +36,7 @@ calls-play {m} (next {m₁ = m₁} {c = c} {cs = cs} p rest) =
 -- one call
 call-holds : (m : List ℕ) (c : Call) (m′ : List ℕ) → Promised m c m′ → CallHolds m c m′
 call-holds m c m′ p =
-    let op : Operation = operationOf (c .op) (c .words) in
+    let op : Operation = asked (c .input) in
     let d = demand-one .any-step m op in
     let a : c .report .answer ≡ stepMemory m op .report .answer = ap (λ (x : Report·rt). x .answer) (p .reported) in
     record {
@@ -50,18 +49,18 @@ call-holds m c m′ p =
       length-kept = ap length (p .left) ∙ d .length-kept;
       rest-kept = ap (drop 8104) (p .left) ∙ d .rest-kept;
       stays-node = λ t. ap isMemory (p .left) ∙ d .stays-node t;
+      clean = λ t. rw (p .left) (dumps .step-clean m op t);
     }
 
 -- E and the head calls
 call-reads : (m : List ℕ) (c : Call) (m′ : List ℕ) (i : ℕ) (p : Part·rt) (ws : List ℕ)
-    → c .op ≡ Peek i
+    → asked (c .input) ≡ user (peek i)
     → Promised m c m′
     → p ≡ partOf (headPart m)
     → ws ≡ headWords m
     → Reads m i (c .report .answer) (c .report .value) (shownBy p) ws
-unfolding operationOf
 call-reads m c m′ i p ws e call part shown =
-    let told : c .report ≡ reportOf (peeked m i) = call .reported ∙ ap (λ (o : Operation·rt). reportOf (stepMemory m (operationOf o (c .words)) .report)) e in
+    let told : c .report ≡ reportOf (peeked m i) = call .reported ∙ ap (λ (o : Operation). reportOf (stepMemory m o .report)) e in
     rw (told, part, shown) (reading .any-peek m i)
 
 pub calls-demanded : CallsDemanded
@@ -72,10 +71,10 @@ calls-demanded =
       any-peek = call-reads;
       any-calls = λ m m₀ m′ rep cs long on calls.
           let t = calls-play calls in
-          let same : playMemory m₀ (map inputOf cs) ≡ runMemory m (map inputOf cs) = ap (λ (k : List ℕ). playMemory k (map inputOf cs)) (on .left) in
+          let same : playMemory m₀ (inputsOf cs) ≡ runMemory m (inputsOf cs) = ap (λ (k : List ℕ). playMemory k (inputsOf cs)) (on .left) in
           record {
             memory = t .0 ∙ ap (λ (k : PlayedMemory). k .memory) same;
             reports = t .1 ∙ ap (λ (k : PlayedMemory). reportsOf (k .events)) same;
-            demand-three = demand-three .over-memory m long (map inputOf cs);
+            demand-three = demand-three .over-memory m long (inputsOf cs);
           };
     }

@@ -1,5 +1,5 @@
 -- What the functions over the memory of a node promise: settling, the upcall, and each step. Assumes nothing.
-use Prim.Native.Nat.{ℕ, _%_, _≤_}
+use Prim.Native.Nat.{ℕ, _+_, _%_, _≤_}
 use mathlib.Core.Bool.{true, cond, false}
 use mathlib.Core.List.{List, [], _∷_}
 use mathlib.Core.Path.{_≡_}
@@ -97,14 +97,16 @@ headOf n = getD (n .queue) 0 blank
 unfoldable pub movingHead : Node → Node
 movingHead n = dropping 1 (store paper01 (headOf n) n)
 
--- what settling does
+-- what settling does: "how many heads it moved, equal to the definition's count and the queue's loss"
 pub record Settled (m′ : List ℕ) (n : Node) (rest : List ℕ) (moved : ℕ) : Type 0 where
   pub count : moved ≡ settle paper01 n .moved
+  pub loss : moved + length (settle paper01 n .node .queue) ≡ length (n .queue)
   pub holds : Holds m′ (settle paper01 n .node) rest
 
--- what a drain does
+-- what a drain does: it moves the whole queue, and leaves it empty
 pub record Drained (m′ : List ℕ) (n : Node) (rest : List ℕ) (moved : ℕ) : Type 0 where
   pub count : moved ≡ length (n .queue)
+  pub loss : moved + length (drain paper01 (n .queue) n .queue) ≡ length (n .queue)
   pub holds : Holds m′ (drain paper01 (n .queue) n) rest
 
 -- settled: the queue's head may stay

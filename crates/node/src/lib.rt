@@ -21,7 +21,8 @@ ghost use Rattle.node.specs.Counts.{countsOf};
 ghost use Rattle.node.specs.Parts.{partOf};
 ghost use Rattle.node.specs.Steps.{IsNode, Steps, Acts, Requests};
 
-// A step: any memory and any operation, an arrival's words lent beside it.
+// A step: any memory and any operation, an arrival's words lent beside it. D wipes the place of its message, and a page that goes from a frame
+// or swap page wipes what it leaves, so a node has no old words after any step.
 pub fn step(memory: &mut [u32], op: Operation, words: &[u32]) -> Report
     ensures { λ rep. ⌜ Answers (now (memory .exit)) rep (stepMemory (now (memory .entry)) (operationOf op (now (words .entry)))) ⌝ }
 {

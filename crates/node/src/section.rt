@@ -45,7 +45,7 @@ pub fn end(m: &mut [u32]) -> Act
     Act::unsettled(trap, 0)
 }
 
-// D: the first message goes, pending off, timer 0.
+// D: the first message goes and its place is wiped, pending off, timer 0.
 pub fn dispose(m: &mut [u32]) -> Act
     requires { ⌜ IsRunning (now m) ⌝ }
     ensures { λ a. ⌜ ActsFor (now (m .entry)) (now (m .exit)) dispose a ⌝ }
@@ -63,7 +63,8 @@ pub fn dispose(m: &mut [u32]) -> Act
     Act::unsettled(trap, 0)
 }
 
-// The first message of the running group's line goes, from its buffer or from the head of the queue: the trap of the first.
+// The first message of the running group's line goes, from its buffer or from the head of the queue: the trap of the first. In the buffer its
+// place is wiped, kept length too, and with it a frame that it leaves; in the queue the others move up, and the last place is wiped.
 pub fn remove(m: &mut [u32], g: u32) -> u32
     requires { ⌜ Some (now m) (WithLine g) ⌝ }
     ensures { λ t. ⌜ ((n : Node) (r : List ℕ) → Holds (now (m .entry)) n r → WithLine g n → TookFirst (now (m .exit)) n r t) ⌝ }

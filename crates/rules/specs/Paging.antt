@@ -51,7 +51,7 @@ spared n p = not (eqb (n .running) 0) && standsFirst p (groupOf n (n .running) .
 unfoldable pub victim : Node → ℕ
 victim n = getD (filter (λ f. not (spared n f)) (n .paging .entered)) 0 0
 
--- the page in frame f goes whole to the front of the swap line, and its frame joins the free line
+-- the page in frame f goes whole to the front of the swap line, and its frame joins the free line, wiped as all that stand there
 unfoldable pub sendOut : ℕ → List ℕ → Node → Node
 sendOut f [] n = n
 sendOut f (s ∷ ss) n =
@@ -84,7 +84,8 @@ exchange f p n =
     })
     n)
 
--- the page in swap page p is brought into the front of the free line, and p joins the swap line; or it is exchanged
+-- the page in swap page p is brought into the front of the free line, and p joins the swap line, wiped as all that stand there; or it is
+-- exchanged, and nothing is wiped, since neither place is left without a page
 unfoldable pub bringIn : ℕ → List ℕ → Node → Node
 bringIn p [] n = exchange (victim n) p n
 bringIn p (f ∷ fs) n =

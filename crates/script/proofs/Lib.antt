@@ -1,3 +1,4 @@
 pub mod OneLineLaws
 pub mod PortionLaws
 pub mod PortionsLaws
+pub mod CallsLaws

@@ -1,5 +1,5 @@
 -- Whatever the portions, the header and what was listed are the listing. Assumes nothing.
-use Prim.Native.Nat.{ℕ, suc, _+_, _≤_}
+use Prim.Native.Nat.{ℕ, suc, _+_, _≤_, _<_}
 use native.Mathlib.Decide.{decLt}
 use native.Mathlib.Omega.{arith}
 use mathlib.Core.Bool.{false}
@@ -13,12 +13,13 @@ use Rattle.rules.specs.Operation.{Operation}
 use Rattle.rules.specs.Script.{header, newline, readLine, reportLine, scriptLines}
 use Rattle.rules.specs.Text.{split}
 use Rattle.script.specs.Feeding.{whole, begun, lastLine, linesBehind, restBehind, joinFirst, allButLast, lastPart, afterLines, listMemory}
-use Rattle.script.specs.Feed.{keptRoom, keptLine, BegunFed}
-use Rattle.script.specs.Portions.{Portion, usedOf, listedOf, usedBytes, listedBytes, Feeds, endedScript, PortionsListed}
+use Rattle.script.specs.Feed.{keptRoom, keptLine, lastNumber, BegunFed, FedTo}
+use Rattle.script.specs.Portions.{Portion, usedOf, listedOf, usedBytes, listedBytes, lastState, Feeds, endedScript, PortionsListed}
+use Rattle.script.specs.declared.feed.Fed.{Fed as Fed·rt}
 use Rattle.script.specs.declared.feed.State.{State as State·rt}
 use Rattle.script.proofs.feed.FedLaws.{lines-none}
 use Rattle.script.proofs.read.LineEndLaws.{by-test}
-use Rattle.script.proofs.PortionLaws.{joins, joinLines, joinRest, whole-newline, whole-other, whole-nil, split-some, list-append, lines-ended, listing-memory}
+use Rattle.script.proofs.PortionLaws.{joins, joinLines, joinRest, whole-newline, whole-other, whole-nil, begun-all, split-some, list-append, lines-ended, listing-memory}
 use Rattle.script.proofs.read.ReadLaws.{reads-long}
 
 -- What has begun has no newline.
@@ -108,6 +109,24 @@ serves b u = go (split newline u) (split-some newline u) refl
           rest = rw e;
         }
 
+-- What a state keeps behind a portion is the front of the line that has begun.
+
+pub kept-next : (b : List ℕ) {m : List ℕ} {st : State·rt} {input out m′ out′ : List ℕ} {f : Fed·rt} → whole b ≡ [] → keptLine st ≡ take keptRoom b
+    → FedTo m st input out m′ out′ f → st .lines + length input < lastNumber
+    → keptLine (f .state) ≡ take keptRoom (begun (b ++ take (f .used) input))
+kept-next b {input = input} {f = f} open-line kept g few =
+    let u = take (f .used) input in
+    g .enough few .kept ∙ ap (λ (k : List ℕ). take keptRoom (restBehind k u)) kept ∙ serves b u .rest ∙ ap (take keptRoom) (sym (joined b u open-line .rest))
+
+pub kept-begun : (ps : List Portion) (m b : List ℕ) (st : State·rt) → whole b ≡ [] → keptLine st ≡ take keptRoom b → Feeds m st ps
+    → keptLine (lastState st ps) ≡ take keptRoom (begun (b ++ usedBytes ps))
+unfolding Feeds usedBytes usedOf lastState
+kept-begun [] m b st open-line kept feeds = kept ∙ ap (take keptRoom) (sym (begun-all b open-line) ∙ ap begun (sym (append-nil b)))
+kept-begun (p ∷ ps) m b st open-line kept feeds =
+    let u = take (p .fed .used) (p .input) in
+    kept-begun ps (p .memory-after) (begun (b ++ u)) (p .fed .state) (begun-open (b ++ u)) (kept-next b open-line kept (feeds .0) (feeds .1 .0)) (feeds .1 .1)
+    ∙ ap (take keptRoom) (sym (joins (b ++ u) (usedBytes ps) .rest) ∙ ap begun (append-assoc b u (usedBytes ps)))
+
 -- Portions one behind the other, the first where a line b has begun.
 
 pub portions : (ps : List Portion) (m b : List ℕ) (st : State·rt) → whole b ≡ [] → keptLine st ≡ take keptRoom b → Feeds m st ps
@@ -123,8 +142,7 @@ portions (p ∷ ps) m b st open-line kept feeds =
     let next-memory : p .memory-after ≡ afterLines m (whole (b ++ u)) = f .memory ∙ k .memory m ∙ ap (afterLines m) (sym (j .lines)) in
     let next-lines : p .fed .state .lines ≡ st .lines + length (whole (b ++ u)) =
     f .counted ∙ ap (λ (n : ℕ). st .lines + n) (k .many ∙ ap length (sym (j .lines))) in
-    let next-kept : keptLine (p .fed .state) ≡ take keptRoom (begun (b ++ u)) = f .kept ∙ k .rest ∙ ap (take keptRoom) (sym (j .rest)) in
-    let ih = portions ps (p .memory-after) (begun (b ++ u)) (p .fed .state) (begun-open (b ++ u)) next-kept (feeds .1 .1) in
+    let ih = portions ps (p .memory-after) (begun (b ++ u)) (p .fed .state) (begun-open (b ++ u)) (kept-next b open-line kept (feeds .0) (feeds .1 .0)) (feeds .1 .1) in
     let here : take (p .fed .written) (p .output-after) ≡ listMemory (st .lines + 1) m (whole (b ++ u)) =
     f .listed .written ∙ k .listed (st .lines + 1) m ∙ ap (listMemory (st .lines + 1) m) (sym (j .lines)) in
     let number : p .fed .state .lines + 1 ≡ st .lines + 1 + length (whole (b ++ u)) = omega arith in

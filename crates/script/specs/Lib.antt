@@ -4,3 +4,4 @@ pub mod Feeding
 pub mod Play
 pub mod Feed
 pub mod Portions
+pub mod Calls

@@ -38,6 +38,15 @@ unfoldable pub listedBytes : List Portion → List ℕ
 listedBytes [] = []
 listedBytes (p ∷ ps) = listedOf p ++ listedBytes ps
 
+-- the memory and the state that calls leave
+unfoldable pub lastMemory : List ℕ → List Portion → List ℕ
+lastMemory m [] = m
+lastMemory m (p ∷ ps) = lastMemory (p .memory-after) ps
+
+unfoldable pub lastState : State·rt → List Portion → State·rt
+lastState st [] = st
+lastState st (p ∷ ps) = lastState (p .fed .state) ps
+
 -- calls that keep what `feed` promises, each with line numbers enough
 unfoldable pub Feeds : List ℕ → State·rt → List Portion → Type 0
 Feeds m st [] = Unit

@@ -11,9 +11,11 @@ use crate::write::put_number;
 use crate::write::put_text;
 use validate::is_node;
 ghost use mathlib.Core.Path.{_≡_};
+ghost use mathlib.Core.Bool.{not};
 ghost use mathlib.Core.List.{[], _++_};
 ghost use Prim.Native.Nat.{_≤_, _<_};
 ghost use lib.ListN.{length, take};
+ghost use Rattle.rules.specs.Lists.{isEmpty};
 ghost use Rattle.script.specs.Feed.{keptRoom, keptLine, Cut, LinesFeedable, LinesFed, BegunFed, FedTo};
 ghost use Rattle.script.specs.Read.{OneLine, lineOf};
 
@@ -51,6 +53,14 @@ impl State {
             kept: [0u8; KEPT_LINE],
             count: 0,
         }
+    }
+
+    // Whether a line has begun.
+    pub fn begun(self) -> bool
+        ensures { λ t. ⌜ t ≡ not (isEmpty (keptLine self)) ⌝ }
+    {
+        let kept = self.kept;
+        kept_count(&kept, self.count) > 0
     }
 }
 

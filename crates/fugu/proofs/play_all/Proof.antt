@@ -16,13 +16,13 @@ abbrev Inv-loop : tie.InvT-loop
 Inv-loop memory₀ input out₀ run₀ memory out run =
     (length memory ≡ length memory₀)
     × ((length out ≡ length out₀)
-    × ((run .used ≤ length input) × Reaches memory₀ (run₀ .state) (take (run .used) input) memory (run .state)))
+    × ((run .used ≤ length input) × ((run .ended ≡ false) × Reaches memory₀ (run₀ .state) (take (run .used) input) memory (run .state))))
 
 abbrev μ-loop : tie.MeasureT-loop
 μ-loop memory₀ input out₀ run₀ memory out run = length input - run .used
 
 loop-holds : tie.Need-loop-holds Inv-loop μ-loop
-loop-holds c = (refl, (refl, (omega arith, reach-none _ _)))
+loop-holds c = (refl, (refl, (omega arith, (refl, reach-none _ _))))
 
 play-requires : tie.Need-play-requires Inv-loop μ-loop
 play-requires c κs = (c .before .before .if1 .taken, let l = c .before .before .before .before .loop .inv .1 .0 in let r = c .before .before .before .before .before .before .before .before .pre in omega arith)
@@ -38,7 +38,7 @@ loop-again : tie.Need-loop-again Inv-loop μ-loop
 loop-again c =
     let i = c .before .before .before .before .before .before .before .before .before .before .before .loop .inv in
     let p = c .before .before .before .before .before .before .play .ensures (not-false _ (c .if2 .left)) in
-    (c .before .before .before .before .before .memory .given ∙ i .0, (c .before .before .before .out .given ∙ i .1 .0, (p .inside, plays-more (i .1 .1 .1) p)))
+    (c .before .before .before .before .before .memory .given ∙ i .0, (c .before .before .before .out .given ∙ i .1 .0, (p .inside, (p .goes-on, plays-more (i .1 .1 .1 .1) p))))
 
 same-length : tie.Need-same-length Inv-loop μ-loop
 same-length c = c .before .before .loop .inv .0
@@ -50,8 +50,10 @@ returns : tie.Need-returns Inv-loop μ-loop
 returns c e =
     let s = c .before .before .before .before .before .before in
     let l = c .before .before .loop in
-    subst (λ (x : List ℕ). Reaches (s .args .memory .now) (s .args .state) x (l .memory) (l .run .state)) (take-all (l .run .used) (s .args .input .now) (let t = c .if1 .left in omega arith))
-    (l .inv .1 .1 .1)
+    record {
+      reaches = rw (take-all (l .run .used) (s .args .input .now) (let t = c .if1 .left in omega arith)) at (l .inv .1 .1 .1 .1);
+      goes-on = l .inv .1 .1 .1 .0;
+    }
 
 same-length-3 : tie.Need-same-length-3 Inv-loop μ-loop
 same-length-3 c = c .before .before .before .before .before .memory .given ∙ c .before .before .before .before .before .before .before .before .before .before .before .loop .inv .0

@@ -12,10 +12,11 @@ use Rattle.rules.specs.Memory.{queuedAt, word, queueAt, wordsAt}
 use Rattle.rules.specs.Node.{Node, Message}
 use Rattle.rules.specs.Settling.{settle, Moved, pass, drain, mayStay, oneMore, restTimer}
 use Rattle.rules.specs.Sound.{Sound}
+use Rattle.rules.proofs.Steps.SettlingLaws.{drain-queue, settle-moved}
 use Rattle.memory.specs.Holds.{Holds, Becomes, Kept}
 use Rattle.memory.proofs.PieceLaws.{holds-pieces}
 use Rattle.memory.proofs.queue.QueueLaws.{message-read}
-use Rattle.node.specs.Steps.{Headed, Settled, headOf, movingHead}
+use Rattle.node.specs.Steps.{Drained, Headed, Settled, headOf, movingHead}
 use Rattle.node.proofs.settling.MoveLaws.{pass-ends, drain-ends, drain-on, head-good-group, moving-length, moving-sound, pass-on, pass-stays}
 
 -- a pass that has moved i messages before
@@ -112,9 +113,11 @@ module _ {m : List ℕ} {n : Node} {r : List ℕ} {i : ℕ} (p : Passing m n r i
 -- the timer put to rest, it is settled
 pub passed-settled : {m m′ : List ℕ} {n : Node} {r : List ℕ} {i : ℕ} → Passed m n r i → Becomes m m′ (Sound paper01) restTimer → Settled m′ n r i
 unfolding settle
-passed-settled {m′ = m′} {r = r} p rest =
+passed-settled {m′ = m′} {n = n} {r = r} p rest =
+    let count = sym (ap (λ (s : Moved). s .moved) (p .passed)) in
     record {
-      count = sym (ap (λ (s : Moved). s .moved) (p .passed));
+      count = count;
+      loss = ap (λ (k : ℕ). k + length (settle paper01 n .node .queue)) count ∙ settle-moved paper01 n;
       holds = subst (λ (k : Node). Holds m′ (restTimer k) r) (sym (ap (λ (s : Moved). s .node) (p .passed))) (rest (p .node) r (p .holds) (p .sound));
     }
 
@@ -140,9 +143,14 @@ module _ {m : List ℕ} {n : Node} {r : List ℕ} (d : Draining m n r) where
       let h = draining-headed some in
       record { node = movingHead (d .node); holds = becomes (d .node) r (d .holds) h; sound = moving-sound h; drained = d .drained ∙ drain-on h }
 
-  pub draining-ends : word m queuedAt ≡ 0 → Holds m (drain paper01 (n .queue) n) r
-  draining-ends none =
-      subst (λ (k : Node). Holds m k r) (sym (d .drained ∙ drain-ends (d .node) (sym draining-count ∙ none))) (d .holds)
+  pub draining-ends : word m queuedAt ≡ 0 → {i : ℕ} → i ≡ length (n .queue) → Drained m n r i
+  draining-ends none count =
+      let empty : length (drain paper01 (n .queue) n .queue) ≡ 0 = ap length (drain-queue paper01 (n .queue) n) in
+      record {
+        count = count;
+        loss = omega arith;
+        holds = subst (λ (k : Node). Holds m k r) (sym (d .drained ∙ drain-ends (d .node) (sym draining-count ∙ none))) (d .holds);
+      }
 
 -- a move takes one from the count
 pub moved-count : {m m′ : List ℕ} {n : Node} {r : List ℕ} → Holds m n r → Headed n → Becomes m m′ Headed movingHead → word m′ queuedAt + 1 ≡ word m queuedAt

@@ -1,11 +1,14 @@
 -- A portion fed, whatever the state. Assumes nothing.
-use Prim.Native.Nat.{ℕ, _+_, _≤_, _<_}
+use Prim.Native.Nat.{ℕ, zero, suc, _+_, _≤_, _<_}
 use native.Mathlib.Decide.{decLt}
 use native.Mathlib.Omega.{arith}
-use mathlib.Core.Bool.{Bool}
+use mathlib.Core.Bool.{Bool, not}
 use mathlib.Core.List.{List, [], _∷_}
 use mathlib.Core.Path.{_≡_, refl, sym, ap, _∙_, subst}
+use lib.Dec.{ltb}
 use lib.ListN.{length, take}
+use borrow.Author.Tests.{lt-ltb}
+use Rattle.rules.specs.Lists.{isEmpty}
 use Rattle.rules.specs.MemoryTest.{isMemory}
 use Rattle.rules.specs.Script.{newline}
 use Rattle.rules.specs.Text.{decimal, split}
@@ -55,6 +58,15 @@ fed-first {m} {lines} {input} {f = f} g =
 pub kept-empty : (st : State·rt) → st .count ≡ 0 → [] ≡ keptLine st
 unfolding keptLine lineOf
 kept-empty st e = rw e
+
+-- where as many bytes are a line, it has begun exactly where the count is above 0
+some-counted : (r : ℕ) (xs : List ℕ) → r ≤ length xs → ltb 0 r ≡ not (isEmpty (take r xs))
+some-counted zero xs within = refl
+some-counted (suc r) [] within = absurd (omega arith)
+some-counted (suc r) (x ∷ xs) within = lt-ltb 0 (suc r) (omega arith)
+
+pub begun-counted : {l : List ℕ} (r : ℕ) (kept : List ℕ) → r ≤ length kept → take r kept ≡ l → ltb 0 r ≡ not (isEmpty l)
+begun-counted r kept within same = some-counted r kept within ∙ ap (λ (x : List ℕ). not (isEmpty x)) same
 
 -- and what is kept is one line
 pub kept-one : {l : List ℕ} (t : List ℕ) → l ≡ lineOf t → OneLine l

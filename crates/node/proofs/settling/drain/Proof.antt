@@ -50,7 +50,7 @@ same-length c = c .before .before .loop .inv .0
 
 returns : tie.Need-returns Inv-loop μ-loop
 unfolding word
-returns c n r h s = record { count = holds-pieces h .queued; holds = draining-ends (c .before .before .loop .inv .1 n r h s) (c .if1 .left) }
+returns c n r h s = draining-ends (c .before .before .loop .inv .1 n r h s) (c .if1 .left) (holds-pieces h .queued)
 
 pub drain-spec : {M : Type 1} → statement M
 drain-spec =

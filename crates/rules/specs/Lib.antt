@@ -23,3 +23,4 @@ pub mod DemandThree
 pub mod Unseen
 pub mod Dumps
 pub mod Reading
+pub mod Hypotheses

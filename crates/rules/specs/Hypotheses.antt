@@ -1,5 +1,6 @@
--- What the statements ask for, told from the other side: which builds make sense and differ in their frames alone, which nodes agree, where a message waits, and what the
--- tests of a node and of a memory ask. A statement whose hypothesis asked for more would still be proved; one of these would not. Assumes nothing.
+-- What the statements ask for, told from the other side: which builds make sense, which differ in their frames alone, which nodes agree, where a
+-- message waits, and what the tests of a node and of a memory ask. A hypothesis that asked for more would make a statement say less and leave it proved;
+-- one of these it would make false. Assumes nothing.
 use Prim.Native.Nat.{ℕ, _+_, _≤_}
 use mathlib.Core.Path.{_≡_}
 use mathlib.Core.Logic.{_≢_, _↔_}
@@ -28,7 +29,7 @@ pub record BuildExamples : Type 0 where
   pub papers : Sensible paper01
   pub all-frames : Sensible (build 96 0 8 16 256)
   pub papers-all-frames : SameButFrames paper01 (build 96 0 8 16 256)
-  -- so do any two that part as many pages in frames and swap pages
+  -- as do any two that part as many pages into frames and swap pages
   pub any-parting : (f s f′ s′ p q t : ℕ) → f + s ≡ f′ + s′ → SameButFrames (build f s p q t) (build f′ s′ p q t)
 
 -- the node with these places in the buffer of group g
@@ -49,7 +50,8 @@ pub record AgreeExamples : Type 0 where
   -- the nodes of two memories with the same dump
   pub same-words : (m m′ : List ℕ) → isMemory m ≡ true → dump m ≡ dump m′ → Agree (nodeAt m) (nodeAt m′)
 
--- a buffer whose two pages are in frame 4 and in the swap page with number 37: 8 messages behind 2 used-up places. Its places are of no account here
+-- a buffer whose two pages are in frame 4 and in the swap page with number 37, with 8 messages behind 2 used-up places; what stands in its places is
+-- not asked
 abbrev pub twoPages : Buffer
 twoPages = record { used = 2; count = 8; frames = 4 ∷ 37 ∷ []; places = [] }
 

@@ -12,3 +12,4 @@ pub mod TestComputes
 pub mod MemoryCasesLaws
 pub mod PagingCasesLaws
 pub mod WipedCasesLaws
+pub mod RunCasesLaws

@@ -1,6 +1,7 @@
--- The table of refusals, the demands, what a dump tells, and what E reads.
+-- The table of refusals, the demands, what a dump tells, what E reads, and what the statements ask for.
 pub mod ConditionsLaws
 pub mod DemandOneLaws
 pub mod DemandThreeLaws
 pub mod DumpsLaws
 pub mod ReadingLaws
+pub mod HypothesesLaws

@@ -10,3 +10,4 @@ pub mod MemoryCases
 pub mod PagingCases
 pub mod WipedCases
 pub mod TypeCases
+pub mod RunCases

@@ -1,5 +1,5 @@
--- Demand 1, as far as the rules go: "Any memory, any operation, any script line gets an answer and an end; each refusal has its number, a
--- report otherwise of zeros, and memory exactly as it was." That there is an end is the definitions' own: they are total. Assumes nothing.
+-- Demand 1, as far as the rules go: on any memory any operation, and any script line, has an answer; a refusal has its number, a report of zeros
+-- beside it, and the memory as it was. That there is an end is the definitions' own: they are total. Assumes nothing.
 use Prim.Native.Nat.{ℕ, _≤_, _<_}
 use mathlib.Core.Path.{_≡_}
 use mathlib.Core.Logic.{_≢_, _↔_}

@@ -1,6 +1,6 @@
--- Demand 3, the statement: "For every run from power-on, of any length: each group, whatever the others and the timer did, has had the
--- answers and upcalls of its private first-in first-out line; its line in memory is its accepted messages less those it disposed of; and a
--- message accepted at place p of the hardware queue has left it once p × 256 ticks have followed." Assumes nothing.
+-- Demand 3, the statement: after every run from power-on each group, whatever the others and the timer did, has had the answers and upcalls of its
+-- private line; its line in memory is its accepted messages without those that it disposed of; and a message accepted at place p of the hardware
+-- queue has left it once p timeouts' ticks have followed. Assumes nothing.
 use Prim.Native.Nat.{ℕ, _+_, _*_, _≤_}
 use mathlib.Core.Path.{_≡_}
 use mathlib.Core.Bool.{true}

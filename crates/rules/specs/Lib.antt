@@ -24,3 +24,4 @@ pub mod Touches
 pub mod Unseen
 pub mod Dumps
 pub mod Reading
+pub mod Hypotheses

@@ -1,5 +1,5 @@
--- "[he] can't tell which": where pages are shows in no report. A build reports by how many pages it has in all, and not by how many of them are
--- frames. Assumes nothing.
+-- Order 1's swap space shows in no report but by "Answer 6", which "now read[s] 96 for 32": a build reports by how many pages it has in all, and not
+-- by how many of them are frames, so nobody is told where a page is. Assumes nothing.
 use mathlib.Core.Path.{_≡_}
 use mathlib.Core.List.{List}
 use Rattle.rules.specs.Build.{Build, Sensible, pageCount}

@@ -5,7 +5,7 @@ use mathlib.Core.List.{[], _∷_, _++_}
 use lib.ListN.{take}
 use Rattle.rules.specs.Operation.{schedule, user, dispose}
 use Rattle.rules.specs.MemoryTest.{isMemory}
-use Rattle.rules.specs.Cases.MemoryCases.{cut, fresh, forced, busy, sevenUsed, swapped, firstSwapped}
+use Rattle.rules.specs.Cases.MemoryCases.{cut, fresh, forced, busy, sevenUsed, swapped, firstSwapped, nobodys}
 use Rattle.rules.specs.Cases.MemoryCases.{MapCases, StepOnMemoryCases, NodeCases, NoNodeCases, HeadCases, CountCases}
 use Rattle.rules.proofs.Cases.Computes.{computes}
 use Rattle.rules.proofs.Cases.MemoryParts.{counts-in, flags-in, unused-in, idle-in}
@@ -49,6 +49,11 @@ first-swapped : isMemory firstSwapped ≡ true
 unfolding computes
 first-swapped = is-node _ refl
 
+-- the one in which they are group 1's pages
+nobodys-node : isMemory nobodys ≡ true
+unfolding computes
+nobodys-node = is-node _ refl
+
 -- the one whose timer force keeps
 forced-timer : isMemory forced ≡ true
 unfolding computes
@@ -65,6 +70,8 @@ node-cases =
       edges = is-node _ refl;
       swapped-node = swapped-node;
       first-swapped = first-swapped;
+      nothing-sent-out = is-node _ refl;
+      nobodys-node = nobodys-node;
       forced-timer = forced-timer;
     }
 
@@ -101,6 +108,9 @@ no-node-cases =
       swap-listed-twice = page-fails _ 37 refl;
       page-96 = page-fails _ 95 refl;
       page-97th = node-fails _ 7 refl;
+      swap-97 = node-fails _ 7 refl;
+      free-97 = node-fails _ 7 refl;
+      listed-98 = node-fails _ 7 refl;
       frame-in-swap-line = node-fails _ 8 refl;
       swap-in-free-line = node-fails _ 10 refl;
       entered-missing = node-fails _ 9 refl;
@@ -108,6 +118,9 @@ no-node-cases =
       entered-twice = node-fails _ 9 refl;
       entered-free = node-fails _ 9 refl;
       entered-swap = node-fails _ 10 refl;
+      entered-97 = node-fails _ 10 refl;
+      entered-first = node-fails _ 9 refl;
+      entered-last = node-fails _ 9 refl;
       list-too-long = node-fails _ 5 refl;
       list-too-short = node-fails _ 5 refl;
       list-of-none = node-fails _ 5 refl;
@@ -165,6 +178,9 @@ no-node-cases =
       head-of-another = node-fails _ 14 refl;
       head-group-buffered = node-fails _ 14 refl;
       head-group-revoked = node-fails _ 14 refl;
+      head-of-nobody-rested = node-fails _ 14 refl;
+      head-of-another-rested = node-fails _ 14 refl;
+      head-group-revoked-rested = node-fails _ 14 refl;
       timer-idle = node-fails _ 14 refl;
       timer-force-off = node-fails _ 14 refl;
       timer-of-nobody = node-fails _ 14 refl;
@@ -202,6 +218,7 @@ head-cases =
       head-buffered = head-of _ seven-used;
       head-words = head-reads _ _ seven-used refl;
       head-nobody = head-of _ first-swapped;
+      head-nobodys = head-of _ nobodys-node;
       head-no-line = head-of _ forced-timer;
       head-no-node = head-none _ (node-fails _ 1 refl);
     }

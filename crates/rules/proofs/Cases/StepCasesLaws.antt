@@ -28,6 +28,7 @@ tick-cases =
       ticks-add = refl;
       ticks-idle = refl;
       ticks-over = refl;
+      ticks-by-t-alone = refl;
       timeout-all = refl;
       timer-word = refl;
       timeout-word = refl;

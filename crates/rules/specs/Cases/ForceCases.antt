@@ -18,6 +18,13 @@ pub record ForceCases : Type 0 where
   -- "`B,1` turns force on", and atomic, and nothing else
   pub force-words : Stands (bytes "S,3\nB,1\n") 420
       (1 ∷ 0 ∷ 1 ∷ 0 ∷ replicate 108 0)
+  -- "turns force on": a second `B,1` does not turn it off
+  pub begin-twice : Lists
+      ("S,1\n" gives "1,0,0,0,0,0\n"
+      ∷ "B,1\n" gives "2,0,0,0,0,0\n"
+      ∷ "B,1\n" gives "3,0,0,0,0,0\n"
+      ∷ "T,256\n" gives "4,0,0,3,0,0\n"
+      ∷ [])
   -- "any other field on B is 2", before 7; leading zeros are read
   pub force-fields : Lists
       ("B,2\n" gives "1,2,0,0,0,0\n"
@@ -73,6 +80,29 @@ pub record ForceCases : Type 0 where
       ∷ "D\n" gives "5,0,0,0,0,0\n"
       ∷ "T,256\n" gives "6,0,0,3,0,0\n"
       ∷ [])
+  -- and so do M, E, P, L and D
+  pub force-until-n : Lists
+      ("S,1\n" gives "1,0,0,0,0,0\n"
+      ∷ "B,1\n" gives "2,0,0,0,0,0\n"
+      ∷ "A,1,7\n" gives "3,0,0,0,0,0\n"
+      ∷ "M\n" gives "4,0,1,0,0,0\n"
+      ∷ "E,0\n" gives "5,0,7,0,0,0\n"
+      ∷ "P,1\n" gives "6,0,1,0,0,0\n"
+      ∷ "L,0\n" gives "7,0,1,0,0,0,0,1,1\n"
+      ∷ "D\n" gives "8,0,0,0,0,0\n"
+      ∷ "T,256\n" gives "9,0,0,3,0,0\n"
+      ∷ [])
+  -- none of which turns it on
+  pub force-by-b-alone : Lists
+      ("S,1\n" gives "1,0,0,0,0,0\n"
+      ∷ "A,1,7\n" gives "2,0,0,0,1,0\n"
+      ∷ "M\n" gives "3,0,1,0,0,0\n"
+      ∷ "E,0\n" gives "4,0,7,0,0,0\n"
+      ∷ "P,1\n" gives "5,0,1,0,0,0\n"
+      ∷ "L,0\n" gives "6,0,1,0,0,0,0,1,1\n"
+      ∷ "D\n" gives "7,0,0,0,0,0\n"
+      ∷ "T,256\n" gives "8,0,0,0,0,0\n"
+      ∷ [])
   -- "and the group running": that of another is nothing to the runner's section
   pub force-of-another : Lists
       ("S,1\n" gives "1,0,0,0,0,0\n"
@@ -113,6 +143,17 @@ pub record ForceCases : Type 0 where
       ∷ "T,155\n" gives "10,0,0,0,0,0\n"
       ∷ "T,1\n" gives "11,0,0,3,0,0\n"
       ∷ [])
+  -- nor does B, with any field
+  pub begin-leaves-timer : Lists
+      ("S,1\n" gives "1,0,0,0,0,0\n"
+      ∷ "B,1\n" gives "2,0,0,0,0,0\n"
+      ∷ "T,100\n" gives "3,0,0,0,0,0\n"
+      ∷ "B\n" gives "4,0,0,0,0,0\n"
+      ∷ "B,0\n" gives "5,0,0,0,0,0\n"
+      ∷ "B,1\n" gives "6,0,0,0,0,0\n"
+      ∷ "T,155\n" gives "7,0,0,0,0,0\n"
+      ∷ "T,1\n" gives "8,0,0,3,0,0\n"
+      ∷ [])
   -- it is one timer: a message that comes finds the ticks counted
   pub one-timer : Lists
       ("S,1\n" gives "1,0,0,0,0,0\n"
@@ -140,6 +181,17 @@ pub record ForceCases : Type 0 where
       ∷ "D\n" gives "5,0,0,1,0,0\n"
       ∷ "T,56\n" gives "6,0,0,0,0,0\n"
       ∷ "T,200\n" gives "7,0,0,3,0,0\n"
+      ∷ [])
+  -- and of a revoked group
+  pub dispose-sets-back-revoked : Lists
+      ("S,1\n" gives "1,0,0,0,0,0\n"
+      ∷ "B,1\n" gives "2,0,0,0,0,0\n"
+      ∷ "T,256\n" gives "3,0,0,3,0,0\n"
+      ∷ "A,1,7\n" gives "4,0,0,0,0,1\n"
+      ∷ "T,200\n" gives "5,0,0,0,0,0\n"
+      ∷ "D\n" gives "6,0,0,1,0,0\n"
+      ∷ "T,56\n" gives "7,0,0,0,0,0\n"
+      ∷ "T,200\n" gives "8,0,0,3,0,0\n"
       ∷ [])
   -- S to another sets it to 0, though that one has force on too
   pub schedule-sets-back : Lists
@@ -294,6 +346,20 @@ pub record RevokedCases : Type 0 where
       ∷ "B,1\n" gives "7,0,0,0,0,0\n"
       ∷ "A,1,8\n" gives "8,0,0,0,0,1\n"
       ∷ [])
+  -- nor do D, M, P, L, S to the one running, an arrival for another, or ticks
+  pub nothing-ends-revoked : Lists
+      ("S,1\n" gives "1,0,0,0,0,0\n"
+      ∷ "A,1,7\n" gives "2,0,0,0,1,0\n"
+      ∷ "T,256\n" gives "3,0,0,3,0,1\n"
+      ∷ "D\n" gives "4,0,0,1,0,0\n"
+      ∷ "M\n" gives "5,0,0,0,0,0\n"
+      ∷ "P,1\n" gives "6,0,1,0,0,0\n"
+      ∷ "L,0\n" gives "7,0,1,0,0,0,0,1,1\n"
+      ∷ "S,1\n" gives "8,0,0,0,0,0\n"
+      ∷ "A,2,9\n" gives "9,0,0,0,0,1\n"
+      ∷ "T,1\n" gives "10,0,0,0,0,0\n"
+      ∷ "A,1,8\n" gives "11,0,0,0,0,1\n"
+      ∷ [])
   -- nor does a refused N
   pub refused-end-revoked : Lists
       ("S,1\n" gives "1,0,0,0,0,0\n"
@@ -313,6 +379,18 @@ pub record RevokedCases : Type 0 where
       ∷ "D\n" gives "6,0,0,1,0,0\n"
       ∷ "A,2,6\n" gives "7,0,0,0,0,0\n"
       ∷ "N\n" gives "8,0,0,0,2,0\n"
+      ∷ [])
+  -- nor where it is in a section of its own
+  pub runner-alone-atomic : Lists
+      ("S,2\n" gives "1,0,0,0,0,0\n"
+      ∷ "B\n" gives "2,0,0,0,0,0\n"
+      ∷ "S,1\n" gives "3,0,0,0,0,0\n"
+      ∷ "A,1,7\n" gives "4,0,0,0,1,0\n"
+      ∷ "A,2,5\n" gives "5,0,0,0,0,0\n"
+      ∷ "T,256\n" gives "6,0,0,3,0,2\n"
+      ∷ "S,2\n" gives "7,0,0,0,0,0\n"
+      ∷ "D\n" gives "8,0,0,1,0,0\n"
+      ∷ "N\n" gives "9,0,0,0,0,0\n"
       ∷ [])
   -- revoked is the group's: it survives "the loss of the processor"
   pub revoked-survives : Lists

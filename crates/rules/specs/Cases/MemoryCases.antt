@@ -1,5 +1,6 @@
 -- The memory: where each number stands, what power-on and a step do to words, answer 1, and for each clause of "Memory is a node when" a
--- memory that differs from a node's in that clause alone. Addresses are docs/MEMORY.md's. Assumes nothing.
+-- memory that differs from a node's in that clause and is none. Another clause fails with it only where it must, as with a count above its line's
+-- room. Addresses are docs/MEMORY.md's. Assumes nothing.
 use Prim.Native.Nat.{ℕ, zero, suc, _+_, _-_}
 use mathlib.Core.Path.{_≡_}
 use mathlib.Core.Bool.{true, false}
@@ -128,6 +129,10 @@ firstSwapped =
     ∷ 8072 holds (4 ∷ [])
     ∷ [])
 
+-- the same, but that group 1 has the pages, and group 3 none
+abbrev pub nobodys : List ℕ
+nobodys = put 200 (7 ∷ 2 ∷ 2 ∷ []) (put 212 (37 ∷ 4 ∷ []) (put 424 (0 ∷ 0 ∷ 0 ∷ []) (put 436 (0 ∷ 0 ∷ []) firstSwapped)))
+
 -- where each number stands
 pub record MapCases : Type 0 where
   -- "At power-on nobody runs, every queue, buffer, flag and descriptor is empty or off, all message words are 0."; "at power-on 0 to 31"
@@ -218,10 +223,14 @@ pub record NodeCases : Type 0 where
   pub swapped-node : isMemory swapped ≡ true
   -- the first page of a group that does not run, in swap, and the group not atomic; "each count staying at 4,294,967,295 once there"
   pub first-swapped : isMemory firstSwapped ≡ true
+  -- nothing is asked of the counts: none was sent out or brought in, with a page in swap
+  pub nothing-sent-out : isMemory (put 8006 (0 ∷ 0 ∷ []) swapped) ≡ true
+  -- nobody runs, and so group 1 does not: it has a line and is not atomic, and its first page is in swap
+  pub nobodys-node : isMemory nobodys ≡ true
   -- "an empty queue has a timer above 0 only where the running group has force on", up to 255; a revoked group with nothing in its buffer
   pub forced-timer : isMemory forced ≡ true
 
--- "Memory is a node when", clause by clause: each of these is a node but for one clause
+-- "Memory is a node when", clause by clause: each of these would be a node but for a clause, and what must fail with it
 pub record NoNodeCases : Type 0 where
   -- the size
   pub too-short : isMemory (take 8103 fresh) ≡ false
@@ -267,6 +276,10 @@ pub record NoNodeCases : Type 0 where
   pub page-96 : isMemory (put 8071 (96 ∷ []) fresh) ≡ false
   -- and beside all 96: it stands in the swap line for swap page 5, which group 3 holds
   pub page-97th : isMemory (put 8004 (64 ∷ []) (put 8071 (96 ∷ []) swapped)) ≡ false
+  -- a number above 96: in the swap line, in the free line, and in the list of group 5, whose message stands where page 98 would be, past the node's size
+  pub swap-97 : isMemory (put 8004 (64 ∷ []) (put 8071 (97 ∷ []) swapped)) ≡ false
+  pub free-97 : isMemory (put 3 (32 ∷ []) (put 195 (97 ∷ []) swapped)) ≡ false
+  pub listed-98 : isMemory (put 649 (1 ∷ 1 ∷ []) (put 660 (98 ∷ []) swapped) ++ (replicate 44 0 ++ (1 ∷ 5 ∷ replicate 70 0))) ≡ false
   -- a frame in the swap line, and in no other: swap page 0 is in its stead in the list of group 3, which has one message
   pub frame-in-swap-line :
       isMemory (put 0 (0 ∷ []) (put 424 (0 ∷ 1 ∷ 1 ∷ []) (put 436 (32 ∷ 0 ∷ []) (put 1443 (0 ∷ 0 ∷ []) (put 3396 (1 ∷ 5 ∷ []) (put 3756 (0 ∷ 0 ∷ 0 ∷ []) (put 8004 (64 ∷ 1 ∷ 3 ∷ 2 ∷ 4 ∷ upFrom 33 63) swapped)))))))
@@ -280,6 +293,11 @@ pub record NoNodeCases : Type 0 where
   pub entered-twice : isMemory (put 8005 (2 ∷ []) (put 8073 (4 ∷ []) swapped)) ≡ false
   pub entered-free : isMemory (put 8005 (2 ∷ []) (put 8073 (5 ∷ []) swapped)) ≡ false
   pub entered-swap : isMemory (put 8005 (2 ∷ []) (put 8073 (37 ∷ []) swapped)) ≡ false
+  -- with a number above 96
+  pub entered-97 : isMemory (put 8005 (2 ∷ []) (put 8073 (97 ∷ []) swapped)) ≡ false
+  -- frame 0 is missing, or frame 31, and a swap page stands there
+  pub entered-first : isMemory (put 8072 (37 ∷ []) fullPages) ≡ false
+  pub entered-last : isMemory (put 8103 (37 ∷ []) fullPages) ≡ false
   -- "each list has its rounded-up length": one frame too many, one too few
   pub list-too-long : isMemory (put 425 (6 ∷ []) (put 1164 (replicate 18 0) busy)) ≡ false
   pub list-too-short : isMemory (put 424 (2 ∷ 15 ∷ []) (put 1092 (replicate 18 0) sixteen)) ≡ false
@@ -362,6 +380,10 @@ pub record NoNodeCases : Type 0 where
       isMemory (put 3 (29 ∷ []) (put 193 (0 ∷ []) (put 201 (1 ∷ 1 ∷ []) (put 212 (31 ∷ []) (put 3324 (1 ∷ 5 ∷ []) (put 8005 (3 ∷ []) (put 8074 (31 ∷ []) busy))))))) ≡ false
   -- a revoked group "counts as buffered, empty or not"
   pub head-group-revoked : isMemory (put 199 (1 ∷ []) busy) ≡ false
+  -- a timer of 0 does not excuse it
+  pub head-of-nobody-rested : isMemory (put 0 (0 ∷ 0 ∷ []) busy) ≡ false
+  pub head-of-another-rested : isMemory (put 0 (4 ∷ 0 ∷ []) busy) ≡ false
+  pub head-group-revoked-rested : isMemory (put 1 (0 ∷ []) (put 199 (1 ∷ []) busy)) ≡ false
   -- "if it is empty the timer is 0", now but for "where the running group has force on": nobody has, the runner has not, nobody runs, another runs
   pub timer-idle : isMemory (put 1 (1 ∷ []) fresh) ≡ false
   pub timer-force-off : isMemory (put 198 (0 ∷ []) forced) ≡ false
@@ -377,9 +399,10 @@ pub record HeadCases : Type 0 where
   -- from a frame's: in the list's first, behind the used-up places
   pub head-buffered : headPart sevenUsed ≡ record { start = 1228; len = 8 }
   pub head-words : headWords sevenUsed ≡ replicate 8 16
-  -- "the running group's first, an empty part if there is none": nobody runs, and group 3 has messages; or a group with no line runs, which
-  -- counts as buffered
+  -- "the running group's first, an empty part if there is none": nobody runs, and group 3 has messages, or group 1; or a group with no line runs,
+  -- which counts as buffered
   pub head-nobody : headPart firstSwapped ≡ record { start = 0; len = 0 }
+  pub head-nobodys : headPart nobodys ≡ record { start = 0; len = 0 }
   pub head-no-line : headPart forced ≡ record { start = 0; len = 0 }
   -- "or the memory is no node"
   pub head-no-node : headPart (put 1 (256 ∷ []) busy) ≡ record { start = 0; len = 0 }

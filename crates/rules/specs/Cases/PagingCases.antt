@@ -44,6 +44,12 @@ pub record SendCases : Type 0 where
       ∷ 8006 holds (1 ∷ 0 ∷ [])
       ∷ 8072 holds (upFrom 1 31 ++ (0 ∷ []))
       ∷ [])
+  -- and so it is after every operation of its own that changes nothing of its list of pages
+  pub not-renewed-by-reading : LeavesFrom (packed 1 (5 ∷ 6 ∷ [])) (bytes "S,2\nM\nE,0\nB\nP,1\nL,0\nT,1\nD\nN\nS,2\nS,0\nA,3,3\n")
+      (324 holds (32 ∷ 0 ∷ [])
+      ∷ 436 holds (0 ∷ 0 ∷ [])
+      ∷ 8072 holds (1 ∷ 2 ∷ [])
+      ∷ [])
   -- "except the running group's first page": frame 0 is group 2's, which runs; frame 1 is sent out
   pub runner-spared : LeavesFrom (packed 1 (5 ∷ [])) (bytes "S,2\nA,3,3\n")
       (212 holds (32 ∷ upFrom 2 30 ++ (0 ∷ []))
@@ -62,6 +68,23 @@ pub record SendCases : Type 0 where
       (324 holds (32 ∷ upFrom 1 31 ++ (0 ∷ []))
       ∷ 436 holds (0 ∷ 0 ∷ [])
       ∷ 8072 holds (upFrom 1 31 ++ (0 ∷ []))
+      ∷ [])
+  -- whatever its flags: group 2 is atomic and pending, has force on and is revoked
+  pub other-flags-not-spared : LeavesFrom (packed 1 (5 ∷ [])) (bytes "S,2\nB,1\nT,256\nS,3\nA,1,7\n")
+      (308 holds (1 ∷ 1 ∷ 1 ∷ 1 ∷ [])
+      ∷ 324 holds (32 ∷ 0 ∷ [])
+      ∷ 8004 holds (63 ∷ 32 ∷ 1 ∷ 0 ∷ [])
+      ∷ [])
+  -- with nobody running the first page of group 1 goes too, and does not come back
+  pub nobodys-first-not-spared : LeavesFrom (packed 0 []) (bytes "A,3,3\n")
+      (212 holds (32 ∷ upFrom 1 31 ++ (0 ∷ []))
+      ∷ 436 holds (0 ∷ 0 ∷ [])
+      ∷ 8004 holds (63 ∷ 32 ∷ 1 ∷ 0 ∷ [])
+      ∷ [])
+  -- "and the page being written" is the new one: the group's last page before it, full, goes
+  pub own-last-not-spared : LeavesFrom (packed 1 (replicate 8 5)) (bytes "A,2,6\n")
+      (324 holds (32 ∷ 0 ∷ 0 ∷ [])
+      ∷ 8004 holds (63 ∷ 32 ∷ 1 ∷ 0 ∷ [])
       ∷ [])
   -- while S settles, the running group is the new one
   pub new-runner-spared : LeavesFrom (packed 1 (5 ∷ [])) (bytes "S,3\nA,3,3\nS,2\n")
@@ -115,6 +138,33 @@ pub record BringCases : Type 0 where
       ∷ 3396 holds concatMap kept (replicate 8 7)
       ∷ 8004 holds (63 ∷ 32 ∷ 2 ∷ 1 ∷ upFrom 33 63 ++ (0 ∷ upFrom 2 30 ++ (0 ∷ 1 ∷ [])))
       ∷ [])
+  -- "before it is written", its last place too
+  pub last-place-written : LeavesFrom (packed 1 (replicate 7 5)) (bytes "A,1,7\nA,2,6\n")
+      (212 holds (32 ∷ 2 ∷ 3 ∷ [])
+      ∷ 312 holds (0 ∷ 8 ∷ 1 ∷ [])
+      ∷ 324 holds (1 ∷ 0 ∷ [])
+      ∷ 8004 holds (63 ∷ 32 ∷ 2 ∷ 1 ∷ [])
+      ∷ [])
+  -- the page is that of the place written, used-up places counted: behind three of them and seven messages it is the second
+  pub written-behind-used : LeavesFrom (packed 2 (replicate 10 5)) (bytes "S,2\nD\nD\nD\nA,1,7\nA,2,6\n")
+      (212 holds (32 ∷ 3 ∷ 4 ∷ [])
+      ∷ 312 holds (3 ∷ 8 ∷ 2 ∷ [])
+      ∷ 324 holds (0 ∷ 2 ∷ 0 ∷ [])
+      ∷ 8004 holds (63 ∷ 32 ∷ 2 ∷ 1 ∷ [])
+      ∷ [])
+  -- a message that begins a page is not written to the one before it, which is full and stays in swap, whether its group runs or not
+  pub last-stays-in-swap : LeavesFrom (packed 1 (replicate 8 5)) (bytes "A,1,7\nA,2,6\n")
+      (212 holds (33 ∷ 2 ∷ 3 ∷ [])
+      ∷ 312 holds (0 ∷ 9 ∷ 2 ∷ [])
+      ∷ 324 holds (32 ∷ 1 ∷ 0 ∷ [])
+      ∷ 8004 holds (62 ∷ 32 ∷ 2 ∷ 0 ∷ [])
+      ∷ [])
+  pub last-stays-as-it-runs : LeavesFrom (packed 2 (replicate 16 5)) (bytes "S,2\nA,1,7\nA,2,6\n")
+      (212 holds (33 ∷ 3 ∷ 4 ∷ [])
+      ∷ 312 holds (0 ∷ 17 ∷ 3 ∷ [])
+      ∷ 324 holds (0 ∷ 32 ∷ 2 ∷ 0 ∷ [])
+      ∷ 8004 holds (62 ∷ 32 ∷ 2 ∷ 0 ∷ [])
+      ∷ [])
   -- the running group writes to its second page, in swap: its first is spared again, though it has been in a frame longest
   pub runner-writes : LeavesFrom (packed 2 (replicate 9 5)) (bytes "S,2\nA,1,7\nA,2,6\n")
       (212 holds (32 ∷ upFrom 3 29 ++ (1 ∷ 0 ∷ []))
@@ -122,6 +172,11 @@ pub record BringCases : Type 0 where
       ∷ 324 holds (0 ∷ 2 ∷ 0 ∷ [])
       ∷ 1236 holds (kept 5 ++ (kept 6 ++ replicate 54 0))
       ∷ 8072 holds (0 ∷ upFrom 3 29 ++ (1 ∷ 2 ∷ []))
+      ∷ [])
+  -- with nobody running it is not: the first page of the group that is written to goes for its second
+  pub own-first-not-spared : LeavesFrom (packed 2 (replicate 9 5)) (bytes "S,2\nA,1,7\nS,0\nA,2,6\n")
+      (324 holds (32 ∷ 0 ∷ 0 ∷ [])
+      ∷ 8004 holds (63 ∷ 32 ∷ 2 ∷ 1 ∷ [])
       ∷ [])
   -- "and, once settling is done, a running group's first page", with frame 1 free
   pub runner-brought : LeavesFrom (packed 1 (5 ∷ [])) (bytes "A,1,7\nS,1\n" ++ (copies 8 "D\n" ++ bytes "S,2\n"))
@@ -146,6 +201,12 @@ pub record BringCases : Type 0 where
       (212 holds (2 ∷ 0 ∷ [])
       ∷ 324 holds (1 ∷ 32 ∷ 33 ∷ upFrom 3 29 ++ (0 ∷ 0 ∷ []))
       ∷ 8004 holds (62 ∷ 32 ∷ 3 ∷ 1 ∷ upFrom 34 62 ++ (0 ∷ 0 ∷ upFrom 3 29 ++ (0 ∷ 1 ∷ 2 ∷ [])))
+      ∷ [])
+  -- of all pages: the one in frame 0, spared while its group ran, goes for group 1's
+  pub longest-of-all : LeavesFrom (packed 1 (5 ∷ [])) (bytes "S,2\nA,3,3\nS,1\n")
+      (212 holds (0 ∷ 2 ∷ 3 ∷ [])
+      ∷ 324 holds (32 ∷ 0 ∷ [])
+      ∷ 8004 holds (63 ∷ 32 ∷ 2 ∷ 1 ∷ [])
       ∷ [])
   -- "once settling is done": first group 3's message has frame 1, then group 2's page is exchanged into frame 2
   pub after-settling : LeavesFrom (packed 1 (5 ∷ [])) (bytes "A,1,7\nS,3\nA,3,3\nS,2\n")
@@ -182,6 +243,29 @@ pub record BringCases : Type 0 where
       ∷ 164 holds (2 ∷ 0 ∷ [])
       ∷ 212 holds (3 ∷ 32 ∷ upFrom 4 28 ++ (0 ∷ 1 ∷ 0 ∷ []))
       ∷ 8004 holds (63 ∷ 31 ∷ 4 ∷ 3 ∷ upFrom 34 62 ++ (33 ∷ 0 ∷ upFrom 4 28 ++ (0 ∷ 1 ∷ 3 ∷ 0 ∷ [])))
+      ∷ [])
+  -- a page that is neither written nor "a running group's first" stays in swap: frame 1 is free, and group 2 does not run
+  pub not-before-needed : LeavesFrom (packed 1 (5 ∷ [])) (bytes "A,1,7\nS,1\n" ++ copies 8 "D\n")
+      (3 holds (1 ∷ [])
+      ∷ 164 holds (1 ∷ 0 ∷ [])
+      ∷ 324 holds (32 ∷ 0 ∷ [])
+      ∷ 8004 holds (63 ∷ 31 ∷ 1 ∷ 0 ∷ [])
+      ∷ [])
+  -- it runs, and it is its second page, whatever it asks
+  pub later-stay-in-swap : LeavesFrom (packed 2 (replicate 9 5)) (bytes "S,2\nA,1,7\nA,3,1\nS,2\nM\nE,0\nB\nB,1\nP,1\nL,0\nT,1\nD\nN\n")
+      (324 holds (0 ∷ 32 ∷ 0 ∷ [])
+      ∷ 8004 holds (62 ∷ 32 ∷ 2 ∷ 0 ∷ [])
+      ∷ [])
+  -- the same with frames 3 and 4 free, and a message written to its third page
+  pub no-page-moves : LeavesFrom (packed 3 (replicate 17 5)) (bytes "S,2\nA,1,7\nS,1\n" ++ (copies 16 "D\n" ++ bytes "S,2\nD\nM\nE,0\nB\nB,1\nP,1\nL,0\nT,1\nS,2\nN\nA,2,6\n"))
+      (3 holds (2 ∷ [])
+      ∷ 164 holds (3 ∷ 4 ∷ 0 ∷ [])
+      ∷ 212 holds (5 ∷ 6 ∷ 7 ∷ [])
+      ∷ 312 holds (1 ∷ 17 ∷ 3 ∷ [])
+      ∷ 324 holds (0 ∷ 32 ∷ 2 ∷ 0 ∷ [])
+      ∷ 8004 holds (63 ∷ 30 ∷ 1 ∷ 0 ∷ [])
+      ∷ 8008 holds (33 ∷ 34 ∷ 35 ∷ [])
+      ∷ 8072 holds (0 ∷ 2 ∷ 5 ∷ 6 ∷ [])
       ∷ [])
 
 -- "pages sent out and brought in so far .. , each count staying at 4,294,967,295 once there"

@@ -165,6 +165,24 @@ pub record TickCases : Type 0 where
       ∷ "A,1,9\n" gives "11,0,0,0,1,0\n"
       ∷ "T,1000\n" gives "12,0,0,3,0,1\n"
       ∷ [])
+  -- "n single ticks" are T's alone: behind 254 come M, E, P, L, B, S to the one running, A and N, and it takes two more to the timeout
+  pub ticks-by-t-alone : Lists
+      ("S,1\n" gives "1,0,0,0,0,0\n"
+      ∷ "B\n" gives "2,0,0,0,0,0\n"
+      ∷ "A,1,7\n" gives "3,0,0,0,0,0\n"
+      ∷ "T,254\n" gives "4,0,0,0,0,0\n"
+      ∷ "M\n" gives "5,0,1,0,0,0\n"
+      ∷ "E,0\n" gives "6,0,7,0,0,0\n"
+      ∷ "P,1\n" gives "7,0,1,0,0,0\n"
+      ∷ "L,0\n" gives "8,0,1,0,0,0,0,1,1\n"
+      ∷ "B\n" gives "9,0,0,0,0,0\n"
+      ∷ "B,1\n" gives "10,0,0,0,0,0\n"
+      ∷ "S,1\n" gives "11,0,0,0,0,0\n"
+      ∷ "A,2,5\n" gives "12,0,0,0,0,0\n"
+      ∷ "N\n" gives "13,0,0,0,1,0\n"
+      ∷ "T,1\n" gives "14,0,0,0,0,0\n"
+      ∷ "T,1\n" gives "15,0,0,3,0,2\n"
+      ∷ [])
   -- "the whole hardware queue moves to the buffers", of all groups, and moved counts them; the section goes on
   pub timeout-all : Lists
       ("S,1\n" gives "1,0,0,0,0,0\n"

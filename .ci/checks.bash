@@ -1,4 +1,4 @@
-# Sourced by the checks of the programs: the project's folder, a scratch folder, checks that are counted, scripts with their listings, and a
+# Sourced by the checks: the project's folder, a scratch folder, checks that are counted, what they need, scripts with their listings, and a
 # memory with its state.
 root=$(dirname -- "$(dirname -- "$(readlink -f -- "${BASH_SOURCE[0]}")")")
 scratch=$(mktemp -d) || exit 1
@@ -18,6 +18,18 @@ check() {
         printf 'FAILED %s\n' "$name"
         head -n 40 -- "$scratch/output"
         return 1
+    fi
+}
+
+# need COMMAND PACKAGE: a check that the command is there. Debian's package of it is installed where that may be done; else the check fails.
+need() {
+    check "$1 is there, of Debian's package $2" installed "$@"
+}
+
+installed() {
+    if ! command -v -- "$1"; then
+        printf "there is no %s: Debian's package %s has it\n" "$1" "$2"
+        test "$(id -u)" -eq 0 && timeout 300 apt-get -q update && timeout 300 apt-get -qy install "$2" && hash -r && command -v -- "$1"
     fi
 }
 
@@ -52,15 +64,20 @@ listing_agrees() {
 
 # vectors FOLDER..: leaves the paths of the scripts of these folders of vectors/ in `scripts`.
 vectors() {
-    local folder found listings
+    local folder found listings states
     scripts=()
     shopt -s nullglob
     for folder in "$@"; do
         found=("$root/vectors/$folder"/*.script)
         listings=("$root/vectors/$folder"/*.listing)
+        states=("$root/vectors/$folder"/*.state)
         scripts+=("${found[@]}")
         check "vectors/$folder has scripts" test "${#found[@]}" -gt 0
         check "each listing of vectors/$folder has its script" test "${#found[@]}" -eq "${#listings[@]}"
+        # those of the paper alone have none
+        if [[ $folder != base ]]; then
+            check "each state of vectors/$folder has its script" test "${#found[@]}" -eq "${#states[@]}"
+        fi
     done
     shopt -u nullglob
 }

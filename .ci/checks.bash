@@ -1,5 +1,5 @@
-# Sourced by the checks: the project's folder, a scratch folder, checks that are counted, what they need, scripts with their listings, and a
-# memory with its state.
+# Sourced by the checks: the project's folder, a scratch folder, checks that are counted, what they need, crates that are thrown away, scripts
+# with their listings, and a memory with its state.
 root=$(dirname -- "$(dirname -- "$(readlink -f -- "${BASH_SOURCE[0]}")")")
 scratch=$(mktemp -d) || exit 1
 trap 'rm -rf -- "$scratch"' EXIT
@@ -37,6 +37,23 @@ installed() {
 summary() {
     printf '%s passed, %s failed\n' "$passed" "$failed"
     test "$failed" -eq 0
+}
+
+# copy_crates: copies them to the scratch folder, with what is proved of them already, which rt takes by the sum of its files.
+copy_crates() {
+    local part
+    cp -R -- "$root/crates" "$root/crates.txt" "$scratch"
+    mkdir "$scratch/target"
+    for part in rlib stamp; do
+        if [ -d "$root/target/$part" ]; then cp -R -- "$root/target/$part" "$scratch/target"; fi
+    done
+}
+
+# new_crate NAME CRATE..: an empty one over the others, beside these copies.
+new_crate() {
+    mkdir -p "$scratch/crates/$1"/{src,specs,proofs}
+    printf '// Nothing: what it is for is in specs/ and proofs/.\n' >"$scratch/crates/$1/src/lib.rt"
+    printf '%s: %s\n' "$1" "${*:2}" >>"$scratch/crates.txt"
 }
 
 # cargo_tests FOLDER: the tests of a crate in Rust, each counted from cargo's "test result:" lines. One that waits for ever ends them.

@@ -1,5 +1,5 @@
-# Sourced by the checks of the programs: the project's folder, a scratch folder, checks that are counted, scripts with their listings, and a
-# memory with its state.
+# Sourced by the checks: the project's folder, a scratch folder, checks that are counted, what they need, crates that are thrown away, scripts
+# with their listings, and a memory with its state.
 root=$(dirname -- "$(dirname -- "$(readlink -f -- "${BASH_SOURCE[0]}")")")
 scratch=$(mktemp -d) || exit 1
 trap 'rm -rf -- "$scratch"' EXIT
@@ -21,10 +21,39 @@ check() {
     fi
 }
 
+# need COMMAND PACKAGE: a check that the command is there. Debian's package of it is installed where that may be done; else the check fails.
+need() {
+    check "$1 is there, of Debian's package $2" installed "$@"
+}
+
+installed() {
+    if ! command -v -- "$1"; then
+        printf "there is no %s: Debian's package %s has it\n" "$1" "$2"
+        test "$(id -u)" -eq 0 && timeout 300 apt-get -q update && timeout 300 apt-get -qy install "$2" && hash -r && command -v -- "$1"
+    fi
+}
+
 # summary: the last line of the checks; fails if one of them did.
 summary() {
     printf '%s passed, %s failed\n' "$passed" "$failed"
     test "$failed" -eq 0
+}
+
+# copy_crates: copies them to the scratch folder, with what is proved of them already, which rt takes by the sum of its files.
+copy_crates() {
+    local part
+    cp -R -- "$root/crates" "$root/crates.txt" "$scratch"
+    mkdir "$scratch/target"
+    for part in rlib stamp; do
+        if [ -d "$root/target/$part" ]; then cp -R -- "$root/target/$part" "$scratch/target"; fi
+    done
+}
+
+# new_crate NAME CRATE..: an empty one over the others, beside these copies.
+new_crate() {
+    mkdir -p "$scratch/crates/$1"/{src,specs,proofs}
+    printf '// Nothing: what it is for is in specs/ and proofs/.\n' >"$scratch/crates/$1/src/lib.rt"
+    printf '%s: %s\n' "$1" "${*:2}" >>"$scratch/crates.txt"
 }
 
 # cargo_tests FOLDER: the tests of a crate in Rust, each counted from cargo's "test result:" lines. One that waits for ever ends them.
@@ -52,15 +81,20 @@ listing_agrees() {
 
 # vectors FOLDER..: leaves the paths of the scripts of these folders of vectors/ in `scripts`.
 vectors() {
-    local folder found listings
+    local folder found listings states
     scripts=()
     shopt -s nullglob
     for folder in "$@"; do
         found=("$root/vectors/$folder"/*.script)
         listings=("$root/vectors/$folder"/*.listing)
+        states=("$root/vectors/$folder"/*.state)
         scripts+=("${found[@]}")
         check "vectors/$folder has scripts" test "${#found[@]}" -gt 0
         check "each listing of vectors/$folder has its script" test "${#found[@]}" -eq "${#listings[@]}"
+        # those of the paper alone have none
+        if [[ $folder != base ]]; then
+            check "each state of vectors/$folder has its script" test "${#found[@]}" -eq "${#states[@]}"
+        fi
     done
     shopt -u nullglob
 }

@@ -233,6 +233,12 @@ accepted-agrees {b} {n} v (user q) e g lo hi =
     request-accepted v q (act-sound v (user q) e) (h .0) (h .1) g lo hi
 accepted-agrees {b} {n} v unknown e g lo hi = suc-zero e
 
+-- so a group is seen after an accepted step as its private line then stands
+pub accepted-view : {b : Build} {n : Node} → Valid b n → (op : Operation) → refusal b n op ≡ 0 → (g : ℕ) → 1 ≤ g → g ≤ groupCount
+    → view g (finish b (act b n op) .node) ≡ hear g (view g n) (told g op true) .line
+unfolding finish
+accepted-view v op taken g lo hi = sym (ap (λ (h : Heard). h .line) (accepted-agrees v op taken g lo hi))
+
 -- what a step shows and leaves of a group is what its private line makes of what it is told
 pub step-agrees : {b : Build} {n : Node} → Valid b n → (op : Operation) (g : ℕ) → 1 ≤ g → g ≤ groupCount → Agrees g n op (step b n op)
 step-agrees {b} {n} v op g lo hi =

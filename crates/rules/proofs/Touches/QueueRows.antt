@@ -19,7 +19,7 @@ use Rattle.rules.specs.Settling.{Moved, mayStay, pass, settle, drain, up
 use Rattle.rules.specs.Step.{Effect, valued, timerFlagged, revoke, timedOut, ticks, act, finish}
 use Rattle.rules.specs.Valid.{GoodMessage, Valid}
 use Rattle.rules.specs.Sound.{Sound}
-use Rattle.rules.specs.Private.{PrivateLine, Heard, message, nothing, isCalled, afterwards, joined, told, hear, unheard, own}
+use Rattle.rules.specs.Private.{PrivateLine, message, nothing, isCalled, afterwards, joined, told, hear, unheard}
 use Rattle.rules.specs.Touches.{running, timer, queue, atomic, pending, force, revoked, used, count, places, pages, descriptor, row, stores, when, runs, isMoved, filling, rowOf}
 use Rattle.rules.proofs.Steps.EveryLaws.{every-mono}
 use Rattle.rules.proofs.Steps.SoundLaws.{valid-sound}
@@ -33,7 +33,7 @@ use Rattle.rules.proofs.Steps.ActLaws.{scheduled-cases}
 use Rattle.rules.proofs.Steps.StepLaws.{act-sound, finish-queue, finish-timer}
 use Rattle.rules.proofs.Steps.QuietLaws.{staying-settle, rest-left, valid-quiet, counted-quiet}
 use Rattle.rules.proofs.Private.ViewLaws.{view, called-quiet}
-use Rattle.rules.proofs.Private.HeardLaws.{accepted-agrees}
+use Rattle.rules.proofs.Private.HeardLaws.{accepted-view}
 use Rattle.rules.proofs.Touches.PartLaws.{groupNumber, among, Kept, filled-inside, filling-inside, flags-kept, front-kept, inside-left, inside-right, touched-inside, touched-same, touched-then, when-inside}
 use Rattle.rules.proofs.Touches.TouchLaws.{Differs, Grouped, Rows, drain-touched, finished-touched, group-touched, grouped, moved-none, queue-touched, running-touched, timer-touched, upcall-touched}
 use Rattle.rules.proofs.Touches.SectionRows.{quiet-left}
@@ -41,21 +41,16 @@ use Rattle.rules.proofs.Touches.SectionRows.{quiet-left}
 -- What a group's private line keeps of its flags.
 
 module _ {b : Build} {n : Node} (v : Valid b n) (op : Operation) (taken : refusal b n op ≡ 0) (g : ℕ) (low : 1 ≤ g) (high : g ≤ groupCount) where
-  -- the flags of a group after an accepted step are those that its private line has
-  heard : view g (finish b (act b n op) .node) ≡ hear g (view g n) (told g op true) .line
-  unfolding finish
-  heard = sym (ap (λ (h : Heard). h .line) (accepted-agrees v op taken g low high))
-
   abbrev after : Group
   after = groupOf (finish b (act b n op) .node) g
 
   heard-atomic : after .atomic ≡ hear g (view g n) (told g op true) .line .atomic
   unfolding view
-  heard-atomic = ap (λ (p : PrivateLine). p .atomic) heard
+  heard-atomic = ap (λ (p : PrivateLine). p .atomic) (accepted-view v op taken g low high)
 
   heard-pending : after .pending ≡ hear g (view g n) (told g op true) .line .pending
   unfolding view
-  heard-pending = ap (λ (p : PrivateLine). p .pending) heard
+  heard-pending = ap (λ (p : PrivateLine). p .pending) (accepted-view v op taken g low high)
 
 -- T.
 

@@ -19,14 +19,14 @@ use Rattle.rules.specs.Step.{Effect, Stepped, valued, timerFlagged, time
 use Rattle.rules.specs.Valid.{Valid}
 use Rattle.rules.specs.Dumps.{Agree}
 use Rattle.rules.specs.Private.{PrivateLine, Heard, told, hear, Told, request, refuses}
-use Rattle.rules.specs.Touches.{GroupPart, running, timer, queue, atomic, pending, force, revoked, used, count, places, pages, descriptor, groupPart, Row, when, runs, isMoved, filling, requestRow, rowOf, ByName, Touches, Touched, NodePart, out, part, untouched, free, swap, entered, brought}
+use Rattle.rules.specs.Touches.{GroupPart, running, timer, queue, atomic, pending, force, revoked, used, count, places, pages, descriptor, groupPart, Row, when, runs, isMoved, filling, requestRow, rowOf, ByName, Touches, Touched, NodePart, out, part, untouched, free, swap, entered, brought, GroupKind}
 use Rattle.rules.proofs.Steps.LineLaws.{stays, either}
 use Rattle.rules.proofs.Steps.TickLaws.{timed, Ticked, idle, counting, timeout, ticked-by}
 use Rattle.rules.proofs.Steps.ActLaws.{user-accepted}
 use Rattle.rules.proofs.Steps.StepLaws.{step-cases}
 use Rattle.rules.proofs.Steps.QuietLaws.{begun-quiet}
 use Rattle.rules.proofs.Private.ViewLaws.{view}
-use Rattle.rules.proofs.Private.HeardLaws.{accepted-agrees}
+use Rattle.rules.proofs.Private.HeardLaws.{accepted-agrees, accepted-view}
 use Rattle.rules.proofs.Private.RequestLaws.{suc-zero}
 use Rattle.rules.proofs.Demands.DumpsLaws.{dumps}
 use Rattle.rules.proofs.Touches.PartLaws.{nodeNumber, groupNumber, among, Kept, inside-none, join-none, when-none, kept-touched}
@@ -246,8 +246,7 @@ module _ {b : Build} {n : Node} (v : Valid b n) (op : Operation) (taken : refusa
 
   -- what the group's private line makes of the step
   heard : hear g (view g n) (told g op true) .line ≡ view g (s .node)
-  unfolding finish
-  heard = ap (λ (h : Heard). h .line) (accepted-agrees v op taken g low high)
+  heard = sym (accepted-view v op taken g low high)
 
   named : hear g (view g n) (told g op true) .upcall ≡ eqb (r .upcall) g
   unfolding finish
@@ -317,26 +316,19 @@ module _ {b : Build} {n : Node} (v : Valid b n) where
   unfolding act serve extending
   end-kept p unfilled uncalled low = finish-kept b (serve b n endAtomic) ended-queue p unfilled uncalled (n .running) low (v .running-bound)
 
-  -- so N turns neither on
-  end-force : (taken : refusal b n (user endAtomic) ≡ 0) (g : ℕ) → 1 ≤ g → g ≤ groupCount → groupOf n g .force ≡ false
-      → groupOf (finish b (act b n (user endAtomic)) .node) g .force ≡ false
-  end-force taken g low high off = go (ℕ-discrete (n .running) g)
+  -- so a flag that N turns off is on with none that had it off
+  end-turns : (p : GroupPart) → among groupNumber p (pages ∷ count ∷ places ∷ []) ≡ false → among groupNumber p (atomic ∷ pending ∷ []) ≡ false
+      → (off : GroupKind p) → (1 ≤ n .running → groupPart p (groupOf (sectionEnded n) (n .running)) ≡ off)
+      → refusal b n (user endAtomic) ≡ 0 → (g : ℕ) → 1 ≤ g → g ≤ groupCount → groupPart p (groupOf n g) ≡ off
+      → groupPart p (groupOf (finish b (act b n (user endAtomic)) .node) g) ≡ off
+  end-turns p unfilled uncalled off ended taken g low high before = go (ℕ-discrete (n .running) g)
     where
-      go : Dec (n .running ≡ g) → groupOf (finish b (act b n (user endAtomic)) .node) g .force ≡ false
-      go (yes mine) =
-          subst (λ (x : ℕ). groupOf (finish b (act b n (user endAtomic)) .node) x .force ≡ false) mine
-          (end-kept force refl refl (rw mine low) ∙ ended-force v (rw mine low))
-      go (no other) = end-off force refl refl taken g low high other ∙ off
+      after : ℕ → GroupKind p
+      after x = groupPart p (groupOf (finish b (act b n (user endAtomic)) .node) x)
 
-  end-revoked : (taken : refusal b n (user endAtomic) ≡ 0) (g : ℕ) → 1 ≤ g → g ≤ groupCount → groupOf n g .revoked ≡ false
-      → groupOf (finish b (act b n (user endAtomic)) .node) g .revoked ≡ false
-  end-revoked taken g low high off = go (ℕ-discrete (n .running) g)
-    where
-      go : Dec (n .running ≡ g) → groupOf (finish b (act b n (user endAtomic)) .node) g .revoked ≡ false
-      go (yes mine) =
-          subst (λ (x : ℕ). groupOf (finish b (act b n (user endAtomic)) .node) x .revoked ≡ false) mine
-          (end-kept revoked refl refl (rw mine low) ∙ ended-revoked v (rw mine low))
-      go (no other) = end-off revoked refl refl taken g low high other ∙ off
+      go : Dec (n .running ≡ g) → after g ≡ off
+      go (yes mine) = subst (λ (x : ℕ). after x ≡ off) mine (end-kept p unfilled uncalled (rw mine low) ∙ ended (rw mine low))
+      go (no other) = end-off p unfilled uncalled taken g low high other ∙ before
 
   -- B turns force off for none
   begin-keeps : (f : Bool) → refusal b n (user (beginAtomic f)) ≡ 0 → (g : ℕ) → 1 ≤ g → g ≤ groupCount → groupOf n g .force ≡ true
@@ -409,7 +401,7 @@ module _ {b : Build} {n : Node} (v : Valid b n) (g : ℕ) (low : 1 ≤ g) (high 
   force-turned-on (by-begin false) taken off on =
       let l = user-accepted n (beginAtomic false) taken .0 in
       absurd (off-on off on (ap (λ (k : Node). groupOf k g .force) (begin-left v false) ∙ begun-leaves n l g))
-  force-turned-on by-end taken off on = absurd (false≢true (sym (end-force v taken g low high off) ∙ on))
+  force-turned-on by-end taken off on = absurd (false≢true (sym (end-turns v force refl refl false (ended-force v) taken g low high off) ∙ on))
 
   force-turned-off : {op : Operation} → ByForce op → refusal b n op ≡ 0 → groupOf n g .force ≡ true
       → groupOf (finish b (act b n op) .node) g .force ≡ false → op ≡ user endAtomic
@@ -420,7 +412,7 @@ module _ {b : Build} {n : Node} (v : Valid b n) (g : ℕ) (low : 1 ≤ g) (high 
       → groupOf (finish b (act b n op) .node) g .revoked ≡ true
       → ((t : ℕ) × (op ≡ tick t)) × (finish b (act b n op) .report .trap ≡ timeoutTrap)
   revoked-turned-on (by-tick k) taken off on = ((k, refl), tick-trap v k taken g low high (off-on off on))
-  revoked-turned-on by-end taken off on = absurd (false≢true (sym (end-revoked v taken g low high off) ∙ on))
+  revoked-turned-on by-end taken off on = absurd (false≢true (sym (end-turns v revoked refl refl false (ended-revoked v) taken g low high off) ∙ on))
 
   revoked-turned-off : {op : Operation} → ByRevoked op → refusal b n op ≡ 0 → groupOf n g .revoked ≡ true
       → groupOf (finish b (act b n op) .node) g .revoked ≡ false → op ≡ user endAtomic

@@ -10,19 +10,20 @@ use lib.Dec.{eqb}
 use lib.ListN.{length}
 use Rattle.rules.specs.Lists.{isEmpty}
 use Rattle.rules.specs.Build.{Build}
-use Rattle.rules.specs.Node.{Node, withTimer, withQueue, withGroup, buffered}
+use Rattle.rules.specs.Node.{Node, withRunning, withTimer, withQueue, withGroup, buffered}
 use Rattle.rules.specs.Operation.{poll, peek, dispose, beginAtomic, endAtomic, describe, launch}
 use Rattle.rules.specs.Operation.{Operation, arrive, schedule, preempt, dispatch, tick, user, unknown, accepted, refused, noTrap, disposeExtend}
 use Rattle.rules.specs.Refusal.{refusal, queued}
 use Rattle.rules.specs.Settling.{settle, drain}
-use Rattle.rules.specs.Step.{Effect, Stepped, valued, timerFlagged, revoke, timedOut, ticks, flagged, disposed, sectionBegun, sectionEnded, extending, described, launched, serve, act, finish, inARow, step}
+use Rattle.rules.specs.Step.{Effect, Stepped, valued, preempted, timerFlagged, revoke, timedOut, ticks, flagged, disposed, sectionBegun, sectionEnded, extending, described, launched, serve, act, finish, inARow, step}
 use Rattle.rules.specs.Run.{wasAccepted, disposedBy, leftBy, tickedBy}
 use Rattle.rules.specs.Valid.{Valid}
 use Rattle.rules.proofs.Steps.SettlingLaws.{runs-queued, settle-keeps, settle-moved, drain-queue}
 use Rattle.rules.proofs.Steps.LineLaws.{nobody-empty, buffered-empty}
 use Rattle.rules.proofs.Steps.TickLaws.{timed, leftOver, Ticked, idle, counting, timeout, ticked-by}
 use Rattle.rules.proofs.Steps.ActLaws.{dispatched}
-use Rattle.rules.proofs.Steps.StepLaws.{finish-queue, finish-timer, taken-empty, given-empty, step-law}
+use Rattle.rules.proofs.Steps.StepLaws.{finish-queue, finish-timer, given-empty, step-law}
+use Rattle.rules.proofs.Steps.SwitchLaws.{nobody-emptied}
 use Rattle.rules.proofs.Private.RequestLaws.{suc-zero}
 use Rattle.rules.proofs.Steps.ListLaws.{some-length}
 use Rattle.rules.proofs.Private.EventLaws.{eventOf, refusal-answer, ticked-none}
@@ -74,9 +75,9 @@ module _ {b : Build} {n : Node} (v : Valid b n) (some : isEmpty (n .queue) ≡ f
 
   act-timer : (op : Operation) → refusal b n op ≡ 0 → isEmpty (settle b (act b n op .node) .node .queue) ≡ false
       → tickedBy op true + n .timer ≤ b .timeout * (taken op (act b n op) + settle b (act b n op .node) .moved) + act b n op .node .timer
-  unfolding act tickedBy refusal valued taken disposedBy serve extending launched described sectionBegun sectionEnded flagged timerFlagged withGroup queued withQueue disposed withTimer
+  unfolding act tickedBy refusal valued taken disposedBy serve extending launched described sectionBegun sectionEnded flagged timerFlagged withGroup queued withQueue disposed preempted withTimer withRunning
   act-timer (arrive h ws) z s = omega arith
-  act-timer preempt z s = absurd (true≢false (ap isEmpty (sym (taken-empty v) ∙ finish-queue b (act b n preempt)) ∙ s))
+  act-timer preempt z s = absurd (true≢false (ap isEmpty (sym (nobody-emptied b (preempted n) refl (v .queue-good))) ∙ s))
   act-timer (dispatch h) z s = absurd (queue-some (nobody-empty v (dispatched n h z .nobody)))
   act-timer (schedule h) z s = omega arith
   act-timer (tick k) z s = tick-timer k s

@@ -59,6 +59,11 @@ nobody-settles b n nobody good =
     ap (λ (s : Moved). record { node = restTimer (s .node); moved = s .moved }) (pass-drains b (n .queue) n nobody good)
     ∙ ap (λ (k : Node). record { node = k; moved = length (n .queue) }) (nobody-rests d (drain-running b (n .queue) n ∙ nobody) (drain-queue b (n .queue) n))
 
+-- so no message is left in the queue
+pub nobody-emptied : (b : Build) (n : Node) → n .running ≡ 0 → Every GoodMessage (n .queue) → settle b n .node .queue ≡ []
+unfolding withTimer
+nobody-emptied b n nobody good = ap (λ (s : Moved). s .node .queue) (nobody-settles b n nobody good) ∙ drain-queue b (n .queue) n
+
 -- nobody is called up
 nobody-called : (n : Node) → n .running ≡ 0 → calls n ≡ false
 unfolding calls

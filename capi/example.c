@@ -1,5 +1,5 @@
-/* A node from C: power-on, steps by letter and by line, the head message, the place that it leaves, a timer that is forced, pages sent out and
- * brought in, and what is refused.
+/* A node from C: power-on, steps by letter and by line, the head message, the place that it leaves, a timer that is forced, the processor taken
+ * and given, pages sent out and brought in, and what is refused.
  *
  *     rt staticlib capi
  *     cc -std=c11 -Icapi capi/example.c target/staticlib/libcapi.a -o example && ./example
@@ -113,9 +113,18 @@ int main(void) {
     line("N");
     line("P,5");
     line("L,63");
+    line("A,1,4");
+    print_head();
+    step("O", 'O', group, 0);
+    print_head();
+    step("I,1", 'I', group, 1);
+    print_head();
+    line("D");
+    line("N");
     print_paging();
     fill_frames();
 
+    step("I,1", 'I', group, 1);
     step("S, no number", 'S', group, 0);
     step("Q", 'Q', group, 0);
     line("S, 1");

@@ -67,7 +67,8 @@ enum {
     FUGU_DESCRIPTOR_EMPTY = 12,
     FUGU_BAD_NODE = 13,
     FUGU_BAD_SCHEDULE = 14,
-    FUGU_BAD_TICKS = 15
+    FUGU_BAD_TICKS = 15,
+    FUGU_ALREADY_RUNS = 16
 };
 
 /* The words of a node: FUGU_SIZE. */
@@ -80,9 +81,9 @@ uint32_t fugu_power_on(uint32_t *FUGU_LENT memory, size_t memory_length, uint32_
 /* 1 where the memory is a node, else 0. */
 uint32_t fugu_test(const uint32_t *memory, size_t memory_length);
 
-/* One step: the operation by its letter in a script, one of A S T M E D B N P L, and its numbers, for 'A' the group and the words, for 'B' none
- * or one, 1 where it turns force on and 0 where it leaves it. Memory that is no node is refused with 1; then a letter of no operation, a wrong
- * count of numbers, or another number for 'B', with 2. A refused step leaves the memory as it was. */
+/* One step: the operation by its letter in a script, one of A S O I T M E D B N P L, and its numbers, for 'A' the group and the words, for 'B'
+ * none or one, 1 where it turns force on and 0 where it leaves it. 'S' is 'O' and 'I' in one step. Memory that is no node is refused with 1; then
+ * a letter of no operation, a wrong count of numbers, or another number for 'B', with 2. A refused step leaves the memory as it was. */
 uint32_t fugu_step(uint32_t *FUGU_LENT memory, size_t memory_length, uint8_t letter, const uint32_t *arguments, size_t arguments_length,
                    uint32_t *FUGU_LENT report, size_t report_length);
 

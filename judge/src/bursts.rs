@@ -94,6 +94,8 @@ impl Lines {
         self.burst(&[
             (11, Lines::arrival),
             (1, Lines::odd_arrival),
+            (12, Lines::preempt),
+            (12, Lines::dispatch),
             (12, Lines::switch),
             (12, Lines::tick),
             (12, Lines::message_length),
@@ -132,9 +134,25 @@ impl Lines {
 
     /// An arrival that is refused for its group or its words.
     pub fn odd_arrival(&mut self) {
-        let group = self.random.pick(&[1, 8, 0, 9, 256, 0xffff_ffff]);
+        let group = self.random.pick(&[1, 4, 5, 8, 0, 9, 256, 0xffff_ffff]);
         let words = self.random.pick(&[0, 9, 10]);
         self.arrival_of(group, words);
+    }
+
+    pub fn preempt(&mut self) {
+        self.line('O', &[]);
+    }
+
+    fn dispatch_to(&mut self, group: u64) {
+        self.line('I', &[group]);
+    }
+
+    pub fn dispatch(&mut self) {
+        let group = match self.random.between(1, 12) {
+            1 => self.random.pick(&[0, 9, 10, 64, 256, 0xffff_ffff]),
+            _ => self.group(),
+        };
+        self.dispatch_to(group);
     }
 
     fn switch_to(&mut self, group: u64) {
@@ -178,7 +196,7 @@ impl Lines {
         self.line('E', &[index]);
     }
 
-    fn dispose(&mut self) {
+    pub fn dispose(&mut self) {
         self.line('D', &[]);
     }
 
@@ -192,11 +210,11 @@ impl Lines {
         }
     }
 
-    fn begin_forced(&mut self) {
+    pub fn begin_forced(&mut self) {
         self.line('B', &[1]);
     }
 
-    fn end_atomic(&mut self) {
+    pub fn end_atomic(&mut self) {
         self.line('N', &[]);
     }
 
@@ -279,7 +297,7 @@ impl Lines {
         }
         let groups = [self.group(), self.group()];
         let (few, many) = (self.random.between(8, 60), self.random.between(240, 400));
-        let mut more = self.random.pick(&[few, many]);
+        let mut more = self.random.pick(&[few, many, many]);
         while more > 0 && !self.node.swap_free.is_empty() {
             if self.node.free.is_empty() {
                 more -= 1;
@@ -289,13 +307,20 @@ impl Lines {
         }
     }
 
-    /// Messages for the groups whose last pages are out; at times a short line is emptied before, so
+    /// Messages for the groups whose last pages are out; at times the shortest line is emptied before, so
     /// that a frame is free.
     pub fn rewrite(&mut self) {
-        if self.random.one_in(3) {
-            self.take_over();
+        if self.random.one_in(2) {
+            let waiting = (1..=8).filter(|&group| self.waiting(group) > 0);
+            let shortest = waiting.min_by_key(|&group| self.waiting(group));
+            self.switch_to(shortest.unwrap_or(0));
+            self.dispose_all();
         }
         self.switch_to(0);
+        self.arrivals_for_last_pages_out();
+    }
+
+    fn arrivals_for_last_pages_out(&mut self) {
         for group in 1..=8 {
             if self.last_page_is_out(group) {
                 self.arrival_for(group);
@@ -308,20 +333,61 @@ impl Lines {
         pages.back().is_some_and(|&last| last >= FRAMES)
     }
 
+    /// The processor goes, by one line or by two, to a group whose first page has been in a frame longest,
+    /// while messages wait that need a frame and none is free: that page goes out and comes in.
+    pub fn displace(&mut self) {
+        let runner = self.take_over();
+        let Some(next) = self.nearest_victim() else {
+            return;
+        };
+        while !self.is_victim(next) && self.has_page_left() {
+            let another = 1 + (runner + self.random.between(0, 6)) % 8;
+            self.arrival_for(another);
+        }
+        self.arrival_for(runner);
+        self.arrivals_for_last_pages_out();
+        if self.random.one_in(3) {
+            self.preempt();
+            self.dispatch_to(next);
+        } else {
+            self.switch_to(next);
+        }
+    }
+
+    /// How many frames were entered before that of the group's first page, if that is in one.
+    fn entered_before(&self, group: u64) -> Option<usize> {
+        let first = self.node.groups[group as usize - 1].buffer.pages.front()?;
+        self.node.entry.iter().position(|frame| frame == first)
+    }
+
+    /// The group whose first page is the next to be sent out, after the fewest others.
+    fn nearest_victim(&self) -> Option<u64> {
+        let owners = (1..=8).filter(|&group| self.entered_before(group).is_some());
+        owners.min_by_key(|&group| self.entered_before(group))
+    }
+
+    fn is_victim(&self, group: u64) -> bool {
+        self.node.free.is_empty() && self.entered_before(group) == Some(0)
+    }
+
+    fn has_page_left(&self) -> bool {
+        !(self.node.free.is_empty() && self.node.swap_free.is_empty())
+    }
+
     /// Arrivals until all frames are taken, and some more: the oldest pages are sent out.
     pub fn fill(&mut self) {
-        self.arrivals_while(|node| !node.free.is_empty());
+        self.arrivals_while(|lines| !lines.node.free.is_empty());
     }
 
     /// Arrivals until all pages are taken, and some more.
     pub fn brim(&mut self) {
-        self.arrivals_while(|node| !(node.free.is_empty() && node.swap_free.is_empty()));
+        self.arrivals_while(Lines::has_page_left);
     }
 
     /// Nobody runs meanwhile.
-    fn arrivals_while(&mut self, has_room: fn(&Node) -> bool) {
+    fn arrivals_while(&mut self, has_room: fn(&Lines) -> bool) {
         self.switch_to(0);
-        while has_room(&self.node) {
+        while has_room(self) {
             self.arrival();
         }
         for _ in 0..self.random.between(5, 40) {
@@ -334,7 +400,7 @@ impl Lines {
         let group = self.take_over();
         self.begin_atomic();
         self.arrival_for(group);
-        for _ in 0..self.random.between(10, 18) {
+        for _ in 0..self.random.between(10, 24) {
             self.arrival();
         }
         if self.random.one_in(3) {
@@ -368,6 +434,15 @@ impl Lines {
                 _ => self.dispose(),
             }
         }
+    }
+
+    /// The processor is taken and given by two lines; at times messages come while nobody has it.
+    pub fn hand_over(&mut self) {
+        self.preempt();
+        for _ in 0..self.random.between(0, 2) {
+            self.arrival();
+        }
+        self.dispatch();
     }
 
     /// Two rows of ticks that together reach the timeout or just miss it, with a line between them
@@ -438,14 +513,18 @@ impl Lines {
         self.ticks(count);
     }
 
-    /// The processor goes elsewhere and comes back; at times a message has come meanwhile.
+    /// The processor goes elsewhere and comes back, by S or by O and I; at times a message has come
+    /// meanwhile.
     fn lend_processor(&mut self) {
         let group = self.running();
-        self.switch();
+        let by_switches: (Burst, fn(&mut Lines, u64)) = (Lines::switch, Lines::switch_to);
+        let by_acts: (Burst, fn(&mut Lines, u64)) = (Lines::preempt, Lines::dispatch_to);
+        let (take, give) = self.random.pick(&[by_switches, by_acts]);
+        take(self);
         if self.random.one_in(3) {
             self.arrival();
         }
-        self.switch_to(group);
+        give(self, group);
     }
 
     /// Every word of a group's first messages, and one past them.
@@ -551,13 +630,13 @@ impl Lines {
 
     fn miscounted(&mut self) -> Vec<u8> {
         let lines =
-            "A S T E P L S,1,2 T,1,1 E,0,0 P,1,2 L,1,2 M,0 D,1 B, B,1,1 B,0, N,1 N, M, A, A,1, \
-                     A,1,,2 S, , ,1 S,1,";
+            "A S T E P L I S,1,2 T,1,1 E,0,0 P,1,2 L,1,2 I,1,1 M,0 D,1 O,1 B, B,1,1 B,0, N,1 N, M, \
+                     O, A, A,1, A,1,,2 S, I, , ,1 S,1, I,1,";
         self.one_of(lines)
     }
 
     fn misnumbered(&mut self) -> Vec<u8> {
-        let mut line = self.one_of("A,1, A, S, T, E, B, P, L,");
+        let mut line = self.one_of("A,1, A, I, S, T, E, B, P, L,");
         line.extend(self.one_of(
             "2 4294967295 4294967296 9999999999 0000000001 00000000001 42949672950 -1 +1 0x1 1.0 \
              1e1 one \u{663}",
@@ -566,7 +645,7 @@ impl Lines {
     }
 
     fn unknown(&mut self) -> Vec<u8> {
-        let mut line = self.one_of("X Z a s m MM 0 AS ?");
+        let mut line = self.one_of("X Z a s m o i MM OI 0 AS ?");
         line.extend(self.random.pick(&["", ",1", ",1,7"]).bytes());
         line
     }

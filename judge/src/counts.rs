@@ -8,8 +8,10 @@ use crate::node::{Cause, Event, Refusal, Report, Standing};
 use crate::script;
 
 /// The rows of the table: the operations' letters, then lines that ask for none.
-const ROWS: [&str; 11] = [
+const ROWS: [&str; 13] = [
     "A",
+    "O",
+    "I",
     "S",
     "T",
     "M",
@@ -22,13 +24,13 @@ const ROWS: [&str; 11] = [
     "unreadable",
 ];
 const UNREADABLE: usize = ROWS.len() - 1;
-const ANSWERS: usize = 16;
+const ANSWERS: usize = 17;
 const TRAPS: usize = 4;
 /// Answer 1 is the memory keeper's: no script can meet it.
 const NOT_A_NODE: usize = Refusal::NotANode as usize;
 
 /// All events of steps, in words.
-pub const EVENTS: [(Event, &str); 18] = [
+pub const EVENTS: [(Event, &str); 25] = [
     (
         Event::WordRead(Standing::Queued),
         "words read in the hardware queue",
@@ -53,8 +55,12 @@ pub const EVENTS: [(Event, &str); 18] = [
         Event::Exchanged(Cause::Write),
         "pages exchanged to be written",
     ),
-    (Event::BroughtIn(Cause::First), "first pages brought in"),
-    (Event::Exchanged(Cause::First), "first pages exchanged"),
+    (Event::BroughtIn(Cause::Next), "first pages brought in by D"),
+    (
+        Event::BroughtIn(Cause::Given),
+        "first pages brought in by I",
+    ),
+    (Event::Exchanged(Cause::Given), "first pages exchanged by I"),
     (Event::IdleTimeout, "timeouts with an empty queue"),
     (Event::FurtherTimeout, "timeouts behind one of the same T"),
     (Event::TimerLeft, "forced timers that settling left"),
@@ -62,6 +68,18 @@ pub const EVENTS: [(Event, &str); 18] = [
     (Event::ForceKept, "processors given to a group with force"),
     (Event::RevokedMoved, "messages moved for revoked alone"),
     (Event::RevokedEnded, "ends of an empty group revoked"),
+    (Event::QueueTaken, "processors taken with messages queued"),
+    (Event::NobodyTaken, "processors taken with nobody running"),
+    (Event::TimerTaken, "forced timers that O met"),
+    (Event::TwoActs, "switches of two acts"),
+    (
+        Event::QueueKept,
+        "switches to the one running with messages queued",
+    ),
+    (
+        Event::NewRunnerSentOut,
+        "new runners' first pages sent out by their S",
+    ),
 ];
 
 /// How often steps had each.
@@ -158,7 +176,7 @@ impl Counts {
         self.sum().answers.iter().sum()
     }
 
-    /// The answers 2 to 15, the traps 0 to 3 and the events that were not met.
+    /// The answers 2 to 16, the traps 0 to 3 and the events that were not met.
     pub fn missing(&self) -> Vec<String> {
         let sum = self.sum();
         let answers = (2..ANSWERS).filter(|&answer| sum.answers[answer] == 0);

@@ -14,7 +14,7 @@ pub struct Flavour {
     last_newline: bool,
 }
 
-pub static FLAVOURS: [Flavour; 13] = [
+pub static FLAVOURS: [Flavour; 14] = [
     Flavour {
         name: "uniform",
         about: "every operation equally often",
@@ -36,7 +36,7 @@ pub static FLAVOURS: [Flavour; 13] = [
             (5, Lines::crowd),
             (2, Lines::drain),
             (1, Lines::clear),
-            (3, Lines::odd_arrival),
+            (4, Lines::odd_arrival),
             (1, Lines::any),
         ],
         last_newline: true,
@@ -46,9 +46,11 @@ pub static FLAVOURS: [Flavour; 13] = [
         about: "pages sent out and brought in, to be written and to be read",
         bursts: &[
             (1, Lines::brim),
-            (6, Lines::spill),
+            (8, Lines::spill),
             (9, Lines::rewrite),
-            (12, Lines::switch),
+            (5, Lines::displace),
+            (9, Lines::switch),
+            (6, Lines::hand_over),
             (2, Lines::drain),
             (1, Lines::read_out),
             (4, Lines::clear),
@@ -62,6 +64,7 @@ pub static FLAVOURS: [Flavour; 13] = [
         bursts: &[
             (3, Lines::spill),
             (2, Lines::rewrite),
+            (4, Lines::displace),
             (5, Lines::crowd),
             (2, Lines::hog),
             (2, Lines::brink),
@@ -76,12 +79,35 @@ pub static FLAVOURS: [Flavour; 13] = [
         about: "the processor given to and fro while messages wait",
         bursts: &[
             (6, Lines::switch),
+            (2, Lines::preempt),
+            (2, Lines::dispatch),
             (5, Lines::arrival),
             (3, Lines::exchange),
+            (2, Lines::hand_over),
             (1, Lines::serve),
             (1, Lines::clear),
             (1, Lines::tick),
             (1, Lines::any),
+        ],
+        last_newline: true,
+    },
+    Flavour {
+        name: "acts",
+        about:
+            "the processor taken, given and switched among arrivals, disposals and forced sections",
+        bursts: &[
+            (4, Lines::preempt),
+            (4, Lines::dispatch),
+            (4, Lines::switch),
+            (3, Lines::hand_over),
+            (2, Lines::exchange),
+            (10, Lines::arrival),
+            (5, Lines::dispose),
+            (3, Lines::begin_forced),
+            (2, Lines::end_atomic),
+            (1, Lines::tick),
+            (1, Lines::serve),
+            (1, Lines::clear),
         ],
         last_newline: true,
     },
@@ -149,6 +175,7 @@ pub static FLAVOURS: [Flavour; 13] = [
             (2, Lines::crowd),
             (3, Lines::drain),
             (2, Lines::exchange),
+            (2, Lines::hand_over),
             (2, Lines::brink),
             (2, Lines::hog),
             (2, Lines::force),

@@ -1,5 +1,6 @@
 //! The paper's "The node" as ordinary records, and its "Each step", with the orders that have changed
-//! them: order 1, swap space, order 2, the forced timer, and order 3, wiped frames.
+//! them: order 1, swap space, order 2, the forced timer, order 3, wiped frames, and order 5, two
+//! operations for S.
 
 use std::collections::VecDeque;
 
@@ -34,6 +35,13 @@ pub enum Operation {
         group: u32,
         words: Vec<u32>,
     },
+    /// O: takes the processor.
+    Preempt,
+    /// I: gives it.
+    Dispatch {
+        group: u32,
+    },
+    /// S: a line of these two acts.
     Switch {
         group: u32,
     },
@@ -76,8 +84,9 @@ pub enum Refusal {
     DescriptorFull = 11,
     DescriptorEmpty = 12,
     LaunchNode = 13,
-    SwitchGroup = 14,
+    ProcessorGroup = 14,
     TickCount = 15,
+    AlreadyRuns = 16,
 }
 
 /// "Trap: 1 dispose-extend, .. 2 atomicity-extend, .. 3 timeout, on T; else 0."
@@ -98,8 +107,8 @@ pub struct Launched {
     pub words: Vec<u32>,
 }
 
-/// What happens in a step with a place or a page, or by force or a revoked group. No listing tells it;
-/// it is counted, so that scripts are seen to meet each.
+/// What happens in a step with a place or a page, by force or a revoked group, or where the processor is
+/// taken and given. No listing tells it; it is counted, so that scripts are seen to meet each.
 #[derive(Clone, Copy, Debug, PartialEq, Eq)]
 pub enum Event {
     /// E reads a word of a message that stands there.
@@ -128,6 +137,18 @@ pub enum Event {
     RevokedMoved,
     /// N of a revoked group with no message in its buffer.
     RevokedEnded,
+    /// O finds messages in the hardware queue.
+    QueueTaken,
+    /// O, a line of its own, finds nobody running.
+    NobodyTaken,
+    /// O finds a timer above 0 with an empty queue.
+    TimerTaken,
+    /// S takes the processor from one group and gives it to another.
+    TwoActs,
+    /// S to the one running, with messages in the hardware queue.
+    QueueKept,
+    /// The first page of the group that S names is sent out by its O.
+    NewRunnerSentOut,
 }
 
 /// Where the running group's first message stands.
@@ -145,7 +166,10 @@ pub enum Standing {
 #[derive(Clone, Copy, Debug, PartialEq, Eq)]
 pub enum Cause {
     Write,
-    First,
+    /// D has used up the page before it.
+    Next,
+    /// I has given its group the processor.
+    Given,
 }
 
 /// A step's report. Its default is that of an accepted step of which nothing is to be told.
@@ -317,18 +341,63 @@ impl Node {
         }
     }
 
-    /// "An accepted operation acts, then come settling and the upcall." A refused one changes
-    /// nothing: "no settling, no upcall".
+    /// A step: a refused one changes nothing, "no settling, no upcall".
     pub fn step(&mut self, operation: &Operation) -> Report {
         if let Some(refusal) = self.refusal(operation) {
             return Report::refused(refusal);
         }
-        let mut report = self.act(operation);
-        report.moved += self.settle();
-        self.bring_in_first();
-        report.upcall = self.upcall();
+        let mut report = match operation {
+            Operation::Switch { group } => self.switch(*group),
+            _ => self.perform(operation),
+        };
         report.events = std::mem::take(&mut self.events);
         report
+    }
+
+    /// "An accepted operation acts, then come settling and the upcall."
+    fn perform(&mut self, operation: &Operation) -> Report {
+        let mut report = self.act(operation);
+        report.moved += self.settle();
+        self.bring_in_first(match operation {
+            Operation::Dispatch { .. } => Cause::Given,
+            _ => Cause::Next,
+        });
+        report.upcall = self.upcall();
+        report
+    }
+
+    /// S: "nothing if g already runs, else O, and I unless g is 0, with the moved counts summed".
+    fn switch(&mut self, group: u32) -> Report {
+        let before = self.running;
+        if group as usize == before {
+            if !self.queue.is_empty() {
+                self.events.push(Event::QueueKept);
+            }
+            return Report::default();
+        }
+        let was_in = self.first_page_is_in(group as usize);
+        let taken = self.step(&Operation::Preempt);
+        let sent_out = was_in && !self.first_page_is_in(group as usize);
+        let given = match group {
+            0 => Report::default(),
+            _ => self.step(&Operation::Dispatch { group }),
+        };
+        // That O finds nobody running is counted where it is a line of its own.
+        if before > 0 {
+            self.events.extend(taken.events);
+        }
+        if sent_out {
+            self.events.push(Event::NewRunnerSentOut);
+        }
+        if before > 0 && group > 0 {
+            self.events.push(Event::TwoActs);
+        }
+        self.events.extend(given.events);
+        Report {
+            upcall: given.upcall,
+            moved: taken.moved + given.moved,
+            ..Report::default()
+        }
     }
 
     /// "Its line is its buffer, then its messages in the hardware queue." Nobody's line is empty.
@@ -381,14 +450,28 @@ impl Node {
         match operation {
             Operation::Unknown => Some(Refusal::Unknown),
             Operation::Arrival { group, words } => self.arrival_refusal(*group, words),
-            Operation::Switch { group } if *group > GROUPS as u32 => Some(Refusal::SwitchGroup),
-            Operation::Switch { .. } => None,
+            Operation::Preempt => None,
+            Operation::Dispatch { group } => self.dispatch_refusal(*group),
+            Operation::Switch { group } => {
+                (*group > GROUPS as u32).then_some(Refusal::ProcessorGroup)
+            }
             Operation::Ticks { count } if !(1..=MOST_TICKS).contains(count) => {
                 Some(Refusal::TickCount)
             }
             Operation::Ticks { .. } => None,
             _ if self.running == 0 => Some(Refusal::NobodyRuns),
             _ => self.user_refusal(operation),
+        }
+    }
+
+    /// "It refuses I with 16 when a group already runs, after 14 for a group outside 1 to 8."
+    fn dispatch_refusal(&self, group: u32) -> Option<Refusal> {
+        if !(1..=GROUPS as u32).contains(&group) {
+            Some(Refusal::ProcessorGroup)
+        } else if self.running > 0 {
+            Some(Refusal::AlreadyRuns)
+        } else {
+            None
         }
     }
 
@@ -443,11 +526,12 @@ impl Node {
         &mut self.groups[self.running - 1]
     }
 
-    /// The effects of the paper's table, for an operation that is not refused.
+    /// The effects of the paper's table, for an operation that is not refused. S has none of its own.
     fn act(&mut self, operation: &Operation) -> Report {
         match operation {
             Operation::Arrival { group, words } => self.arrive(*group as usize, words),
-            Operation::Switch { group } => self.switch(*group as usize),
+            Operation::Preempt => self.preempt(),
+            Operation::Dispatch { group } => self.dispatch(*group as usize),
             Operation::Ticks { count } => self.ticks(*count),
             Operation::MessageLength => {
                 Report::of_value(self.first().map_or(0, <[u32]>::len) as u32)
@@ -458,6 +542,7 @@ impl Node {
             Operation::EndAtomic => self.end_atomic(),
             Operation::Describe { word } => self.describe(*word),
             Operation::Launch { node } => self.launch(*node),
+            Operation::Switch { .. } => unreachable!("S is O and I"),
             Operation::Unknown => unreachable!("an unknown operation was refused"),
         }
     }
@@ -468,14 +553,27 @@ impl Node {
         Report::default()
     }
 
-    /// "To the one already running (or 0 to 0): changes nothing", so the timer stays.
-    fn switch(&mut self, group: usize) -> Report {
-        if group != self.running {
-            self.running = group;
-            self.timer = 0;
-            if group > 0 && self.running_group().force {
-                self.events.push(Event::ForceKept);
-            }
+    /// "O takes it from whoever runs (with nobody running, it changes nothing)", and "O zeroes the timer".
+    fn preempt(&mut self) -> Report {
+        if self.running == 0 {
+            self.events.push(Event::NobodyTaken);
+            return Report::default();
+        }
+        if !self.queue.is_empty() {
+            self.events.push(Event::QueueTaken);
+        } else if self.timer > 0 {
+            self.events.push(Event::TimerTaken);
+        }
+        self.running = 0;
+        self.timer = 0;
+        Report::default()
+    }
+
+    /// "`I,g` gives it to g"
+    fn dispatch(&mut self, group: usize) -> Report {
+        self.running = group;
+        if self.running_group().force {
+            self.events.push(Event::ForceKept);
         }
         Report::default()
     }
@@ -686,15 +784,20 @@ impl Node {
     }
 
     /// "once settling is done, a running group's first page"
-    fn bring_in_first(&mut self) {
-        if let Some(first) = self.runners_first_page() {
-            self.brought_in(first, Cause::First);
+    fn bring_in_first(&mut self, cause: Cause) {
+        if let Some(first) = self.first_page(self.running) {
+            self.brought_in(first, cause);
         }
     }
 
-    fn runners_first_page(&self) -> Option<usize> {
-        let group = &self.groups[self.running.checked_sub(1)?];
+    /// Where a group's first page is; none for nobody.
+    fn first_page(&self, group: usize) -> Option<usize> {
+        let group = &self.groups[group.checked_sub(1)?];
         group.buffer.pages.front().copied()
+    }
+
+    fn first_page_is_in(&self, group: usize) -> bool {
+        self.first_page(group).is_some_and(|first| first < FRAMES)
     }
 
     /// The frame that a page is in, once it is brought in where it was not: "exchanged with the one so
@@ -726,7 +829,7 @@ impl Node {
     /// group's first page and the page being written". The latter is new or in a swap page, so in no
     /// frame yet.
     fn left_by_victim(&mut self) -> usize {
-        let first = self.runners_first_page();
+        let first = self.first_page(self.running);
         let oldest = self.entry.iter().position(|&frame| Some(frame) != first);
         count(&mut self.sent_out);
         oldest

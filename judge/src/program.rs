@@ -10,10 +10,12 @@ use crate::generator::Flavour;
 use crate::node::MESSAGE_WORDS;
 
 /// The measured scripts, if none is named: random ones, the first without much use of swap space, the
-/// second with the frames full most of the time.
-const MEASURED_FLAVOURS: [&str; 2] = ["mixed", "swap"];
+/// second with the frames full most of the time, the third of switches while messages wait.
+const MEASURED_FLAVOURS: [&str; 3] = ["mixed", "swap", "switches"];
 const MEASURED_SEED: u64 = 1998;
 const MEASURED_LINES: u64 = 1_000_000;
+/// Then a message to the one running, and its disposal, over and over: no switch, no buffer.
+const MEASURED_TURN: (&str, [&str; 3]) = ("S, A, D", ["S,1", "A,1,7", "D"]);
 /// Then E alone, behind the lines that bring a message: to the hardware queue, and on to a frame. It
 /// stands there also where they are played again on the same memory.
 const MEASURED_READS: [(&str, &[&str]); 2] = [
@@ -108,13 +110,15 @@ pub struct Measured {
 }
 
 impl Measured {
-    /// The script of a file, or random ones and E alone.
+    /// The script of a file, or random ones, a few lines in turn, and E alone.
     pub fn scripts(path: Option<&str>) -> Result<Vec<Measured>, String> {
         let Some(path) = path else {
             let random = MEASURED_FLAVOURS.into_iter().map(Measured::random);
+            let (name, lines) = MEASURED_TURN;
+            let turn = Measured::of_lines(name, lines.into_iter().cycle().map(str::to_string));
             let reads = MEASURED_READS.into_iter();
             let reads = reads.map(|(name, before)| Measured::reading(name, before));
-            return Ok(random.chain(reads).collect());
+            return Ok(random.chain([turn]).chain(reads).collect());
         };
         let script = fs::read(path).map_err(|error| format!("{path}: {error}"))?;
         let name = path.to_string();
@@ -131,10 +135,18 @@ impl Measured {
 
     /// Some lines, then E with each index of a message in turn.
     fn reading(name: &str, before: &[&str]) -> Self {
-        let before = before.iter().map(|line| format!("{line}\n"));
+        let before = before.iter().map(|line| line.to_string());
         let indices = (0..MESSAGE_WORDS).cycle();
-        let lines = before.chain(indices.map(|index| format!("E,{index}\n")));
-        let script: String = lines.take(MEASURED_LINES as usize).collect();
+        Measured::of_lines(
+            name,
+            before.chain(indices.map(|index| format!("E,{index}"))),
+        )
+    }
+
+    /// The first of these lines.
+    fn of_lines(name: &str, lines: impl Iterator<Item = String>) -> Self {
+        let lines = lines.take(MEASURED_LINES as usize);
+        let script: String = lines.map(|line| line + "\n").collect();
         Measured {
             name: name.to_string(),
             script: script.into_bytes(),
@@ -144,8 +156,12 @@ impl Measured {
 
 /// The lines of a script that end in its first 64 KiB, of these at most 4096.
 pub fn tested_lines(script: &[u8]) -> &[u8] {
-    let first = &script[..script.len().min(TESTED_BYTES)];
-    let newlines = (0..first.len()).filter(|&at| first[at] == b'\n');
-    let last_newline = newlines.take(TESTED_LINES).last();
-    &first[..last_newline.map_or(0, |at| at + 1)]
+    first_lines(&script[..script.len().min(TESTED_BYTES)], TESTED_LINES)
+}
+
+/// At most so many lines of a script, each with its newline.
+pub fn first_lines(script: &[u8], most: usize) -> &[u8] {
+    let newlines = (0..script.len()).filter(|&at| script[at] == b'\n');
+    let last_newline = newlines.take(most).last();
+    &script[..last_newline.map_or(0, |at| at + 1)]
 }

@@ -45,6 +45,8 @@ pub fn operation(letter: &[u8], numbers: &[u32]) -> Option<Operation> {
             group,
             words: words.to_vec(),
         },
+        (b"O", []) => Operation::Preempt,
+        (b"I", &[group]) => Operation::Dispatch { group },
         (b"S", &[group]) => Operation::Switch { group },
         (b"T", &[count]) => Operation::Ticks { count },
         (b"M", []) => Operation::MessageLength,

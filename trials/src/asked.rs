@@ -88,6 +88,8 @@ impl Display for Asked {
 pub fn taken_apart(operation: &Operation) -> (u8, Vec<u32>) {
     match *operation {
         Operation::Arrival { group, ref words } => (b'A', [&[group], words.as_slice()].concat()),
+        Operation::Preempt => (b'O', vec![]),
+        Operation::Dispatch { group } => (b'I', vec![group]),
         Operation::Switch { group } => (b'S', vec![group]),
         Operation::Ticks { count } => (b'T', vec![count]),
         Operation::MessageLength => (b'M', vec![]),
@@ -104,7 +106,7 @@ pub fn taken_apart(operation: &Operation) -> (u8, Vec<u32>) {
 
 /// A step of some letter, most often of an operation and with its count of numbers.
 fn any_step(random: &mut Random) -> Asked {
-    let letter = random.pick(b"ASTMEDBNPL");
+    let letter = random.pick(b"AOISTMEDBNPL");
     match random.between(1, 16) {
         1 => Asked::Step(random.draw() as u8, any_numbers(random)),
         2 => Asked::Step(letter, any_numbers(random)),
@@ -120,7 +122,7 @@ fn fitting_numbers(random: &mut Random, letter: u8) -> Vec<u32> {
             let words = (0..words).map(|_| any_number(random));
             std::iter::once(group).chain(words).collect()
         }
-        b'S' | b'E' => vec![within_or_any(random, 8)],
+        b'I' | b'S' | b'E' => vec![within_or_any(random, 8)],
         b'T' => vec![within_or_any(random, 300)],
         b'L' => vec![within_or_any(random, 64)],
         b'P' => vec![any_number(random)],

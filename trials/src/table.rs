@@ -16,10 +16,10 @@ use crate::memories::{Memories, Trial};
 const ENOUGH: u64 = 100_000;
 const TOO_SHORT: &str = "memory too short";
 /// The operations' letters, and what is read as none.
-const OPERATIONS: &[u8; 11] = b"ASTMEDBNPL?";
+const OPERATIONS: &[u8; 13] = b"AOISTMEDBNPL?";
 /// An operation by its letter, then by a line, and power-on.
 const ROWS: usize = 2 * OPERATIONS.len() + 1;
-const ANSWERS: usize = 16;
+const ANSWERS: usize = 17;
 const TRAPS: usize = 4;
 /// The clauses that stray words break, and where they then stand.
 const STRAYS: [(&str, &str); 4] = [

@@ -16,3 +16,4 @@ pub const DESCRIPTOR_EMPTY: u32 = 12;
 pub const BAD_NODE: u32 = 13;
 pub const BAD_SCHEDULE: u32 = 14;
 pub const BAD_TICKS: u32 = 15;
+pub const ALREADY_RUNS: u32 = 16;

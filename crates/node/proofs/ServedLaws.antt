@@ -21,7 +21,7 @@ use Rattle.memory.proofs.PieceLaws.{holds-pieces}
 use Rattle.node.specs.Steps.{Acted, Running, Stepping, done, effect, unsettled}
 use Rattle.node.specs.declared.acted.Act.{Act as Act·rt}
 use Rattle.rules.proofs.Steps.QuietLaws.{Quiet}
-use Rattle.node.proofs.StepMap.{acted-refused, acted-unsettled, stepping-quiet, stepping-refused}
+use Rattle.node.proofs.StepMap.{acted-refused, acted-unsettled, one-act, stepping-quiet, stepping-refused}
 
 -- the running group is the first number of the memory
 pub runner : {m : List ℕ} {n : Node} {r : List ℕ} → Holds m n r → getD m 0 0 ≡ n .running
@@ -52,7 +52,7 @@ module _ {n : Node} (runs : Running n) (q : Request) where
     pub request-quiet : refuseRequest n q ≡ accepted → Quiet paper01 (serve paper01 n q .node)
         → rep ≡ reportOf (ownReport (serve paper01 n q)) → Holds m (serve paper01 n q .node) r → Stepping m n r (user q) rep
     unfolding act ownReport
-    request-quiet e quiet report h = stepping-quiet (user q) (serve paper01 n q) (request-refusal ∙ e) refl quiet h report
+    request-quiet e quiet report h = stepping-quiet (user q) (serve paper01 n q) (one-act n (user q) tt (request-refusal ∙ e) refl) quiet h report
 
   module _ {m : List ℕ} {r : List ℕ} {a : Act·rt} where
     -- the same of one that acts: refused
@@ -63,4 +63,5 @@ module _ {n : Node} (runs : Running n) (q : Request) where
     pub acting-unsettled : (k : Node) (trap moved : ℕ) → refuseRequest n q ≡ accepted → serve paper01 n q ≡ effect k trap moved → Sound paper01 k
         → moved ≤ paper01 .places → Holds m k r → a ≡ unsettled trap moved → Acted m n r (user q) a
     unfolding act
-    acting-unsettled k trap moved fine same s few h told = acted-unsettled (user q) k trap moved (request-refusal ∙ fine) same s few h told
+    acting-unsettled k trap moved fine same s few h told =
+        acted-unsettled (user q) k trap moved (one-act n (user q) tt (request-refusal ∙ fine) same) s few h told

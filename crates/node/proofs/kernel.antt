@@ -1,2 +1,2 @@
--- The laws of S and T.
+-- The laws of O, I, S and T.
 pub mod KernelLaws

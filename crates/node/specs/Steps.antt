@@ -7,11 +7,10 @@ use lib.ListN.{length, getD}
 use Rattle.rules.specs.Build.{paper01}
 use Rattle.rules.specs.Lists.{isEmpty}
 use Rattle.rules.specs.Node.{Message, Node, groupOf, withTimer, buffered, forced, line}
-use Rattle.rules.specs.Operation.{Request, Operation, user, accepted, acceptedWith, disposeExtend, noTrap, timeoutTrap}
+use Rattle.rules.specs.Operation.{Request, Operation, user, acceptedWith, disposeExtend, noTrap, timeoutTrap}
 use Rattle.rules.specs.Paging.{store}
 use Rattle.rules.specs.Settling.{mayStay, settle, drain, upcall, upcallGroup}
-use Rattle.rules.specs.Refusal.{refusal}
-use Rattle.rules.specs.Step.{Effect, act, finish, revoke, step, removed}
+use Rattle.rules.specs.Step.{Effect, finish, revoke, step, removed}
 use Rattle.rules.specs.Types.{operationOf, reportOf}
 use Rattle.rules.specs.declared.Operation.{Operation as Operation·rt}
 use Rattle.rules.specs.Valid.{Valid}
@@ -54,11 +53,10 @@ unsettled trap moved = record { settles = true; report = reportOf (acceptedWith 
 abbrev pub effect : Node → ℕ → ℕ → Effect
 effect n trap moved = record { node = n; value = 0; trap = trap; moved = moved; sent = [] }
 
--- what an accepted operation has done before settling, told by this report
+-- what an accepted operation has done before settling, told by this report: finished, it is the step
 pub record Acting (m′ : List ℕ) (n : Node) (rest : List ℕ) (op : Operation) (rep : Report·rt) : Type 0 where
-  pub accepts : refusal paper01 n op ≡ accepted
   pub node : Node
-  pub same : act paper01 n op ≡ effect node (rep .trap) (rep .moved)
+  pub same : step paper01 n op ≡ finish paper01 (effect node (rep .trap) (rep .moved))
   pub sound : Sound paper01 node
   pub holds : Holds m′ node rest
   pub few : rep .moved ≤ paper01 .places

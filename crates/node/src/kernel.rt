@@ -1,4 +1,4 @@
-// The kernel's operations: S and T.
+// The kernel's operations: O, I, S and T.
 use super::acted::Act;
 use super::settling;
 use memory::Node;
@@ -6,13 +6,44 @@ use memory::group;
 use memory::map;
 use rules::Report;
 ghost use Rattle.rules.specs.Build.{paper01};
-ghost use Rattle.rules.specs.Operation.{schedule, tick};
+ghost use Rattle.rules.specs.Operation.{dispatch, preempt, schedule, tick};
 ghost use Rattle.rules.specs.Step.{revoke};
 ghost use Rattle.rules.specs.Sound.{Sound};
 ghost use Rattle.memory.specs.Holds.{Some, Becomes};
 ghost use Rattle.node.specs.Steps.{IsNode, Acts, Ticking, LeftOver, TimesOut};
 
-// S: the processor is given to group g, 0 to nobody.
+// O: the processor is taken from whoever runs. Settling then moves the whole queue, and puts the timer to rest.
+pub fn preempt(m: &mut [u32]) -> Act
+    requires { ⌜ IsNode (now m) ⌝ }
+    ensures { λ a. ⌜ Acts (now (m .entry)) (now (m .exit)) preempt a ⌝ }
+{
+    if m[map::RUNNING] == 0 {
+        return Act::accepted();
+    }
+    m[map::RUNNING] = 0;
+    Act::unsettled(0, 0)
+}
+
+// I: the processor, which nobody has, is given to group g.
+pub fn dispatch(m: &mut [u32], g: u32) -> Act
+    requires { ⌜ IsNode (now m) ⌝ }
+    ensures { λ a. ⌜ Acts (now (m .entry)) (now (m .exit)) (dispatch g) a ⌝ }
+{
+    if g == 0 {
+        return Act::refused(Report::BAD_SCHEDULE);
+    }
+    if g > Node::GROUPS {
+        return Act::refused(Report::BAD_SCHEDULE);
+    }
+    if m[map::RUNNING] != 0 {
+        return Act::refused(Report::ALREADY_RUNS);
+    }
+    m[map::RUNNING] = g;
+    Act::unsettled(0, 0)
+}
+
+// S: O and I in one step, to group g, 0 to nobody. Nobody runs while the queue is moved, so nobody's first page is spared; and a timer that
+// group g has forced would not come to rest by settling.
 pub fn schedule(m: &mut [u32], g: u32) -> Act
     requires { ⌜ IsNode (now m) ⌝ }
     ensures { λ a. ⌜ Acts (now (m .entry)) (now (m .exit)) (schedule g) a ⌝ }
@@ -23,9 +54,11 @@ pub fn schedule(m: &mut [u32], g: u32) -> Act
     if g == m[map::RUNNING] {
         return Act::accepted();
     }
+    m[map::RUNNING] = 0;
+    let moved = settling::drain(m);
     m[map::RUNNING] = g;
     m[map::TIMER] = 0;
-    Act::unsettled(0, 0)
+    Act::unsettled(0, moved)
 }
 
 // T: k ticks, which count while the timer runs. They are not played one by one: ticks in a row leave what one timeout leaves, and on a forced

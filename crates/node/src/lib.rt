@@ -101,6 +101,8 @@ fn act(memory: &mut [u32], op: Operation, words: &[u32]) -> Act
     match op {
         Operation::Arrive(g) => network::arrive(memory, g, words),
         Operation::Schedule(g) => kernel::schedule(memory, g),
+        Operation::Preempt => kernel::preempt(memory),
+        Operation::Dispatch(g) => kernel::dispatch(memory, g),
         Operation::Tick(k) => kernel::tick(memory, k),
         Operation::Unknown => Act::refused(Report::UNREADABLE),
         _ => request(memory, op),

@@ -92,13 +92,13 @@ pub fn settle(m: &mut [u32]) -> u32
     moved
 }
 
-// A timeout: the whole queue moves to the buffers. How many messages it had.
+// The whole queue moves to the buffers, at a timeout and where S takes the processor. How many messages it had.
 pub fn drain(m: &mut [u32]) -> u32
     requires { ⌜ Some (now m) (Sound paper01) ⌝ }
     ensures { λ i. ⌜ ((n : Node) (r : List ℕ) → Holds (now (m .entry)) n r → Sound paper01 n → Drained (now (m .exit)) n r i) ⌝ }
 {
     let moved = m[map::QUEUED];
-    while m[map::QUEUED] != 0 {
+    while m[map::QUEUED] > 0 {
         move_head(m);
     }
     moved

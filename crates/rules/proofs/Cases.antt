@@ -6,6 +6,7 @@ pub mod AnswerCasesLaws
 pub mod ScriptCasesLaws
 pub mod BufferCasesLaws
 pub mod StepCasesLaws
+pub mod SwitchCasesLaws
 pub mod ForceCasesLaws
 pub mod MemoryParts
 pub mod TestComputes
@@ -13,3 +14,4 @@ pub mod MemoryCasesLaws
 pub mod PagingCasesLaws
 pub mod WipedCasesLaws
 pub mod RunCasesLaws
+pub mod BeforeCasesLaws

@@ -13,3 +13,4 @@ pub mod TickLaws
 pub mod ActLaws
 pub mod StepLaws
 pub mod QuietLaws
+pub mod SwitchLaws

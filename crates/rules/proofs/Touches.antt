@@ -3,5 +3,6 @@ pub mod PartLaws
 pub mod TouchLaws
 pub mod SectionRows
 pub mod QueueRows
+pub mod SwitchRows
 pub mod DisposeRow
 pub mod TouchesLaws

@@ -9,7 +9,7 @@ use lib.Dec.{eqb}
 use lib.ListN.{length}
 use Rattle.rules.specs.Node.{Message, Node, groupOf, inQueue, line}
 use Rattle.rules.specs.Operation.{peek, dispose, endAtomic, describe, launch}
-use Rattle.rules.specs.Operation.{Request, Operation, arrive, schedule, tick, user, unknown}
+use Rattle.rules.specs.Operation.{Request, Operation, arrive, schedule, dispatch, tick, user, unknown}
 use Rattle.rules.specs.MemoryTest.{isMemory}
 
 -- "(h + n + k) / 8 rounded up", with k the messages of group g in the hardware queue once one more has arrived for group a
@@ -56,8 +56,12 @@ pub data Due (m : List ℕ) (n : Node) : Operation → ℕ → Type 0 where
   bad-node : {k : ℕ} → 63 < k → Due m n (user (launch k)) 13
   -- "14: S above 8."
   bad-schedule : {g : ℕ} → 8 < g → Due m n (schedule g) 14
+  -- "14 for a group outside 1 to 8"
+  bad-dispatch : {g : ℕ} → ¬ ((1 ≤ g) × (g ≤ 8)) → Due m n (dispatch g) 14
   -- "15: T with 0 or above 65,535."
   bad-ticks : {k : ℕ} → (k ≡ 0) ⊎ (65535 < k) → Due m n (tick k) 15
+  -- "It refuses I with 16 when a group already runs"
+  already-runs : {g : ℕ} → n .running ≢ 0 → Due m n (dispatch g) 16
 
 -- the answer is the first number that is due, in the paper's order, which is that of the numbers; it is 0 where none is
 pub record FirstDue (m : List ℕ) (n : Node) (op : Operation) (answer : ℕ) : Type 0 where

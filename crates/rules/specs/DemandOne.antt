@@ -25,8 +25,8 @@ pub record AnyStep (m : List ℕ) (op : Operation) : Type 0 where
   pub not-node : (stepMemory m op .report .answer ≡ 1) ↔ (isMemory m ≡ false)
   -- "2: unknown operation or unreadable line. Next after 1, before all below."
   pub unreadable : isMemory m ≡ true → (stepMemory m op .report .answer ≡ 2) ↔ (op ≡ unknown)
-  -- the answer is one of 0 to 15
-  pub numbered : stepMemory m op .report .answer ≤ 15
+  -- the answer is one of 0 to 16
+  pub numbered : stepMemory m op .report .answer ≤ 16
   -- "A refused step reports its number and zeros, and nothing in memory changes"
   pub refused-unchanged : stepMemory m op .report .answer ≢ 0
       → stepMemory m op ≡ record { report = onlyNumber (stepMemory m op .report .answer); memory = m }

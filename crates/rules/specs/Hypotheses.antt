@@ -1,18 +1,26 @@
 -- What the statements ask for, told from the other side: which builds make sense, which differ in their frames alone, which nodes agree, where a
--- message waits, and what the tests of a node and of a memory ask. A hypothesis that asked for more would make a statement say less and leave it proved;
+-- message waits, which scripts are old, and what the tests of a node and of a memory ask. A hypothesis that asked for more would make a statement say less and leave it proved;
 -- one of these it would make false. Assumes nothing.
 use Prim.Native.Nat.{ℕ, _+_, _≤_}
 use mathlib.Core.Path.{_≡_}
 use mathlib.Core.Logic.{_≢_, _↔_}
 use mathlib.Core.Bool.{true}
-use mathlib.Core.List.{List, [], _∷_, _++_}
+use mathlib.Core.List.{List, [], _∷_, _++_, map}
 use lib.ListN.{drop}
 use Rattle.rules.specs.Build.{Build, paper01, Sensible}
+use Rattle.rules.specs.Lists.{filter, upFrom}
+use Rattle.rules.specs.Operation.{Request, arrive, schedule, tick, user, unknown}
+use Rattle.rules.specs.Text.{bytes}
+use Rattle.rules.specs.Script.{scriptLines}
 use Rattle.rules.specs.Node.{Place, Buffer, Node, groupOf, withGroup, withBuffer, inBuffer}
 use Rattle.rules.specs.Valid.{Valid, isNode}
 use Rattle.rules.specs.Memory.{size, words, nodeAt}
 use Rattle.rules.specs.MemoryTest.{isMemory}
 use Rattle.rules.specs.Unseen.{SameButFrames}
+use Rattle.rules.specs.Run.{Input, operation, scriptLine}
+use Rattle.rules.specs.Before.{Old, isFull, OldScript}
+use Rattle.rules.specs.Cases.Case.{_gives_}
+use Rattle.rules.specs.Cases.BeforeCases.{steps, fullQueue, pledgedPages}
 use Rattle.rules.specs.Dumps.{WaitsIn, dump, Agree}
 
 -- a build of these sizes: frames, swap pages, messages in a frame, places of the queue, ticks to a timeout
@@ -65,6 +73,34 @@ pub record WaitsExamples : Type 0 where
   pub behind : ¬ WaitsIn twoPages 37 2
   -- and none in a page that the list does not name
   pub unlisted : (p i : ℕ) → p ≢ 4 → p ≢ 37 → ¬ WaitsIn twoPages p i
+
+-- "the whole case"
+abbrev pub wholeCase : List Input
+wholeCase = map scriptLine (scriptLines (bytes "S,1\nA,1,7\nA,2,5,6\nN\nE,0\nT,256\nD\nN\nS,2\nM\nD\nP,9\nL,3\n"))
+
+-- the two scripts of BeforeCases
+abbrev pub lastFive : List Input
+lastFive = steps (fullQueue ++ ("S,2\n" gives "" ∷ "A,2,5\n" gives "" ∷ "A,2,5\n" gives "" ∷ []))
+
+abbrev pub lastSix : List Input
+lastSix = steps (pledgedPages ++ ("S,2\n" gives "" ∷ "D\n" gives "" ∷ "A,4,4\n" gives "" ∷ []))
+
+-- old scripts
+pub record OldExamples : Type 0 where
+  -- any operation of then, and a line that names one, or none
+  pub arrival-old : (g : ℕ) (ws : List ℕ) → Old (operation (arrive g ws))
+  pub schedule-old : (g : ℕ) → Old (operation (schedule g))
+  pub tick-old : (k : ℕ) → Old (operation (tick k))
+  pub request-old : (r : Request) → Old (operation (user r))
+  pub unknown-old : Old (operation unknown)
+  pub line-old : Old (scriptLine (bytes "S,1"))
+  -- of the answers 5 and 6 alone hang on the form of S
+  pub full-answers : filter isFull (upFrom 0 17) ≡ 5 ∷ 6 ∷ []
+  -- the paper's whole case is an old script
+  pub whole-case : OldScript paper01 wholeCase
+  -- one that met 5, before order 5 alone, is none, and neither is one that meets 6, now alone
+  pub five-before : ¬ OldScript paper01 lastFive
+  pub six-now : ¬ OldScript paper01 lastSix
 
 -- what the tests ask
 pub record TestSays : Type 0 where

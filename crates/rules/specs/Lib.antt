@@ -16,6 +16,7 @@ pub mod Text
 pub mod Script
 pub mod Private
 pub mod Run
+pub mod Before
 pub mod Cases
 pub mod Conditions
 pub mod DemandOne

@@ -24,7 +24,11 @@ pub data Request : Type 0 where
 pub data Operation : Type 0 where
   -- A: group, words
   arrive : ℕ → List ℕ → Operation
-  -- S: group
+  -- O
+  preempt : Operation
+  -- I: group
+  dispatch : ℕ → Operation
+  -- S: group; a line of two acts, those of O and I
   schedule : ℕ → Operation
   -- T: n
   tick : ℕ → Operation
@@ -87,13 +91,17 @@ descriptorEmpty = 12
 abbrev pub badNode : ℕ
 badNode = 13
 
--- "14: S above 8."
+-- "14: S above 8."; I "for a group outside 1 to 8"
 abbrev pub badSchedule : ℕ
 badSchedule = 14
 
 -- "15: T with 0 or above 65,535."
 abbrev pub badTicks : ℕ
 badTicks = 15
+
+-- "It refuses I with 16 when a group already runs"
+abbrev pub alreadyRuns : ℕ
+alreadyRuns = 16
 
 -- "Trap: 1 dispose-extend, on D begun while buffered; 2 atomicity-extend, on N begun while buffered; 3 timeout, on T; else 0."
 abbrev pub noTrap : ℕ
@@ -128,6 +136,6 @@ refused a = record { answer = a; value = 0; trap = noTrap; upcall = 0; moved = 0
 abbrev pub acceptedWith : ℕ → ℕ → ℕ → ℕ → Report
 acceptedWith value trap upcall moved = record { answer = accepted; value = value; trap = trap; upcall = upcall; moved = moved; sent = [] }
 
--- all that an accepted power-on reports
+-- all that an accepted power-on reports, and a step that does nothing
 abbrev pub allZero : Report
 allZero = acceptedWith 0 noTrap 0 0

@@ -9,7 +9,7 @@ use Rattle.rules.specs.Lists.{isEmpty}
 use Rattle.rules.specs.Build.{wordLimit, lastNode}
 use Rattle.rules.specs.Node.{Message}
 use Rattle.rules.specs.Operation.{Request, poll, peek, dispose, beginAtomic, endAtomic, describe, launch}
-use Rattle.rules.specs.Operation.{Operation, arrive, schedule, tick, user, unknown}
+use Rattle.rules.specs.Operation.{Operation, arrive, schedule, preempt, dispatch, tick, user, unknown}
 use Rattle.rules.specs.Operation.{accepted, noMessage, pastMessage, stillPending, descriptorFull, descriptorEmpty, badNode}
 
 -- "It keeps: having the processor, atomic, pending, a list of messages and a descriptor"
@@ -28,7 +28,7 @@ atFirst = record { has = false; atomic = false; pending = false; messages = []; 
 pub data Told : Type 0 where
   -- an accepted A for the group, with its words
   message : List ℕ → Told
-  -- an accepted S: it names the group, or it does not
+  -- an accepted S, O or I: it names the group, or it does not
   processor : Bool → Told
   -- one of M to L
   request : Request → Told
@@ -39,6 +39,9 @@ pub data Told : Type 0 where
 unfoldable pub told : ℕ → Operation → Bool → Told
 told g (arrive h ws) ok = cond (ok && eqb h g) (message ws) nothing
 told g (schedule h) ok = cond ok (processor (eqb h g)) nothing
+-- "For the private line an accepted O is as an accepted `S,0`, an accepted `I,g` as an accepted `S,g`."
+told g preempt ok = cond ok (processor (eqb 0 g)) nothing
+told g (dispatch h) ok = cond ok (processor (eqb h g)) nothing
 told g (tick k) ok = nothing
 told g (user r) ok = request r
 told g unknown ok = nothing

@@ -9,9 +9,9 @@ use Rattle.rules.specs.Build.{Build, pageCount, groupCount, wordLimit, l
 use Rattle.rules.specs.Node.{Message, Node, groupOf, withQueue, line}
 use Rattle.rules.specs.Frames.{pledges}
 use Rattle.rules.specs.Operation.{Request, poll, peek, dispose, beginAtomic, endAtomic, describe, launch}
-use Rattle.rules.specs.Operation.{Operation, arrive, schedule, tick, user, unknown}
+use Rattle.rules.specs.Operation.{Operation, arrive, schedule, preempt, dispatch, tick, user, unknown}
 use Rattle.rules.specs.Operation.{accepted, unreadable, badGroup, badWords, queueFull, noFrames, nobodyRuns, noMessage, pastMessage}
-use Rattle.rules.specs.Operation.{stillPending, descriptorFull, descriptorEmpty, badNode, badSchedule, badTicks}
+use Rattle.rules.specs.Operation.{stillPending, descriptorFull, descriptorEmpty, badNode, badSchedule, badTicks, alreadyRuns}
 
 -- the node with a message more at the end of the hardware queue
 unfoldable pub queued : Message → Node → Node
@@ -29,6 +29,12 @@ refuseArrive b n m =
 -- "14: S above 8."
 unfoldable pub refuseSchedule : ℕ → ℕ
 refuseSchedule g = cond (ltb groupCount g) badSchedule accepted
+
+-- I: "16 when a group already runs, after 14 for a group outside 1 to 8"
+unfoldable pub refuseDispatch : ℕ → ℕ → ℕ
+refuseDispatch running g =
+    cond (eqb g 0 || ltb groupCount g) badSchedule
+    (cond (eqb running 0) accepted alreadyRuns)
 
 -- "15: T with 0 or above 65,535."
 unfoldable pub refuseTick : ℕ → ℕ
@@ -70,6 +76,8 @@ refuseRequest n (launch k) = refuseLaunch (groupOf n (n .running) .descriptor) k
 -- the number an operation is refused with, 0 where it is accepted; "7: nobody runs; before all others here."; "2: unknown operation"
 unfoldable pub refusal : Build → Node → Operation → ℕ
 refusal b n (arrive g ws) = refuseArrive b n (record { group = g; words = ws })
+refusal b n preempt = accepted
+refusal b n (dispatch g) = refuseDispatch (n .running) g
 refusal b n (schedule g) = refuseSchedule g
 refusal b n (tick k) = refuseTick k
 refusal b n (user r) = cond (eqb (n .running) 0) nobodyRuns (refuseRequest n r)

@@ -7,7 +7,7 @@ use Rattle.rules.specs.Lists.{concatMap, sum}
 use Rattle.rules.specs.Build.{Build}
 use Rattle.rules.specs.Node.{Message, Node, powerOn}
 use Rattle.rules.specs.Operation.{poll, peek, dispose, beginAtomic, endAtomic, describe, launch}
-use Rattle.rules.specs.Operation.{Operation, arrive, schedule, tick, user, unknown, Report, accepted, noTrap}
+use Rattle.rules.specs.Operation.{Operation, arrive, schedule, preempt, dispatch, tick, user, unknown, Report, accepted, noTrap}
 use Rattle.rules.specs.Step.{step}
 use Rattle.rules.specs.Memory.{word, runningAt}
 use Rattle.rules.specs.MemoryTest.{stepMemory, powerOnMemory}
@@ -74,6 +74,8 @@ wasAccepted e = eqb (e .report .answer) accepted
 -- the message that an accepted A brings
 unfoldable pub arrivedBy : Operation → Bool → List Message
 arrivedBy (arrive g ws) ok = cond ok (record { group = g; words = ws } ∷ []) []
+arrivedBy preempt ok = []
+arrivedBy (dispatch g) ok = []
 arrivedBy (schedule g) ok = []
 arrivedBy (tick k) ok = []
 arrivedBy (user r) ok = []
@@ -94,6 +96,8 @@ answerOf r = record { number = r .answer; value = r .value; sent = r .sent }
 -- the answer that a step gives a group, "for each M to L while it runs"
 unfoldable pub answerTo : Operation → Bool → Report → List Answer
 answerTo (arrive g ws) runs r = []
+answerTo preempt runs r = []
+answerTo (dispatch g) runs r = []
 answerTo (schedule g) runs r = []
 answerTo (tick k) runs r = []
 answerTo (user q) runs r = cond runs (answerOf r ∷ []) []
@@ -110,6 +114,8 @@ upcallsOf g es = map (λ e. eqb (e .report .upcall) g) es
 -- 1 for an accepted D, else 0
 unfoldable pub disposedBy : Operation → Bool → ℕ
 disposedBy (arrive g ws) ok = 0
+disposedBy preempt ok = 0
+disposedBy (dispatch g) ok = 0
 disposedBy (schedule g) ok = 0
 disposedBy (tick k) ok = 0
 disposedBy (user poll) ok = 0
@@ -136,6 +142,8 @@ left es = sum (map leftBy es)
 -- "the n of [an] accepted T"
 unfoldable pub tickedBy : Operation → Bool → ℕ
 tickedBy (arrive g ws) ok = 0
+tickedBy preempt ok = 0
+tickedBy (dispatch g) ok = 0
 tickedBy (schedule g) ok = 0
 tickedBy (tick k) ok = cond ok k 0
 tickedBy (user r) ok = 0

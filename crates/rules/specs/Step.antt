@@ -9,8 +9,8 @@ use Rattle.rules.specs.Node.{Message, Node, groupOf, withRunning, withTi
 use Rattle.rules.specs.Frames.{removeFirst, withStock}
 use Rattle.rules.specs.Paging.{runnerResident}
 use Rattle.rules.specs.Operation.{Request, poll, peek, dispose, beginAtomic, endAtomic, describe, launch}
-use Rattle.rules.specs.Operation.{Operation, arrive, schedule, tick, user, unknown}
-use Rattle.rules.specs.Operation.{Report, accepted, noTrap, disposeExtend, atomicityExtend, timeoutTrap, refused}
+use Rattle.rules.specs.Operation.{Operation, arrive, schedule, preempt, dispatch, tick, user, unknown}
+use Rattle.rules.specs.Operation.{Report, accepted, noTrap, disposeExtend, atomicityExtend, timeoutTrap, refused, allZero}
 use Rattle.rules.specs.Refusal.{refusal, queued}
 use Rattle.rules.specs.Settling.{settle, drain, upcall, upcallGroup}
 
@@ -26,9 +26,9 @@ pub record Effect : Type 0 where
 unfoldable pub valued : ℕ → Node → Effect
 valued x n = record { node = n; value = x; trap = noTrap; moved = 0; sent = [] }
 
--- S: "gives the processor to that group, 0 to nobody; timer to 0. To the one already running (or 0 to 0): changes nothing"
-unfoldable pub scheduled : ℕ → Node → Node
-scheduled g n = cond (eqb g (n .running)) n (withTimer 0 (withRunning g n))
+-- O "takes [the processor] from whoever runs"; "O zeroes the timer."; "with nobody running, it changes nothing": the timer is then 0
+unfoldable pub preempted : Node → Node
+preempted n = withTimer 0 (withRunning 0 n)
 
 -- the running group's flags force and revoked set
 unfoldable pub timerFlagged : Bool → Bool → Node → Node
@@ -135,10 +135,13 @@ serve b n (describe w) =
     valued (length d) (described d n)
 serve b n (launch k) = launched k n
 
--- the table of operations
+-- the table of operations; S has no act of its own, but those of O and I (see switched)
 unfoldable pub act : Build → Node → Operation → Effect
 act b n (arrive g ws) = valued 0 (queued (record { group = g; words = ws }) n)
-act b n (schedule g) = valued 0 (scheduled g n)
+act b n preempt = valued 0 (preempted n)
+-- "`I,g` gives it to g"
+act b n (dispatch g) = valued 0 (withRunning g n)
+act b n (schedule g) = valued 0 n
 act b n (tick k) = ticks b k (valued 0 n)
 act b n (user r) = serve b n r
 act b n unknown = valued 0 n
@@ -166,10 +169,47 @@ finish b e =
       node = upcall n;
     }
 
+-- two steps in a row as one: the second's report, "with the moved counts summed"
+unfoldable pub inARow : Stepped → Stepped → Stepped
+inARow s t =
+    let r = t .report in
+    record {
+      report =
+          record {
+            answer = r .answer;
+            value = r .value;
+            trap = r .trap;
+            upcall = r .upcall;
+            moved = s .report .moved + r .moved;
+            sent = r .sent;
+          };
+      node = t .node;
+    }
+
+-- S: "nothing if g already runs, else O, and I unless g is 0"
+unfoldable pub switched : Build → Node → ℕ → Stepped
+switched b n g =
+    elim (eqb g (n .running)) [
+      | true ↦ record { report = allZero; node = n }
+      | false ↦
+          let taken = finish b (act b n preempt) in
+          elim (eqb g 0) [ true ↦ taken | false ↦ inARow taken (finish b (act b (taken .node) (dispatch g))) ]
+    ]
+
+-- what an accepted operation does, whole: S is a line of two acts, every other operation one
+unfoldable pub performed : Build → Node → Operation → Stepped
+performed b n (arrive g ws) = finish b (act b n (arrive g ws))
+performed b n preempt = finish b (act b n preempt)
+performed b n (dispatch g) = finish b (act b n (dispatch g))
+performed b n (schedule g) = switched b n g
+performed b n (tick k) = finish b (act b n (tick k))
+performed b n (user r) = finish b (act b n (user r))
+performed b n unknown = finish b (act b n unknown)
+
 -- "A refused step reports its number and zeros, and nothing in memory changes: no settling, no upcall."
 unfoldable pub step : Build → Node → Operation → Stepped
 step b n op =
     elim (refusal b n op) [
-      | zero ↦ finish b (act b n op)
+      | zero ↦ performed b n op
       | suc r ↦ record { report = refused (suc r); node = n }
     ]

@@ -12,7 +12,7 @@ use Rattle.rules.specs.Lists.{filter, isEmpty}
 use Rattle.rules.specs.Build.{Build, groupCount}
 use Rattle.rules.specs.Node.{Message, Place, Group, Node, groupOf, isOf}
 use Rattle.rules.specs.Operation.{Request, poll, peek, dispose, beginAtomic, endAtomic, describe, launch}
-use Rattle.rules.specs.Operation.{Operation, arrive, schedule, tick, user, unknown, Report, accepted, noTrap, timeoutTrap}
+use Rattle.rules.specs.Operation.{Operation, arrive, schedule, preempt, dispatch, tick, user, unknown, Report, accepted, noTrap, timeoutTrap}
 use Rattle.rules.specs.Step.{step}
 use Rattle.rules.specs.Valid.{Valid}
 
@@ -113,6 +113,10 @@ untouched = row [] (λ g. [])
 abbrev pub stores : List NodePart
 stores = free ∷ swap ∷ entered ∷ out ∷ brought ∷ []
 
+-- what two rows name
+abbrev pub both : Row → Row → Row
+both s t = row (s .node ++ t .node) (λ g. s .group g ++ t .group g)
+
 -- these parts where the test passes, else none
 abbrev pub when : Bool → List GroupPart → List GroupPart
 when t ps = cond t ps []
@@ -128,6 +132,15 @@ isMoved g k q = not (isEmpty (filter (isOf g) (take k q)))
 -- as messages move to buffers, pages of any group may be sent out and brought in; a group with a message among them has its buffer filled
 abbrev pub filling : Bool → List GroupPart
 filling own = pages ∷ when own (count ∷ places ∷ [])
+
+-- O: "with nobody running, it changes nothing"; else the whole queue moves
+abbrev pub preemptRow : Node → Report → Row
+preemptRow n r =
+    cond (eqb (n .running) 0) untouched (row (running ∷ timer ∷ queue ∷ stores) (λ g. filling (isMoved g (r .moved) (n .queue))))
+
+-- I: the new runner's first page may be brought in, for which another may go, and it may be called up
+abbrev pub dispatchRow : ℕ → Row
+dispatchRow h = row (running ∷ stores) (λ g. pages ∷ when (eqb h g) (atomic ∷ pending ∷ []))
 
 -- the rows of M to L, on node n with report r
 unfoldable pub requestRow : Node → Request → Report → Row
@@ -154,10 +167,10 @@ rowOf n (arrive h ws) r =
     cond (eqb (r .moved) 0)
     (row (queue ∷ []) (λ g. when (eqb h g && runs n g) (atomic ∷ pending ∷ [])))
     (row stores (λ g. filling (eqb h g)))
--- S: "To the one already running (or 0 to 0): changes nothing"; to another, the queue settles, and the new runner may be called up
-rowOf n (schedule h) r =
-    cond (eqb h (n .running)) untouched
-    (row (running ∷ timer ∷ queue ∷ stores) (λ g. filling (isMoved g (r .moved) (n .queue)) ++ when (eqb h g) (atomic ∷ pending ∷ [])))
+rowOf n preempt r = preemptRow n r
+rowOf n (dispatch h) r = dispatchRow h
+-- S: "nothing if g already runs, else O, and I unless g is 0"
+rowOf n (schedule h) r = cond (eqb h (n .running)) untouched (both (preemptRow n r) (dispatchRow h))
 -- T "adds 1 to the timer"; at a timeout "the whole hardware queue moves to the buffers", and "the running group is marked revoked"
 rowOf n (tick k) r =
     cond (eqb (r .trap) noTrap)
@@ -175,8 +188,8 @@ pub record Touched (t : Row) (k n : Node) : Type 0 where
 -- What follows, by name: of an accepted operation, its report, node n before it and node k after it, for one of the groups.
 
 pub record ByName (n k : Node) (op : Operation) (r : Report) (g : ℕ) : Type 0 where
-  -- running changes by S
-  pub running-by : k .running ≢ n .running → (h : ℕ) × (op ≡ schedule h)
+  -- running changes by O, I and S
+  pub running-by : k .running ≢ n .running → (op ≡ preempt) ⊎ (((h : ℕ) × (op ≡ dispatch h)) ⊎ ((h : ℕ) × (op ≡ schedule h)))
   -- A leaves the timer
   pub timer-left : (h : ℕ) (ws : List ℕ) → op ≡ arrive h ws → k .timer ≡ n .timer
   -- h changes by D alone

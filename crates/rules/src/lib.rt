@@ -7,6 +7,8 @@ ghost use Rattle.rules.specs.Types.{reportOf};
 pub enum Operation {
     Arrive(u32),
     Schedule(u32),
+    Preempt,
+    Dispatch(u32),
     Tick(u32),
     Poll,
     Peek(u32),
@@ -67,6 +69,8 @@ impl Report {
     pub const BAD_SCHEDULE: u32 = 14;
 
     pub const BAD_TICKS: u32 = 15;
+
+    pub const ALREADY_RUNS: u32 = 16;
 
     // The traps.
     pub const DISPOSE_EXTEND: u32 = 1;

@@ -2,6 +2,7 @@
 use Prim.Native.Nat.{ℕ, _+_, _-_, _≤_}
 use Prim.Native.Char.{code}
 use mathlib.Core.Bool.{Bool, true, false, cond, not, _&&_}
+use mathlib.Core.Logic.{_≢_}
 use mathlib.Core.Path.{_≡_}
 use mathlib.Core.List.{List, [], _∷_}
 use mathlib.Core.Option.{Option, none, some}
@@ -80,6 +81,14 @@ pub record FieldsRead (s : List ℕ) (at : ℕ) (fields : List ℕ) (f : Fields�
 -- B by its number
 unfoldable pub BeginRead : ℕ → Operation·rt → Type 0
 BeginRead force op = operationOf op [] ≡ yesOrNo (λ f. user (beginAtomic f)) force
+
+-- the operation of a letter without numbers
+unfoldable pub Alone : ℕ → Operation·rt → Type 0
+Alone letter op = operationOf op [] ≡ script.operationOf letter (some [])
+
+-- of a letter but A, which takes any count of words, with one number
+unfoldable pub WithNumber : ℕ → ℕ → Operation·rt → Type 0
+WithNumber letter number op = letter ≢ code "A" → operationOf op [] ≡ script.operationOf letter (some (number ∷ []))
 
 -- the operation of a letter and numbers, of which only the count and the first are at hand; the words of an arrival are those behind the first
 unfoldable pub Lettered : ℕ → ℕ → ℕ → Operation·rt → Type 0

@@ -5,7 +5,7 @@ ghost use mathlib.Core.Path.{_≡_};
 ghost use Prim.Native.Nat.{_≤_, _<_};
 ghost use lib.ListN.{length};
 ghost use Rattle.rules.specs.Text.{isDigit};
-ghost use Rattle.script.specs.Read.{fieldLimit, lineEnd, noNumber, fieldsEnded, unreadableLine, Judged, NumberRead, FieldsRead, BeginRead, Lettered, LineRead, TextRead};
+ghost use Rattle.script.specs.Read.{fieldLimit, lineEnd, noNumber, fieldsEnded, unreadableLine, Judged, NumberRead, FieldsRead, BeginRead, Alone, WithNumber, Lettered, LineRead, TextRead};
 
 // A line has room for no more numbers: each takes a comma and a digit.
 pub const FIELDS: usize = 64;
@@ -177,18 +177,42 @@ fn begin(force: u32) -> Operation
     }
 }
 
+// The operation of a letter without numbers.
+fn alone(letter: u8) -> Operation
+    ensures { λ op. ⌜ Alone letter op ⌝ }
+{
+    match letter {
+        b'O' => Operation::Preempt,
+        b'M' => Operation::Poll,
+        b'D' => Operation::Dispose,
+        b'B' => Operation::BeginAtomic(false),
+        b'N' => Operation::EndAtomic,
+        _ => Operation::Unknown,
+    }
+}
+
+// The operation of a letter but A with one number.
+fn with_number(letter: u8, number: u32) -> Operation
+    ensures { λ op. ⌜ WithNumber letter number op ⌝ }
+{
+    match letter {
+        b'S' => Operation::Schedule(number),
+        b'I' => Operation::Dispatch(number),
+        b'T' => Operation::Tick(number),
+        b'E' => Operation::Peek(number),
+        b'B' => begin(number),
+        b'P' => Operation::Describe(number),
+        b'L' => Operation::Launch(number),
+        _ => Operation::Unknown,
+    }
+}
+
 // The operation of a letter and its numbers, by their count and the first.
 pub fn operation(letter: u8, count: usize, first: u32) -> Operation
     ensures { λ op. ⌜ Lettered letter count first op ⌝ }
 {
     if count == 0 {
-        return match letter {
-            b'M' => Operation::Poll,
-            b'D' => Operation::Dispose,
-            b'B' => Operation::BeginAtomic(false),
-            b'N' => Operation::EndAtomic,
-            _ => Operation::Unknown,
-        };
+        return alone(letter);
     }
     if letter == b'A' {
         return Operation::Arrive(first);
@@ -196,15 +220,7 @@ pub fn operation(letter: u8, count: usize, first: u32) -> Operation
     if count > 1 {
         return Operation::Unknown;
     }
-    match letter {
-        b'S' => Operation::Schedule(first),
-        b'T' => Operation::Tick(first),
-        b'E' => Operation::Peek(first),
-        b'B' => begin(first),
-        b'P' => Operation::Describe(first),
-        b'L' => Operation::Launch(first),
-        _ => Operation::Unknown,
-    }
+    with_number(letter, first)
 }
 
 // What is told of a line that cannot be read.

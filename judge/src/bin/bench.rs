@@ -1,5 +1,5 @@
-//! How long programs take for one script. `bin/bench` puts the project's folder before the
-//! arguments.
+//! How long programs take for one script, or how many instructions. `bin/bench` puts the project's
+//! folder before the arguments.
 
 use std::fs::{self, File};
 use std::io::{self, Write};
@@ -8,34 +8,51 @@ use std::process::{Command, ExitCode, Stdio};
 use std::time::{Duration, Instant};
 
 use judge::program::{
-    arguments, failed, finish, fugu, misused, print, tested_lines, Measured, JUDGE_ROUNDS, ROUNDS,
-    TESTED_TIMES,
+    arguments, failed, finish, first_lines, fugu, misused, print, tested_lines, Measured,
+    JUDGE_ROUNDS, ROUNDS, TESTED_TIMES,
 };
-use judge::script::write_listing;
+use judge::script;
 
 const NAME: &str = "bench";
 const USAGE: &str = "\
-usage: bin/bench [--script FILE] [PROGRAM]
+usage: bin/bench [--instructions] [--script FILE] [PROGRAM [ARGUMENT..]]
        bin/bench --help
 
 Plays a script by target/bin/fugu, by the judge and by PROGRAM, which takes it on standard input and
-writes the listing to standard output. If none is named, these are four of a million lines: a random
-one of the flavour mixed, a random one of the flavour swap, which keeps the frames full, and two that
-bring one message and then are E alone, which reads its words in turn, over and over: in the hardware
-queue (E, direct) and in a frame (E, buffered). Then plays the lines of the script's first 64 KiB, at
-most 4096, 64 times over, by target/bin/tested, which tests the memory before every step, by the
-judge, which keeps no memory to test, and by `PROGRAM --test`, which is to test its own.
+writes the listing to standard output; it is called with the arguments, as `--order 5` of a program
+that knows several orders. If no script is named, these are six of a million lines: random ones of the
+flavours mixed, swap, which keeps the frames full, and switches; `S,1` `A,1,7` `D` in turn (S, A, D);
+and two that bring one message and then are E alone, which reads its words in turn, over and over: in
+the hardware queue (E, direct) and in a frame (E, buffered). Then plays the lines of the script's first
+64 KiB, at most 4096, 64 times over, by target/bin/tested, which tests the memory before every step, by
+the judge, which keeps no memory to test, and by PROGRAM with --test behind its arguments, which is to
+test its own.
 
 The listings must be the judge's, else the exit status is 1. The programs then run by turns, their
 standard output to /dev/null; the time told is the best of fifteen runs, of five for the judge.
 
 Last come the calls of target/staticlib/libcapi.a on the same lines, 64 times over, against the
 judge's step on words and its memory test: PROGRAM is asked nothing there. They are left out if the
-library is not there.";
+library is not there.
+
+With --instructions nothing is timed. Told are the instructions a line of target/bin/fugu and of
+PROGRAM over the first 100000 lines of each script, as valgrind's callgrind counts them, less those for
+an empty script.";
+
+/// So many lines are counted: callgrind takes some fifty times the time.
+const COUNTED_LINES: usize = 100_000;
 
 struct Call<'a> {
+    counts: bool,
     script: Option<&'a str>,
-    program: Option<&'a str>,
+    other: Option<Other<'a>>,
+}
+
+/// Another program, and what it is called with.
+#[derive(Clone, Copy)]
+struct Other<'a> {
+    program: &'a str,
+    arguments: &'a [&'a str],
 }
 
 fn main() -> ExitCode {
@@ -53,39 +70,84 @@ fn main() -> ExitCode {
     }
 }
 
-fn understand<'a>(arguments: &[&'a str]) -> Result<Call<'a>, String> {
+fn understand<'a>(arguments: &'a [&'a str]) -> Result<Call<'a>, String> {
+    let (counts, arguments) = match *arguments {
+        ["--instructions", ref arguments @ ..] => (true, arguments),
+        ref arguments => (false, arguments),
+    };
     let (script, arguments) = match *arguments {
         ["--script", script, ref arguments @ ..] => (Some(script), arguments),
         ref arguments => (None, arguments),
     };
-    let program = match *arguments {
+    let other = match *arguments {
         [] => None,
-        [program] if !program.starts_with('-') => Some(program),
+        [program, ref arguments @ ..] if !program.starts_with('-') => {
+            Some(Other { program, arguments })
+        }
         _ => return Err("wrong arguments".to_string()),
     };
-    Ok(Call { script, program })
+    Ok(Call {
+        counts,
+        script,
+        other,
+    })
 }
 
 fn bench(project: &Path, call: &Call) -> Result<ExitCode, String> {
     let program = fugu(project)?;
     for measured in Measured::scripts(call.script)? {
-        bench_one(project, &program, call.program, &measured)?;
+        if call.counts {
+            count_one(&program, call.other, &measured)?;
+        } else {
+            bench_one(project, &program, call.other, &measured)?;
+        }
     }
     Ok(ExitCode::SUCCESS)
+}
+
+/// The instructions a line of the project's program and of another.
+fn count_one(
+    fugu: &Path,
+    other: Option<Other>,
+    Measured { name, script }: &Measured,
+) -> Result<ExitCode, String> {
+    let script = first_lines(script, COUNTED_LINES);
+    let lines = script.iter().filter(|&&byte| byte == b'\n').count();
+    if lines == 0 {
+        return print(&format!("{name}: no line ends with a newline")).map_err(told);
+    }
+    let file = Scratch::holding("counted", script).map_err(told)?;
+    let mut runners = vec![Runner::new("fugu", fugu, &file)];
+    runners.extend(other.map(|other| Runner::other(other, &file)));
+    let listing = script::listing(script);
+    let mut text = format!("{name}: {lines} lines");
+    let mut counted = Vec::new();
+    for runner in &runners {
+        runner.lists(&listing)?;
+        let instructions = runner.instructions()?;
+        let by_line = instructions as f64 / lines as f64;
+        text += &format!("\n{by_line:>8.1} instructions a line  {}", runner.name);
+        counted.push(by_line);
+    }
+    if let [own, other] = counted[..] {
+        let (ratio, name) = (own / other, &runners[1].name);
+        text += &format!("\nfugu takes {ratio:.2} times the instructions of {name}");
+    }
+    print(&text).map_err(told)
 }
 
 /// Both parts: the program, and the calls that test the memory.
 fn bench_one(
     project: &Path,
     fugu: &Path,
-    other: Option<&str>,
+    other: Option<Other>,
     Measured { name, script }: &Measured,
 ) -> Result<ExitCode, String> {
     let whole = Scratch::holding("whole", script).map_err(told)?;
     race(
         name,
         Runner::new("fugu", fugu, &whole),
-        other.map(|program| Runner::named(program, &whole)),
+        other.map(|other| Runner::other(other, &whole)),
         script,
         &whole,
     )?;
@@ -103,7 +165,7 @@ fn bench_one(
     race(
         name,
         Runner::new("tested", &tested, &first),
-        other.map(|program| Runner::named(program, &whole).testing()),
+        other.map(|other| Runner::other(other, &whole).testing()),
         &repeated,
         &whole,
     )
@@ -123,8 +185,7 @@ fn race(
 ) -> Result<ExitCode, String> {
     let mut runners = vec![own, Runner::judge(file)?];
     runners.extend(other);
-    let mut listing = Vec::new();
-    write_listing(script, &mut listing).map_err(told)?;
+    let listing = script::listing(script);
     for runner in &runners {
         runner.lists(&listing)?;
     }
@@ -148,7 +209,7 @@ fn race(
 struct Runner {
     name: String,
     program: PathBuf,
-    arguments: &'static [&'static str],
+    arguments: Vec<String>,
     script: PathBuf,
     rounds: u32,
     best: Duration,
@@ -159,15 +220,19 @@ impl Runner {
         Runner {
             name: name.to_string(),
             program: program.to_path_buf(),
-            arguments: &[],
+            arguments: Vec::new(),
             script: script.0.clone(),
             rounds: ROUNDS,
             best: Duration::MAX,
         }
     }
 
-    fn named(program: &str, script: &Scratch) -> Self {
-        Runner::new(program, Path::new(program), script)
+    fn other(other: Other, script: &Scratch) -> Self {
+        let called = [&[other.program], other.arguments].concat().join(" ");
+        Runner {
+            arguments: other.arguments.iter().map(|a| a.to_string()).collect(),
+            ..Runner::new(&called, Path::new(other.program), script)
+        }
     }
 
     /// The judge's program, which stands beside this one.
@@ -180,20 +245,42 @@ impl Runner {
     }
 
     /// With the memory tested before every step.
-    fn testing(self) -> Self {
-        Runner {
-            name: format!("{} --test", self.name),
-            arguments: &["--test"],
-            ..self
-        }
+    fn testing(mut self) -> Self {
+        self.name += " --test";
+        self.arguments.push("--test".to_string());
+        self
     }
 
     /// The program on its script.
     fn command(&self) -> Result<Command, String> {
         let mut command = Command::new(&self.program);
-        command.args(self.arguments);
+        command.args(&self.arguments);
         command.stdin(File::open(&self.script).map_err(told)?);
         Ok(command)
+    }
+
+    /// The instructions for its script, less those for an empty one.
+    fn instructions(&self) -> Result<u64, String> {
+        let script = File::open(&self.script).map_err(told)?;
+        let (all, none) = (self.counted(script.into())?, self.counted(Stdio::null())?);
+        Ok(all.saturating_sub(none))
+    }
+
+    /// The instructions for an input, as callgrind counts them.
+    fn counted(&self, input: Stdio) -> Result<u64, String> {
+        let mut valgrind = Command::new("valgrind");
+        valgrind.args(["--tool=callgrind", "--callgrind-out-file=/dev/null"]);
+        valgrind.arg(&self.program).args(&self.arguments);
+        let output = valgrind.stdin(input).stdout(Stdio::null()).output();
+        let output = output.map_err(|error| format!("valgrind: {error}"))?;
+        let message = String::from_utf8_lossy(&output.stderr);
+        let collected = message
+            .lines()
+            .find_map(|line| line.split_once("Collected : "));
+        collected
+            .and_then(|(_, count)| count.trim().parse().ok())
+            .filter(|_| output.status.success())
+            .ok_or_else(|| format!("valgrind: {}: {message}", output.status))
     }
 
     /// Its listing is the judge's, or it is an error.

@@ -15,9 +15,10 @@ usage: bin/scripts SEED LINES FLAVOUR             writes a random script
        bin/scripts --help
 
 SEED and LINES are decimal numbers; a seed fixes every byte. Counted are answers, traps, words read by
-where they stand, places and pages used up, pages sent out and brought in, these by their causes, and
-what forced timers and revoked groups did. Without a FLAVOUR, --counts runs one script of each
-flavour, and fails if some answer 2 to 15, some trap 0 to 3 or one of the others was met by none.";
+where they stand, places and pages used up, pages sent out and brought in, these by their causes, what
+forced timers and revoked groups did, and how the processor was taken, given and switched. Without a
+FLAVOUR, --counts runs one script of each flavour, and fails if some answer 2 to 16, some trap 0 to 3 or
+one of the others was met by none.";
 
 enum Call {
     Help,

@@ -113,7 +113,7 @@ pub struct Change {
     make: fn(&mut [u32], &mut Random),
 }
 
-pub static CHANGES: [Change; 28] = [
+pub static CHANGES: [Change; 29] = [
     Change {
         name: "the running group",
         make: |memory, random| change(memory, random, RUNNING, GROUPS),
@@ -223,7 +223,10 @@ pub static CHANGES: [Change; 28] = [
     },
     Change {
         name: "a message in the queue",
-        make: forge_queued,
+        make: |memory, random| {
+            let group = runner_or_any(memory, random);
+            forge_queued(memory, random, group);
+        },
     },
     Change {
         name: "a message in a buffer",
@@ -243,6 +246,10 @@ pub static CHANGES: [Change; 28] = [
                 words.free_count() + words.swap_count() == 0
             });
         },
+    },
+    Change {
+        name: "a queued message of each group that needs a page",
+        make: crowd,
     },
 ];
 
@@ -451,14 +458,49 @@ fn stray(memory: &mut [u32], random: &mut Random, wiped: fn(&Words) -> Vec<usize
     }
 }
 
-/// A message at the end of the hardware queue, often the running group's. In a full queue it takes
-/// the place of the last.
-fn forge_queued(memory: &mut [u32], random: &mut Random) {
+/// A message at the end of the hardware queue. In a full queue it takes the place of the last.
+fn forge_queued(memory: &mut [u32], random: &mut Random, group: usize) {
     let place = words(memory).queue_count().min(QUEUE_PLACES - 1);
     memory[QUEUE_COUNT] = place as u32 + 1;
-    let group = runner_or_any(memory, random);
     memory[queued_at(place)] = group as u32;
     forge(memory, random, queued_at(place) + 1);
+}
+
+/// A message of each group in the queue, the runner's first, while no frame is free and every last page is
+/// full; the groups' first pages have been in their frames longest. Whoever takes the processor now sends
+/// them out.
+fn crowd(memory: &mut [u32], random: &mut Random) {
+    if words(memory).queue_count() == 0 {
+        let direct = (1..=GROUPS).filter(|&group| is_direct(memory, group));
+        memory[RUNNING] = one_of(random, direct.collect(), 1) as u32;
+        memory[TIMER] = 0;
+    }
+    let runner = words(memory).running().clamp(1, GROUPS);
+    memory[group_at(runner) + ATOMIC] = 1;
+    fill_until(memory, random, |words| words.free_count() == 0);
+    let others = (1..=GROUPS).filter(|&group| group != runner);
+    for group in others.clone() {
+        fill_last_page(memory, random, group);
+    }
+    let lists = (1..=GROUPS).map(|group| words(memory).group(group).list());
+    let firsts: Vec<u32> = lists.filter_map(|list| list.first().copied()).collect();
+    let entered = words(memory).entry_order();
+    memory[entered].sort_by_key(|frame| !firsts.contains(frame));
+    for group in std::iter::once(runner).chain(others) {
+        forge_queued(memory, random, group);
+    }
+}
+
+fn is_direct(memory: &[u32], group: usize) -> bool {
+    let record = words(memory).group(group);
+    record.messages() == 0 && record.revoked() == 0
+}
+
+fn fill_last_page(memory: &mut [u32], random: &mut Random, group: usize) {
+    let end = words(memory).group(group).end() as usize % PAGE_PLACES;
+    for _ in end..end.div_ceil(PAGE_PLACES) * PAGE_PLACES {
+        forge_buffered(memory, random, group);
+    }
 }
 
 /// Messages in the buffer of a group that does not run, until enough are there: what is in the queue

@@ -52,13 +52,13 @@ fn k3_sixteen_messages_fill_the_hardware_queue() {
 }
 
 #[test]
-fn k4_a_switch_moves_only_what_may_not_stay() {
+fn k4_a_switch_empties_the_hardware_queue() {
     Case::new()
         .quiet("S,1")
         .line("A,1,7", "0,0,0,1,0")
         .quiet("A,2,5")
-        .line("S,2", "0,0,0,2,1")
-        .line("D", ACCEPTED)
+        .line("S,2", "0,0,0,2,2")
+        .line("D", "0,0,1,0,0")
         .check();
 }
 

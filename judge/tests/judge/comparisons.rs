@@ -177,8 +177,8 @@ fn compare_tells_what_was_met() {
     assert!(output.status.success(), "{}", text(&output.stderr));
     let told = text(&output.stdout);
     assert!(told.starts_with("answer"));
-    assert!(told.ends_with("\n52000 lines compared\n"));
-    assert_eq!(told.lines().count(), 1 + 11 + 1 + 3 + 3 + 5 + 7 + 1);
+    assert!(told.ends_with("\n56000 lines compared\n"));
+    assert_eq!(told.lines().count(), 1 + 13 + 1 + 3 + 3 + 6 + 7 + 6 + 1);
     assert!(text(&output.stderr).contains("mixed: 4000 of 4000 lines"));
 }
 
@@ -232,9 +232,10 @@ fn compare_and_bench_tell_how_they_are_used() {
             ],
             _ => &[
                 &["--what"],
-                &["a", "b"],
                 &["--script"],
-                &["--script", "a", "b", "c"],
+                &["--script", "a", "--what"],
+                &["--script", "a", "--instructions"],
+                &["--instructions", "--what"],
             ],
         };
         for arguments in wrong {
@@ -267,16 +268,82 @@ fn bench_tells_times_and_ratios() {
     assert!(told.contains("target/bin/tested is not there"));
 }
 
+/// A program for the shell in a folder of the project.
+fn shell_program(folder: &Path, name: &str, text: &str) -> String {
+    let path = folder.join(name);
+    fs::write(&path, format!("#!/bin/sh\n{text}\n")).expect("written");
+    fs::set_permissions(&path, fs::Permissions::from_mode(0o755)).expect("made a program");
+    path.to_str().expect("text").to_string()
+}
+
 /// A project whose tested program plays its script by the judge, so many times over.
 fn tested_project(name: &str, times: u32) -> PathBuf {
     let project = project(name, "/bin/true", &[("fugu", JUDGE)]);
-    let tested = project.join("target/bin/tested");
     let text = format!(
-        "#!/bin/sh\nscript=$(cat)\nfor _ in $(seq {times}); do printf '%s\\n' \"$script\"; done | {JUDGE}\n"
+        "script=$(cat)\nfor _ in $(seq {times}); do printf '%s\\n' \"$script\"; done | {JUDGE}"
     );
-    fs::write(&tested, text).expect("written");
-    fs::set_permissions(&tested, fs::Permissions::from_mode(0o755)).expect("made a program");
+    shell_program(&project.join("target/bin"), "tested", &text);
     project
+}
+
+/// As they are, and with --test behind them where the memory is to be tested.
+#[test]
+fn bench_hands_a_program_its_arguments() {
+    let project = tested_project("bench-arguments", 64);
+    let other = noting_program(&project);
+    let script = short_script(&project);
+    let output = benched(&project, &["--script", &script, &other, "--order", "5"]);
+    assert!(output.status.success(), "{}", text(&output.stderr));
+    let told = text(&output.stdout);
+    let called = fs::read_to_string(format!("{other}.called")).expect("it was called");
+    for arguments in ["--order 5", "--order 5 --test"] {
+        let ratio = format!(" times the time of {other} {arguments}\n");
+        assert!(told.contains(&ratio), "{told}");
+        // Once for its listing, fifteen times for its time.
+        let calls = called.lines().filter(|line| *line == arguments);
+        assert_eq!(calls.count(), 16, "{called}");
+    }
+}
+
+/// The judge, whatever it is called with, which is written down.
+fn noting_program(project: &Path) -> String {
+    let text = format!("echo \"$@\" >>\"$0.called\"\nexec {JUDGE}");
+    shell_program(project, "other", &text)
+}
+
+/// With a valgrind that counts 100 instructions for each of its arguments and each line, and 1000 more.
+#[test]
+fn bench_counts_instructions() {
+    let project = project("bench-counts", "/bin/true", &[("fugu", JUDGE)]);
+    let text = "lines=$(wc -l)\necho \"==7== Collected : $((1000 + 100 * $# * lines))\" >&2";
+    shell_program(&project, "valgrind", text);
+    let (other, script) = (noting_program(&project), short_script(&project));
+    let called = format!("--instructions --script {script} {other} --order 5");
+    let output = counted(&project, &called);
+    let expected = format!(
+        "{script}: 3 lines\n   300.0 instructions a line  fugu\n   500.0 instructions a line  \
+         {other} --order 5\nfugu takes 0.60 times the instructions of {other} --order 5\n"
+    );
+    assert_eq!(self::text(&output.stdout), expected);
+    assert!(output.status.success());
+
+    let listing = counted(&project, &format!("--instructions --script {script} cat"));
+    assert_eq!(listing.status.code(), Some(1));
+    shell_program(&project, "valgrind", "exit 1");
+    let uncounted = counted(&project, &called);
+    assert_eq!(uncounted.status.code(), Some(1));
+    assert!(self::text(&uncounted.stderr).starts_with("bench: valgrind: exit status: 1"));
+}
+
+/// What bench does where the project's folder has the first valgrind.
+fn counted(project: &Path, arguments: &str) -> Output {
+    let path = std::env::var("PATH").expect("a path");
+    Command::new(env!("CARGO_BIN_EXE_bench"))
+        .arg(project)
+        .args(arguments.split(' '))
+        .env("PATH", format!("{}:{path}", project.display()))
+        .output()
+        .expect("the program runs")
 }
 
 #[test]

@@ -45,11 +45,11 @@ fn a_script_has_as_many_lines_as_asked_for() {
     }
 }
 
-/// The flavours' scripts together, or one's.
-fn counts(flavours: &[Flavour]) -> Counts {
+/// The flavours' scripts of so many lines together, or one's.
+fn counts(flavours: &[Flavour], lines: u64) -> Counts {
     let mut counts = Counts::default();
     for flavour in flavours {
-        let script = flavour.script(1, 2000);
+        let script = flavour.script(1, lines);
         counts
             .add_script(script.as_slice())
             .expect("memory is read without error");
@@ -63,7 +63,7 @@ fn named(name: &str) -> &'static Flavour {
 
 #[test]
 fn all_flavours_together_meet_everything() {
-    assert_eq!(counts(&FLAVOURS).missing(), Vec::<String>::new());
+    assert_eq!(counts(&FLAVOURS, 2000).missing(), Vec::<String>::new());
 }
 
 /// Each flavour is there for some answers, traps and events; it meets them alone.
@@ -79,19 +79,31 @@ fn each_flavour_meets_what_it_is_for() {
         (
             "swap",
             "pages sent out, pages brought in to be written, pages exchanged to be written, first \
-             pages brought in, first pages exchanged",
+             pages brought in by D, first pages brought in by I, first pages exchanged by I, new \
+             runners' first pages sent out by their S",
         ),
         (
             "swaptime",
-            "trap 3, pages sent out, pages exchanged to be written, first pages exchanged",
+            "trap 3, pages sent out, pages exchanged to be written, first pages exchanged by I, new \
+             runners' first pages sent out by their S",
         ),
-        ("switches", "answer 14"),
+        (
+            "switches",
+            "answer 14, answer 16, processors taken with messages queued, switches of two acts, \
+             switches to the one running with messages queued",
+        ),
+        (
+            "acts",
+            "answer 14, answer 16, processors taken with messages queued, processors taken with \
+             nobody running, forced timers that O met, switches of two acts",
+        ),
         ("ticks", "answer 15, trap 3"),
         (
             "force",
             "trap 1, trap 2, trap 3, timeouts with an empty queue, timeouts behind one of the same \
              T, forced timers that settling left, forced timers that N took back, processors given \
-             to a group with force, messages moved for revoked alone, ends of an empty group revoked",
+             to a group with force, messages moved for revoked alone, ends of an empty group revoked, \
+             forced timers that O met",
         ),
         ("bad", "answer 2"),
         ("hogs", "answer 10, trap 3"),
@@ -104,13 +116,14 @@ fn each_flavour_meets_what_it_is_for() {
         ("launches", "answer 11, answer 12, answer 13"),
         (
             "mixed",
-            "answer 2, answer 5, trap 1, trap 2, trap 3, pages sent out, first pages brought in, \
-             timeouts with an empty queue, messages moved for revoked alone",
+            "answer 2, answer 5, answer 16, trap 1, trap 2, trap 3, pages sent out, first pages \
+             brought in by D, timeouts with an empty queue, messages moved for revoked alone, \
+             processors taken with messages queued",
         ),
     ];
     assert_eq!(purposes.len(), FLAVOURS.len());
     for (name, purpose) in purposes {
-        let missing = counts(std::slice::from_ref(named(name))).missing();
+        let missing = counts(std::slice::from_ref(named(name)), 4000).missing();
         for met in purpose.split(", ") {
             assert!(!missing.contains(&met.to_string()), "{name}: {met}");
         }
@@ -120,13 +133,14 @@ fn each_flavour_meets_what_it_is_for() {
 #[test]
 fn nothing_met_is_all_missing() {
     let missing = Counts::default().missing();
-    assert_eq!(missing.len(), 14 + 4 + 3 + 3 + 5 + 7);
+    assert_eq!(missing.len(), 15 + 4 + 3 + 3 + 6 + 7 + 6);
     assert_eq!(missing[0], "answer 2");
-    assert_eq!(missing[17], "trap 3");
-    assert_eq!(missing[18], "words read in the hardware queue");
-    assert_eq!(missing[21], "places used up in a page that stays");
-    assert_eq!(missing[24], "pages sent out");
-    assert_eq!(missing[29], "timeouts with an empty queue");
+    assert_eq!(missing[18], "trap 3");
+    assert_eq!(missing[19], "words read in the hardware queue");
+    assert_eq!(missing[22], "places used up in a page that stays");
+    assert_eq!(missing[25], "pages sent out");
+    assert_eq!(missing[31], "timeouts with an empty queue");
+    assert_eq!(missing[38], "processors taken with messages queued");
 }
 
 #[test]
@@ -149,7 +163,7 @@ fn good_flavours_have_readable_lines_only() {
         .iter()
         .filter(|f| !["bad", "mixed"].contains(&f.name))
     {
-        let missing = counts(std::slice::from_ref(flavour)).missing();
+        let missing = counts(std::slice::from_ref(flavour), 2000).missing();
         assert!(
             missing.contains(&"answer 2".to_string()),
             "{}",

@@ -2,6 +2,7 @@
 //! over random runs, memories and what is told of them, the programs as they are called, and the scripts
 //! that they are measured with.
 
+mod acts;
 mod cases;
 mod comparisons;
 mod forced;

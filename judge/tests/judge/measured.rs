@@ -1,9 +1,9 @@
-//! The scripts that programs are measured with: as long as is told, and E alone where its name says.
+//! The scripts that programs are measured with: as long as is told, and what their names say.
 
 use std::io;
 
-use judge::node::{Event, Operation, Standing};
-use judge::program::{tested_lines, Measured, TESTED_TIMES};
+use judge::node::{Event, Operation, Standing, Trap};
+use judge::program::{first_lines, tested_lines, Measured, TESTED_TIMES};
 use judge::script;
 
 const LINES: usize = 1_000_000;
@@ -19,7 +19,22 @@ fn each_script_has_a_million_lines() {
         assert_eq!(lines, LINES, "{name}");
         name
     });
-    assert!(names.eq(["mixed", "swap", "E, direct", "E, buffered"]));
+    assert!(names.eq([
+        "mixed",
+        "swap",
+        "switches",
+        "S, A, D",
+        "E, direct",
+        "E, buffered"
+    ]));
+}
+
+#[test]
+fn the_first_lines_end_with_their_newlines() {
+    assert_eq!(first_lines(b"M\nD\nS,1", 2), b"M\nD\n");
+    assert_eq!(first_lines(b"M\nD\nS,1", 3), b"M\nD\n");
+    assert_eq!(first_lines(b"M\nD\nS,1", 1), b"M\n");
+    assert_eq!(first_lines(b"M", 1), b"");
 }
 
 #[test]
@@ -30,6 +45,25 @@ fn the_lines_that_are_tested_are_not_too_many() {
     let long = [[b'M'; 127].as_slice(), b"\n"].concat();
     assert_eq!(tested_lines(&long.repeat(513)), long.repeat(512));
     assert_eq!(tested_lines(&[b'M'; 70_000]), b"");
+}
+
+fn named(name: &str) -> Vec<u8> {
+    let mut scripts = measured().into_iter();
+    let named = scripts.find(|measured| measured.name == name);
+    named.expect("a script of this name").script
+}
+
+/// Each message is direct, and S finds its group running but for the first time.
+#[test]
+fn the_lines_in_turn_meet_no_switch_and_no_buffer() {
+    let script = named("S, A, D");
+    assert!(script.starts_with(b"S,1\nA,1,7\nD\nS,1\n"));
+    script::run(script.as_slice(), |line, report| {
+        assert!(report.accepted(), "{}", line.escape_ascii());
+        assert_eq!((report.trap, report.moved), (Trap::None, 0));
+        Ok::<(), io::Error>(())
+    })
+    .expect("memory is read without error");
 }
 
 /// How many lines of a script are E: each reads its word in a message that stands so.
@@ -54,12 +88,10 @@ fn e_alone_reads_where_its_name_says() {
         ("E, direct", 2, Standing::Queued),
         ("E, buffered", 3, Standing::FirstPlace),
     ];
-    let scripts = measured();
     for (name, before, standing) in alone {
-        let named = scripts.iter().find(|measured| measured.name == name);
-        let script = &named.expect("a script of this name").script;
-        assert_eq!(reads(script, standing), LINES - before, "{name}");
-        let first = tested_lines(script);
+        let script = named(name);
+        assert_eq!(reads(&script, standing), LINES - before, "{name}");
+        let first = tested_lines(&script);
         let once = reads(first, standing);
         let repeated = reads(&first.repeat(TESTED_TIMES), standing);
         assert_eq!(repeated, TESTED_TIMES * once, "{name}");

@@ -727,7 +727,8 @@ fn expect_no_node(memory: &[u32], clause: &str) {
     assert!(head(memory).is_empty(), "{clause}");
     assert_eq!(paging(memory), [0, 0], "{clause}");
     for line in [
-        "A,1,7", "S,2", "T,1", "M", "E,0", "D", "B", "B,1", "N", "P,1", "L,0", "?", "S,9",
+        "A,1,7", "O", "I,1", "S,2", "T,1", "M", "E,0", "D", "B", "B,1", "N", "P,1", "L,0", "?",
+        "S,9",
     ] {
         let mut after = memory.to_vec();
         let report = step(&mut after, &script::read(line.as_bytes()));
@@ -899,7 +900,9 @@ fn a_refused_step_leaves_memory_as_it_was() {
         ("N", 10),
         ("L,64", 13),
         ("S,9", 14),
+        ("I,0", 14),
         ("T,0", 15),
+        ("I,2", 16),
     ];
     for (line, answer) in refused {
         let report = step(&mut memory, &script::read(line.as_bytes()));

@@ -71,18 +71,21 @@ impl PrivateLine {
     }
 
     /// "of the answers it is told only whether an A or an S was accepted": `accepted` is looked at
-    /// for these two alone.
+    /// for these, and for O and I. "An accepted O is as an accepted `S,0`, an accepted `I,g` as an
+    /// accepted `S,g`."
     fn step(&mut self, operation: &Operation, accepted: bool) -> Outcome {
         match operation {
             Operation::Arrival { group, words } if accepted && *group == self.group => {
                 self.list.push_back(words.clone());
                 self.after_accepted(None)
             }
-            Operation::Switch { group } if accepted => {
-                self.has_processor = *group == self.group;
-                self.after_accepted(None)
+            Operation::Preempt if accepted => self.hear_of_switch(0),
+            Operation::Dispatch { group } | Operation::Switch { group } if accepted => {
+                self.hear_of_switch(*group)
             }
             Operation::Arrival { .. }
+            | Operation::Preempt
+            | Operation::Dispatch { .. }
             | Operation::Switch { .. }
             | Operation::Ticks { .. }
             | Operation::Unknown => Outcome::default(),
@@ -95,6 +98,12 @@ impl PrivateLine {
                 },
             },
         }
+    }
+
+    /// "g has the processor exactly if S names g."
+    fn hear_of_switch(&mut self, group: u32) -> Outcome {
+        self.has_processor = group == self.group;
+        self.after_accepted(None)
     }
 
     /// "After each accepted one above, if g has the processor, isn't atomic and its list isn't
@@ -175,6 +184,8 @@ fn own_answer(
     let own = !matches!(
         operation,
         Operation::Arrival { .. }
+            | Operation::Preempt
+            | Operation::Dispatch { .. }
             | Operation::Switch { .. }
             | Operation::Ticks { .. }
             | Operation::Unknown

@@ -223,7 +223,7 @@ fn scripts_lists_its_flavours() {
         .filter_map(|line| line.split(' ').next())
         .collect();
     let names =
-        "uniform arrivals swap swaptime switches ticks force bad hogs disposals launches mixed";
+        "uniform arrivals swap swaptime switches acts ticks force bad hogs disposals launches mixed";
     for name in names.split(' ') {
         assert!(named.contains(&name), "{name}");
     }
@@ -236,7 +236,7 @@ fn scripts_counts_and_names_what_is_missing() {
     assert!(text(&enough.stdout).starts_with("answer"));
     assert_eq!(
         text(&enough.stdout).lines().count(),
-        1 + 11 + 1 + 3 + 3 + 5 + 7
+        1 + 13 + 1 + 3 + 3 + 6 + 7 + 6
     );
 
     let few = scripts("--counts 1 1");

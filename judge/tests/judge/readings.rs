@@ -29,7 +29,7 @@ fn a_bad_number_in_an_arrival_comes_before_its_refusals() {
 #[test]
 fn a_wrong_count_of_fields_is_unreadable() {
     let mut case = Case::new().quiet("S,1");
-    for line in "S S,1,2 T T,1,2 M,1 E E,0,0 D,1 B,1,1 N,1 P P,1,2 L L,1,2".split(' ') {
+    for line in "S S,1,2 O,1 I I,1,1 T T,1,2 M,1 E E,0,0 D,1 B,1,1 N,1 P P,1,2 L L,1,2".split(' ') {
         case = case.line(line, UNREADABLE);
     }
     case.check();
@@ -129,8 +129,9 @@ fn a_switch_to_the_runner_leaves_the_timer() {
 #[test]
 fn a_switch_sets_the_timer_back() {
     Case::new()
-        .quiet("S,1 B A,1,7 A,2,8 T,255")
-        .line("S,2", "0,0,0,2,1")
+        .quiet("S,1 B A,1,7 T,255")
+        .line("S,2", "0,0,0,0,1")
+        .line("A,2,8", "0,0,0,2,0")
         .quiet("T,255")
         .line("T,1", "0,0,3,0,1")
         .check();

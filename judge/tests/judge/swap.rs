@@ -127,20 +127,6 @@ fn a_running_groups_next_page_comes_into_the_frame_that_it_left() {
     assert_eq!(counts(&node), (2, 2));
 }
 
-/// The new runner's first page is spared while S settles, and the old one's is not.
-#[test]
-fn a_switch_settles_for_the_new_runner() {
-    // Frame 0 is group 2's, frame 1 group 3's; of group 1 one message is in the hardware queue.
-    let node = after("A,2,7 A,3,7 240*A,4,7 S,1 B A,1,7");
-    assert!(node.free.is_empty());
-    let node = step(&node, "S,2");
-    assert_eq!(
-        (pages(&node, 2), pages(&node, 3)),
-        (&[0].into(), &[S0].into())
-    );
-    assert_eq!(pages(&node, 1), &[1]);
-}
-
 #[test]
 fn counts_stay_at_the_largest_number() {
     let mut node = after("A,1,7 249*A,2,7");

@@ -110,14 +110,14 @@ fn reachable_memories_are_nodes_of_every_kind() {
     ];
     let mut met = [0; 17];
     let mut random = Random::new(1);
-    for _ in 0..1000 {
+    for _ in 0..2000 {
         let node = memory::read(&reachable(&mut random)).expect("a node");
         for (met, (_, is_one)) in met.iter_mut().zip(kinds) {
             *met += usize::from(is_one(&node));
         }
     }
     for (met, (kind, _)) in met.into_iter().zip(kinds) {
-        assert!(met >= 5, "{kind}: {met}");
+        assert!(met >= 10, "{kind}: {met}");
     }
 }
 
@@ -125,7 +125,7 @@ fn reachable_memories_are_nodes_of_every_kind() {
 fn operations_are_of_every_kind() {
     let mut random = Random::new(1);
     let kinds = (0..500).map(|_| std::mem::discriminant(&operation(&mut random)));
-    assert_eq!(kinds.collect::<HashSet<_>>().len(), 11);
+    assert_eq!(kinds.collect::<HashSet<_>>().len(), 13);
 }
 
 #[test]
@@ -162,7 +162,7 @@ fn made_by(change: &Change, nodes: &[Vec<u32>]) -> BTreeMap<&'static str, usize>
 }
 
 /// What each change makes of nodes, beside other things.
-const PURPOSES: [(&str, &str); 28] = [
+const PURPOSES: [(&str, &str); 29] = [
     (
         "the running group",
         "a node; running is 0 to 8; the queue's head is the running group's; a running group's \
@@ -272,6 +272,10 @@ const PURPOSES: [(&str, &str); 28] = [
     ),
     ("all frames filled", "a node"),
     ("all pages filled", "a node; pledges sum to at most 96"),
+    (
+        "a queued message of each group that needs a page",
+        "a node; pledges sum to at most 96",
+    ),
 ];
 
 #[test]

@@ -21,8 +21,9 @@ be the words that stand there, its last answer 9, and the memory is to stay as i
 At the end there is a table of what was met. The exit status is 1 at the first difference, which is
 told with the number of its memory; and if COUNT is 100000 or more and some clause of the memory
 test, some place of a stray word, of the head message or of a word that is read, some operation, some
-answer, some trap, some cause of a page's being used up, going out or coming in, or something that a
-forced timer or a revoked group does was met by none.";
+answer, some trap, some cause of a page's being used up, going out or coming in, something that a
+forced timer or a revoked group does, or some way of taking, giving or switching the processor was met
+by none.";
 
 const PROGRESS: u64 = 1_000_000;
 

@@ -603,6 +603,39 @@ fn force_lost_with_the_processor() {
 }
 
 #[test]
+fn a_processor_that_is_not_taken() {
+    let told = "0, the running group: judge 0, library ";
+    a_step_with(b'O', told, |runner, _, after| after[0] = runner as u32);
+}
+
+/// By O, and by S to another.
+#[test]
+fn a_queue_that_stays_where_the_processor_is_taken() {
+    let told = "2, messages in the hardware queue: judge 0, library ";
+    for letter in *b"OS" {
+        a_step_with(letter, told, |_, before, after| {
+            if after[0] != before[0] {
+                after[2] = before[2];
+            }
+        });
+    }
+}
+
+#[test]
+fn a_processor_given_where_a_group_runs() {
+    let wrong = Wrong {
+        report: Box::new(|part, written| {
+            if written > 0 && part[0] == 16 {
+                part[0] = 0;
+            }
+            written
+        }),
+        ..right()
+    };
+    found(wrong, "the report differs\n  answer: judge 16, library 0");
+}
+
+#[test]
 fn a_forced_timer_that_settling_sets_back() {
     a_step_with(b'M', ", the timer: judge ", |_, _, after| {
         if after[2] == 0 {

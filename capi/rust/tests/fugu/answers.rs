@@ -114,11 +114,22 @@ fn bad_node() {
 
 #[test]
 fn bad_schedule() {
-    refused(started(), "S,9", answer::BAD_SCHEDULE);
+    for line in ["S,9", "I,0", "I,9", "I,4294967295"] {
+        refused(started(), line, answer::BAD_SCHEDULE);
+        refused(after(&["S,1"]), line, answer::BAD_SCHEDULE);
+    }
 }
 
 #[test]
 fn bad_ticks() {
     refused(started(), "T,0", answer::BAD_TICKS);
     refused(started(), "T,65536", answer::BAD_TICKS);
+}
+
+#[test]
+fn already_runs() {
+    for line in ["I,1", "I,2", "I,8"] {
+        refused(after(&["I,1"]), line, answer::ALREADY_RUNS);
+        refused(after(&["S,1", "A,1,7"]), line, answer::ALREADY_RUNS);
+    }
 }

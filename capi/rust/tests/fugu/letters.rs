@@ -9,9 +9,9 @@ use crate::support::{after, only, started, taken_apart};
 fn taken(letter: u8, count: usize) -> bool {
     match letter {
         b'A' => count >= 1,
-        b'S' | b'T' | b'E' | b'P' | b'L' => count == 1,
+        b'S' | b'I' | b'T' | b'E' | b'P' | b'L' => count == 1,
         b'B' => count <= 1,
-        b'M' | b'D' | b'N' => count == 0,
+        b'O' | b'M' | b'D' | b'N' => count == 0,
         _ => false,
     }
 }
@@ -53,15 +53,22 @@ fn only_0_and_1_are_numbers_of_begin() {
 
 #[test]
 fn unreadable_lines() {
-    let lines: [&[u8]; 15] = [
+    let lines: [&[u8]; 22] = [
         b"",
         b"m",
+        b"o",
+        b"i,1",
         b"Q,1",
         b"S,1\r",
         b"S, 1",
         b"A",
         b"S",
         b"M,0",
+        b"O,",
+        b"O,1",
+        b"I",
+        b"I,",
+        b"I,1,1",
         b"B,2",
         b"B,1,1",
         b"B,",
@@ -85,7 +92,8 @@ fn a_line_and_its_letter_are_the_same_step() {
     let script = "\
         S,1\nA,1,7\nA,2,5,6\nN\nE,0\nE,1\nT,256\nD\nN\n\
         S,2\nM\nD\nP,9\nP,4294967295\nL,64\nL,3\nA,1\nA,9,1\n\
-        A,1,1,2,3,4,5,6,7,8,9\nB\nB,0\nB,1\nT,300\nT,212\nA,2,7\nS,9\nT,0\nD\nN";
+        A,1,1,2,3,4,5,6,7,8,9\nB\nB,0\nB,1\nT,300\nT,212\nA,2,7\nS,9\nT,0\nD\nN\n\
+        A,2,8\nO\nO\nI,0\nI,9\nI,2\nI,1\nD";
     let (mut by_line, mut by_letter) = (started(), started());
     for line in script.lines() {
         let (letter, numbers) = taken_apart(line.as_bytes()).expect("the line is readable");
@@ -96,4 +104,15 @@ fn a_line_and_its_letter_are_the_same_step() {
         );
         assert_eq!(by_line, by_letter, "{line}");
     }
+}
+
+/// S is O and I in one step: the memory is the same, word for word, and what both moved is summed.
+#[test]
+fn a_switch_is_two_acts() {
+    let lines = ["S,1", "A,1,7", "A,2,5"];
+    let (mut by_one, mut by_two) = (after(&lines), after(&lines));
+    assert_eq!(by_one.step(b'S', &[2]).to_string(), "0,0,0,2,2");
+    assert_eq!(by_two.step(b'O', &[]).to_string(), "0,0,0,0,2");
+    assert_eq!(by_two.step(b'I', &[2]).to_string(), "0,0,0,2,0");
+    assert_eq!(by_one, by_two);
 }

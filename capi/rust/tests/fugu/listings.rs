@@ -82,4 +82,5 @@ fn vectors() {
     play("vectors/order2");
     play("vectors/order3");
     play("vectors/order4");
+    play("vectors/order5");
 }

@@ -19,14 +19,26 @@ enum-known-op-2 c = search needs
 schedule-requires : tie.Need-schedule-requires
 schedule-requires c κs = search needs
 
+enum-told : tie.Need-enum-told
+enum-told c = search needs
+
+preempt-requires : tie.Need-preempt-requires
+preempt-requires c κs = search needs
+
 enum-known-op-3 : tie.Need-enum-known-op-3
 enum-known-op-3 c = search needs
+
+dispatch-requires : tie.Need-dispatch-requires
+dispatch-requires c κs = search needs
+
+enum-known-op-4 : tie.Need-enum-known-op-4
+enum-known-op-4 c = search needs
 
 tick-requires : tie.Need-tick-requires
 tick-requires c κs = search needs
 
-enum-told : tie.Need-enum-told
-enum-told c = search needs
+enum-told-2 : tie.Need-enum-told-2
+enum-told-2 c = search needs
 
 refused-requires : tie.Need-refused-requires
 refused-requires c κs = search needs
@@ -53,17 +65,31 @@ same-length-3 c = search needs
 
 returns-3 : tie.Need-returns-3
 unfolding operationOf
-returns-3 c n r h v = acted-named (sym (ap (λ (o : Operation·rt). operationOf o (c .before .before .before .before .before .before .before .before .before .args .words .now)) (c .before .before .before .before .before .op3 .given .1))) (c .before .before .tick .ensures n r h v)
-
-returns-4 : tie.Need-returns-4
-unfolding operationOf
-returns-4 c n r h v = acted-named (sym (ap (λ (o : Operation·rt). operationOf o (c .before .before .before .before .before .args .words .now)) (c .before .enum-told .given .1))) (unknown-acts h (c .refused .ensures))
+returns-3 c n r h v = acted-named (sym (ap (λ (o : Operation·rt). operationOf o (c .before .before .before .before .before .before .before .before .args .words .now)) (c .before .before .before .before .enum-told .given .1))) (c .before .before .preempt .ensures n r h v)
 
 same-length-4 : tie.Need-same-length-4
 same-length-4 c = search needs
 
+returns-4 : tie.Need-returns-4
+unfolding operationOf
+returns-4 c n r h v = acted-named (sym (ap (λ (o : Operation·rt). operationOf o (c .before .before .before .before .before .before .before .before .before .args .words .now)) (c .before .before .before .before .before .op3 .given .1))) (c .before .before .dispatch .ensures n r h v)
+
+same-length-5 : tie.Need-same-length-5
+same-length-5 c = search needs
+
 returns-5 : tie.Need-returns-5
-returns-5 c n r h v = let s = (c .before .before .before .before .before .before .before) in let a = a-request (s .args .op) (c .before .before .before .before .match .keys5) (s .args .words .now) in acted-named (sym (a .beside)) (c .before .before .request .ensures (a .request) (a .alone) n r h v)
+unfolding operationOf
+returns-5 c n r h v = acted-named (sym (ap (λ (o : Operation·rt). operationOf o (c .before .before .before .before .before .before .before .before .before .args .words .now)) (c .before .before .before .before .before .op4 .given .1))) (c .before .before .tick .ensures n r h v)
+
+returns-6 : tie.Need-returns-6
+unfolding operationOf
+returns-6 c n r h v = acted-named (sym (ap (λ (o : Operation·rt). operationOf o (c .before .before .before .before .before .args .words .now)) (c .before .enum-told2 .given .1))) (unknown-acts h (c .refused .ensures))
+
+same-length-6 : tie.Need-same-length-6
+same-length-6 c = search needs
+
+returns-7 : tie.Need-returns-7
+returns-7 c n r h v = let s = (c .before .before .before .before .before .before .before) in let a = a-request (s .args .op) (c .before .before .before .before .match .keys7) (s .args .words .now) in acted-named (sym (a .beside)) (c .before .before .request .ensures (a .request) (a .alone) n r h v)
 
 pub act-spec : {M : Type 1} → statement M
 act-spec =
@@ -73,9 +99,13 @@ act-spec =
     arrive-requires
     enum-known-op-2
     schedule-requires
-    enum-known-op-3
-    tick-requires
     enum-told
+    preempt-requires
+    enum-known-op-3
+    dispatch-requires
+    enum-known-op-4
+    tick-requires
+    enum-told-2
     refused-requires
     request-requires
     same-length
@@ -84,6 +114,10 @@ act-spec =
     returns-2
     same-length-3
     returns-3
-    returns-4
     same-length-4
-    returns-5)
+    returns-4
+    same-length-5
+    returns-5
+    returns-6
+    same-length-6
+    returns-7)

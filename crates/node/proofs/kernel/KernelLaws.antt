@@ -1,27 +1,75 @@
--- S and T: when they are refused, and what they do to a node. Assumes nothing.
+-- O, I, S and T: when they are refused, and what they do to a node. Assumes nothing.
 use Rattle.rules.specs.Node.{Node, forced, groupOf, timerRuns, withQueue, withRunning, withTimer, withTimerFlags}
-use Rattle.rules.specs.Step.{act, Effect, revoke, scheduled, timedOut, timerFlagged, valued}
+use Rattle.rules.specs.Step.{act, finish, revoke, step, timedOut, timerFlagged, valued}
 use Rattle.rules.specs.Settling.{drain}
 use Prim.Native.Nat.{_+_, _%_, _<_, _≤_, ℕ}
 use native.Mathlib.Nat.{mod-lt, zero-add}
 use native.Mathlib.Omega.{arith}
 use mathlib.Core.Bool.{Bool, cond, false, true}
+use mathlib.Core.List.{List}
 use mathlib.Core.Logic.{_≢_}
-use mathlib.Core.Path.{_∙_, _≡_, ap, refl, subst}
-use lib.ListN.{length}
+use mathlib.Core.Path.{_∙_, _≡_, ap, refl}
+use lib.ListN.{length, set}
 use borrow.Author.Tests.{eq-eqb, le-ltb, lt-ltb, ne-eqb}
 use Rattle.rules.specs.Build.{groupCount, paper01, tickLimit}
-use Rattle.rules.specs.Operation.{accepted, badSchedule, badTicks, schedule, tick, timeoutTrap}
-use Rattle.rules.specs.Refusal.{refusal, refuseSchedule, refuseTick}
+use Rattle.rules.specs.Memory.{runningAt}
+use Rattle.rules.specs.Operation.{accepted, allZero, alreadyRuns, badSchedule, badTicks, dispatch, preempt, schedule, tick, timeoutTrap}
+use Rattle.rules.specs.Refusal.{refusal, refuseDispatch, refuseSchedule, refuseTick}
 use Rattle.rules.specs.Valid.{Valid}
+use Rattle.rules.proofs.Steps.ActLaws.{handed-ready}
 use Rattle.rules.proofs.Steps.LineLaws.{timer-timed}
-use Rattle.rules.proofs.Steps.NodeLaws.{group-good, reflagged, sound-timer}
+use Rattle.rules.proofs.Steps.NodeLaws.{group-good, reflagged, refronted, sound-timer}
 use Rattle.rules.proofs.Steps.SettlingLaws.{drain-flags, drain-running, drain-sound}
 use Rattle.rules.specs.Sound.{Sound}
 use Rattle.rules.proofs.Steps.SoundLaws.{valid-sound}
-use Rattle.rules.proofs.Steps.StepLaws.{act-sound}
+use Rattle.rules.proofs.Steps.StepLaws.{schedule-still, step-taken}
+use Rattle.rules.proofs.Steps.SwitchLaws.{handedOver, preempt-idle, preempt-rests, schedule-drains}
 use Rattle.rules.proofs.Steps.TickLaws.{leftOver, ticks-counted, ticks-idle, ticks-timeout, timed}
+use Rattle.memory.specs.Holds.{Holds}
+use Rattle.memory.proofs.PieceLaws.{holds-pieces}
+use Rattle.memory.proofs.PieceWrites.{running-held}
+use Rattle.memory.proofs.WriteLaws.{wrote-set}
 use Rattle.node.specs.Steps.{Ticking, effect, late, rest}
+
+-- The processor taken or given.
+
+pub handed : {m : List ℕ} {n : Node} {r : List ℕ} → Holds m n r → (g : ℕ) → Holds (set m runningAt g) (withRunning g n) r
+handed {m} h g = running-held h g (wrote-set m runningAt g (omega (arith, holds-pieces h .long)))
+
+pub handed-sound : {n : Node} → Valid paper01 n → (g : ℕ) → g ≤ groupCount → Sound paper01 (withRunning g n)
+unfolding withTimer withRunning
+handed-sound {n} v g high = handed-ready v g (n .timer) high (v .timer-bound) .sound
+
+-- O.
+
+-- with nobody running nothing changes
+pub preempt-nobody : {n : Node} → Valid paper01 n → n .running ≡ 0 → step paper01 n preempt ≡ record { report = allZero; node = n }
+preempt-nobody {n} v nobody = step-taken paper01 n ∙ preempt-idle v nobody
+
+-- taken, the processor leaves what O leaves: settling zeroes the timer
+pub preempt-taken : {n : Node} → Valid paper01 n → step paper01 n preempt ≡ finish paper01 (effect (withRunning 0 n) 0 0)
+unfolding valued
+preempt-taken {n} v = step-taken paper01 n ∙ preempt-rests v
+
+-- I.
+
+module _ (n : Node) (g : ℕ) where
+  pub dispatch-none : g ≡ 0 → refusal paper01 n (dispatch g) ≡ badSchedule
+  unfolding refusal refuseDispatch
+  dispatch-none e = rw (eq-eqb g 0 e)
+
+  module _ (some : g ≢ 0) where
+    pub dispatch-high : groupCount < g → refusal paper01 n (dispatch g) ≡ badSchedule
+    unfolding refusal refuseDispatch
+    dispatch-high high = rw (ne-eqb g 0 some, lt-ltb groupCount g high)
+
+    pub dispatch-busy : g ≤ groupCount → n .running ≢ 0 → refusal paper01 n (dispatch g) ≡ alreadyRuns
+    unfolding refusal refuseDispatch
+    dispatch-busy high busy = rw (ne-eqb g 0 some, le-ltb groupCount g high, ne-eqb (n .running) 0 busy)
+
+    pub dispatch-accepted : g ≤ groupCount → n .running ≡ 0 → refusal paper01 n (dispatch g) ≡ accepted
+    unfolding refusal refuseDispatch
+    dispatch-accepted high nobody = rw (ne-eqb g 0 some, le-ltb groupCount g high, nobody)
 
 -- S.
 
@@ -29,24 +77,25 @@ pub schedule-refused : (n : Node) (g : ℕ) → groupCount < g → refusal paper
 unfolding refusal refuseSchedule
 schedule-refused n g high = rw (lt-ltb groupCount g high)
 
-module _ (n : Node) (g : ℕ) where
-  pub schedule-accepted : g ≤ groupCount → refusal paper01 n (schedule g) ≡ accepted
-  unfolding refusal refuseSchedule
-  schedule-accepted high = rw (le-ltb groupCount g high)
-
+module _ {n : Node} (v : Valid paper01 n) (g : ℕ) where
   -- to the one running nothing changes
-  pub schedule-same : g ≡ n .running → act paper01 n (schedule g) ≡ valued 0 n
-  unfolding act scheduled
-  schedule-same e = rw (eq-eqb g (n .running) e)
+  pub schedule-same : g ≡ n .running → step paper01 n (schedule g) ≡ record { report = allZero; node = n }
+  schedule-same e = rw e (schedule-still v)
 
-  -- another gets the processor, and the timer is 0
-  pub schedule-other : g ≢ n .running → act paper01 n (schedule g) ≡ effect (withTimer 0 (withRunning g n)) 0 0
-  unfolding act scheduled valued
-  schedule-other d = rw (ne-eqb g (n .running) d)
+  module _ (high : g ≤ groupCount) where
+    -- to another it is the two acts: the queue drained with nobody running, the processor given, and this finished
+    pub schedule-other : g ≢ n .running
+        → step paper01 n (schedule g)
+        ≡ finish paper01 (effect (withTimer 0 (withRunning g (drain paper01 (n .queue) (withRunning 0 n)))) 0 (length (n .queue)))
+    unfolding handedOver
+    schedule-other other = schedule-drains v g other high
 
-  pub schedule-sound : Valid paper01 n → g ≤ groupCount → g ≢ n .running → Sound paper01 (withTimer 0 (withRunning g n))
-  schedule-sound v high d =
-      subst (λ (e : Effect). Sound paper01 (e .node)) (schedule-other d) (act-sound v (schedule g) (schedule-accepted high))
+    pub schedule-sound : Sound paper01 (withTimer 0 (withRunning g (drain paper01 (n .queue) (withRunning 0 n))))
+    unfolding withQueue withRunning
+    schedule-sound =
+        let d = drain paper01 (n .queue) (withRunning 0 n) in
+        let s : Sound paper01 d = drain-sound (n .queue) (withRunning 0 n) (handed-sound v 0 (omega arith)) in
+        refronted s g 0 (d .queue) high (omega arith) (s .queue-length) (s .queue-good) (s .pledged)
 
 -- T.
 

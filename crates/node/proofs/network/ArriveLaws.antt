@@ -24,7 +24,7 @@ use Rattle.rules.proofs.Steps.StepLaws.{act-sound}
 use Rattle.memory.specs.Holds.{Holds}
 use Rattle.node.specs.Steps.{Acted, done, unsettled}
 use Rattle.node.specs.declared.acted.Act.{Act as Act·rt}
-use Rattle.node.proofs.StepMap.{acted-refused, acted-unsettled}
+use Rattle.node.proofs.StepMap.{acted-refused, acted-unsettled, one-act}
 
 -- a second test that passes
 or-right : (t : Bool) → t || true ≡ true
@@ -133,4 +133,5 @@ pub arrived : {m′ : List ℕ} {n : Node} {r : List ℕ} (g : ℕ) (ws : List �
     → Sound paper01 (queued (record { group = g; words = ws }) n) → Holds m′ (queued (record { group = g; words = ws }) n) r → a ≡ unsettled 0 0
     → Acted m′ n r (arrive g ws) a
 unfolding act valued
-arrived {n = n} g ws e s h told = acted-unsettled (arrive g ws) (queued (record { group = g; words = ws }) n) 0 0 e refl s (omega arith) h told
+arrived {n = n} g ws e s h told =
+    acted-unsettled (arrive g ws) (queued (record { group = g; words = ws }) n) 0 0 (one-act n (arrive g ws) tt e refl) s (omega arith) h told

@@ -1,5 +1,5 @@
 -- The loops of settling and of the drain over memory: what holds at each turn. Assumes nothing.
-use Prim.Native.Nat.{_+_, _≤_, ℕ, suc}
+use Prim.Native.Nat.{_+_, _<_, _≤_, ℕ, suc}
 use native.Mathlib.Nat.{add-zero, zero-add}
 use native.Mathlib.Omega.{arith}
 use mathlib.Core.Bool.{false, true}
@@ -135,21 +135,21 @@ module _ {m : List ℕ} {n : Node} {r : List ℕ} (d : Draining m n r) where
   draining-count : word m queuedAt ≡ length (d .node .queue)
   draining-count = holds-pieces (d .holds) .queued
 
-  pub draining-headed : word m queuedAt ≢ 0 → Headed (d .node)
+  pub draining-headed : 0 < word m queuedAt → Headed (d .node)
   draining-headed some = record { sound = d .sound; some = let c = draining-count in omega arith }
 
-  pub draining-on : {m′ : List ℕ} → word m queuedAt ≢ 0 → Becomes m m′ Headed movingHead → Draining m′ n r
+  pub draining-on : {m′ : List ℕ} → 0 < word m queuedAt → Becomes m m′ Headed movingHead → Draining m′ n r
   draining-on some becomes =
       let h = draining-headed some in
       record { node = movingHead (d .node); holds = becomes (d .node) r (d .holds) h; sound = moving-sound h; drained = d .drained ∙ drain-on h }
 
-  pub draining-ends : word m queuedAt ≡ 0 → {i : ℕ} → i ≡ length (n .queue) → Drained m n r i
+  pub draining-ends : word m queuedAt ≤ 0 → {i : ℕ} → i ≡ length (n .queue) → Drained m n r i
   draining-ends none count =
       let empty : length (drain paper01 (n .queue) n .queue) ≡ 0 = ap length (drain-queue paper01 (n .queue) n) in
       record {
         count = count;
         loss = omega arith;
-        holds = subst (λ (k : Node). Holds m k r) (sym (d .drained ∙ drain-ends (d .node) (sym draining-count ∙ none))) (d .holds);
+        holds = subst (λ (k : Node). Holds m k r) (sym (d .drained ∙ drain-ends (d .node) (omega (arith, draining-count)))) (d .holds);
       }
 
 -- a move takes one from the count

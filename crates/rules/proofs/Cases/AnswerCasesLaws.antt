@@ -27,5 +27,7 @@ answer-cases-hold =
       descriptor-full = refl;
       descriptor-empty = refl;
       bad-schedule = refl;
+      bad-dispatch = refl;
       bad-ticks = refl;
+      already-runs = refl;
     }

@@ -6,9 +6,9 @@ use Rattle.rules.specs.Script.{isNumber, number, andNumber, numbers, gro
 use Rattle.rules.specs.Node.{emptyPage, emptyPaging, powerOn, groupOf, withRunning, withTimer, withQueue, withFree, withPaging, withGroups, withGroup, withEntered, withFlags, withTimerFlags, withBuffer, withDescriptor, bufferHolds, buffered, forced, timerRuns, placeOf, messageOf, waiting, unused, inBuffer, isOf, inQueue, line}
 use Rattle.rules.specs.Frames.{ceilDiv, extended, takeFrame, withRoom, appended, withStock, put, firstFrame, without, freeFirst, useUp, removeFirst, pledge, pledges}
 use Rattle.rules.specs.Paging.{inFrame, traded, tradedIn, trading, more, standsFirst, spared, victim, sendOut, freed, exchange, bringIn, resident, nextPage, prepared, store, firstResident, runnerResident}
-use Rattle.rules.specs.Refusal.{queued, refuseArrive, refuseSchedule, refuseTick, refusePeek, refuseDispose, refuseEnd, refuseDescribe, refuseLaunch, refuseRequest, refusal}
+use Rattle.rules.specs.Refusal.{queued, refuseArrive, refuseSchedule, refuseDispatch, refuseTick, refusePeek, refuseDispose, refuseEnd, refuseDescribe, refuseLaunch, refuseRequest, refusal}
 use Rattle.rules.specs.Settling.{oneMore, mayStay, pass, restTimer, settle, drain, calls, upcall, upcallGroup}
-use Rattle.rules.specs.Step.{valued, scheduled, timerFlagged, revoke, timedOut, counted, oneTick, ticks, firstLength, firstWord, withoutFirst, removed, flagged, disposed, sectionBegun, sectionEnded, extending, described, launched, serve, act, finish, step}
+use Rattle.rules.specs.Step.{valued, preempted, timerFlagged, revoke, timedOut, counted, oneTick, ticks, firstLength, firstWord, withoutFirst, removed, flagged, disposed, sectionBegun, sectionEnded, extending, described, launched, serve, act, finish, inARow, switched, performed, step}
 use Rattle.rules.specs.Valid.{frameList, idle, frameNumbers, frameOrder, isMessage, isPlace, isWaiting, isWiped, isBuffer, onlyAtomic, isGroup, pendingHasLine, runnerAtomic, headStays, isSwap, firstInFrame, runnerInFrame, standsOnce, nodeTests, isNode}
 use Rattle.rules.specs.Memory.{frameAddress, groupAddress, flagWord, messageWords, queueWords, lineWords, listWords, groupWords, placeWords, pagesFrom, pagesOf, placesOf, allPages, frameWords, pagingWords, words, word, wordsAt, messageAt, messagesAt, placeAt, placesAt, framePlaces, flagAt, listAt, bufferAt, groupAt, groupsFrom, pagingFrom, nodeAt}
 use Rattle.rules.specs.MemoryTest.{lengthInBounds, memoryTests, replaced, powerOnMemory, firstPlace, bufferPart, queuePart, runnerPart}
@@ -22,9 +22,9 @@ unfolding
     emptyPage emptyPaging powerOn groupOf withRunning withTimer withQueue withFree withPaging withGroups withGroup withEntered withFlags withTimerFlags withBuffer withDescriptor bufferHolds buffered forced timerRuns placeOf messageOf waiting unused inBuffer isOf inQueue line
     ceilDiv extended takeFrame withRoom appended withStock put firstFrame without freeFirst useUp removeFirst pledge pledges
     inFrame traded tradedIn trading more standsFirst spared victim sendOut freed exchange bringIn resident nextPage prepared store firstResident runnerResident
-    queued refuseArrive refuseSchedule refuseTick refusePeek refuseDispose refuseEnd refuseDescribe refuseLaunch refuseRequest refusal
+    queued refuseArrive refuseSchedule refuseDispatch refuseTick refusePeek refuseDispose refuseEnd refuseDescribe refuseLaunch refuseRequest refusal
     oneMore mayStay pass restTimer settle drain calls upcall upcallGroup
-    valued scheduled timerFlagged revoke timedOut counted oneTick ticks firstLength firstWord withoutFirst removed flagged disposed sectionBegun sectionEnded extending described launched serve act finish step
+    valued preempted timerFlagged revoke timedOut counted oneTick ticks firstLength firstWord withoutFirst removed flagged disposed sectionBegun sectionEnded extending described launched serve act finish inARow switched performed step
     frameList idle frameNumbers frameOrder isMessage isPlace isWaiting isWiped isBuffer onlyAtomic isGroup pendingHasLine runnerAtomic headStays isSwap firstInFrame runnerInFrame standsOnce nodeTests isNode
     frameAddress groupAddress flagWord messageWords queueWords lineWords listWords groupWords placeWords pagesFrom pagesOf placesOf allPages frameWords pagingWords words word wordsAt messageAt messagesAt placeAt placesAt framePlaces flagAt listAt bufferAt groupAt groupsFrom pagingFrom nodeAt
     lengthInBounds memoryTests replaced powerOnMemory firstPlace bufferPart queuePart runnerPart

@@ -20,7 +20,7 @@ send-cases =
       other-flags-not-spared = refl;
       nobodys-first-not-spared = refl;
       own-last-not-spared = refl;
-      new-runner-spared = refl;
+      new-runner-out-and-in = refl;
       timeout-sends = refl;
       whole = refl;
     }

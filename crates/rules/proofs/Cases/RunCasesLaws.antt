@@ -2,14 +2,19 @@
 use mathlib.Core.Path.{refl}
 use Rattle.rules.specs.Private.{atFirst, told, says, refuses, unchanged, ownPoll, ownPeek, ownDispose, withAtomic, withOwnDescriptor, ownEnd, ownDescribe, ownLaunch, own, isCalled, called, afterwards, answered, unheard, joined, withHas, hear}
 use Rattle.rules.specs.Run.{wasAccepted, arrivedBy, arrived, arrivals, answerOf, answerTo, answersOf, upcallsOf, disposedBy, disposals, leftBy, left, tickedBy, ticked, listenFrom, listen}
-use Rattle.rules.specs.Cases.RunCases.{RunCases}
+use Rattle.rules.specs.Cases.RunCases.{RunCases, SwitchedRunCases, ToldCases}
 use Rattle.rules.proofs.Cases.Computes.{computes}
 
-pub run-cases : RunCases
+-- a run is computed, with all that is counted of it and what a private line hears
+unfoldable countsRun : Unit {0}
 unfolding
     computes
     atFirst told says refuses unchanged ownPoll ownPeek ownDispose withAtomic withOwnDescriptor ownEnd ownDescribe ownLaunch own isCalled called afterwards answered unheard joined withHas hear
     wasAccepted arrivedBy arrived arrivals answerOf answerTo answersOf upcallsOf disposedBy disposals leftBy left tickedBy ticked listenFrom listen
+countsRun = tt
+
+pub run-cases : RunCases
+unfolding countsRun
 run-cases =
     record {
       arrivals-seen = refl;
@@ -22,4 +27,29 @@ run-cases =
       answers-second = refl;
       upcalls-first = refl;
       heard-first = refl;
+    }
+
+pub switched-run-cases : SwitchedRunCases
+unfolding countsRun
+switched-run-cases =
+    record {
+      switching-arrivals = refl;
+      switching-disposals-first = refl;
+      switching-disposals-second = refl;
+      switching-answers-first = refl;
+      switching-answers-second = refl;
+      switching-ticks = refl;
+      switching-left = refl;
+      switching-upcalls = refl;
+      switching-heard = refl;
+    }
+
+pub told-cases : ToldCases
+unfolding told
+told-cases =
+    record {
+      told-switch = refl;
+      told-switch-to-nobody = refl;
+      told-taken = refl;
+      told-given = refl;
     }

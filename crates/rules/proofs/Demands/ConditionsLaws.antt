@@ -15,12 +15,12 @@ use Rattle.rules.specs.Build.{paper01, pageCount, groupCount, wordLimit,
 use Rattle.rules.specs.Node.{Message, Node, groupOf, withQueue, isOf, inQueue, line}
 use Rattle.rules.specs.Frames.{ceilDiv, pledge, pledges}
 use Rattle.rules.specs.Operation.{Request, poll, peek, dispose, beginAtomic, endAtomic, describe, launch}
-use Rattle.rules.specs.Operation.{Operation, arrive, schedule, tick, user, unknown}
-use Rattle.rules.specs.Refusal.{queued, refuseArrive, refuseSchedule, refuseTick, refusePeek, refuseDispose, refuseEnd, refuseDescribe, refuseLaunch, refuseRequest, refusal}
+use Rattle.rules.specs.Operation.{Operation, arrive, schedule, preempt, dispatch, tick, user, unknown}
+use Rattle.rules.specs.Refusal.{queued, refuseArrive, refuseSchedule, refuseDispatch, refuseTick, refusePeek, refuseDispose, refuseEnd, refuseDescribe, refuseLaunch, refuseRequest, refusal}
 use Rattle.rules.specs.MemoryTest.{isMemory}
 use Rattle.rules.specs.Valid.{Valid}
 use Rattle.rules.specs.Conditions.{pledgeWith, pledgesWith, Due, not-node, unreadable, bad-group, bad-words, queue-full, no-frames, nobody-runs, nothing-to-dispose, nothing-to-peek}
-use Rattle.rules.specs.Conditions.{past-message, still-pending, descriptor-full, descriptor-empty, bad-node, bad-schedule, bad-ticks, FirstDue}
+use Rattle.rules.specs.Conditions.{past-message, still-pending, descriptor-full, descriptor-empty, bad-node, bad-schedule, bad-dispatch, bad-ticks, already-runs, FirstDue}
 use Rattle.rules.proofs.Steps.ListLaws.{filter-append}
 use Rattle.rules.proofs.Steps.NodeLaws.{group-good}
 use Rattle.rules.proofs.Steps.SoundLaws.{valid-sound}
@@ -129,6 +129,14 @@ module _ (m : List ℕ) (n : Node) (node : isMemory m ≡ true) (P : ℕ → Typ
   on-schedule p k (not-node e) = no-node e
   on-schedule p k (bad-schedule x) = p x
 
+  on-preempt : (k : ℕ) → Due m n preempt k → P k
+  on-preempt k (not-node e) = no-node e
+
+  on-dispatch : {g : ℕ} → (¬ ((1 ≤ g) × (g ≤ 8)) → P 14) → (n .running ≢ 0 → P 16) → (k : ℕ) → Due m n (dispatch g) k → P k
+  on-dispatch p14 p16 k (not-node e) = no-node e
+  on-dispatch p14 p16 k (bad-dispatch x) = p14 x
+  on-dispatch p14 p16 k (already-runs x) = p16 x
+
   on-tick : {i : ℕ} → ((i ≡ 0) ⊎ (65535 < i) → P 15) → (k : ℕ) → Due m n (tick i) k → P k
   on-tick p k (not-node e) = no-node e
   on-tick p k (bad-ticks x) = p x
@@ -219,6 +227,15 @@ module _ (m : List ℕ) (n : Node) (node : isMemory m ≡ true) (v : Valid paper
       decide (ltb groupCount g) (ltb-tells 8 g) (λ bad. refuse (bad-schedule bad) (on-schedule m n node (from 14) (λ x. omega arith)))
       (λ group. accept (on-schedule m n node never group))
 
+  dispatch-first : (g : ℕ) → FirstDue m n (dispatch g) (refuseDispatch (n .running) g)
+  unfolding refuseDispatch
+  dispatch-first g =
+      decide (eqb g 0 || ltb groupCount g) (group-tells g)
+      (λ bad. refuse (bad-dispatch bad) (on-dispatch m n node (from 14) (λ x. omega arith) (λ x. omega arith)))
+      (λ group.
+      decide (eqb (n .running) 0) (eqb-tells (n .running) 0) (λ nobody. accept (on-dispatch m n node never group (λ runs. runs nobody)))
+      (λ runs. refuse (already-runs runs) (on-dispatch m n node (from 16) (λ x. absurd (group x)) (λ x. omega arith))))
+
   tick-first : (k : ℕ) → FirstDue m n (tick k) (refuseTick k)
   unfolding refuseTick
   tick-first k =
@@ -295,6 +312,8 @@ module _ (m : List ℕ) (n : Node) (node : isMemory m ≡ true) (v : Valid paper
   pub refusal-first : (op : Operation) → FirstDue m n op (refusal paper01 n op)
   unfolding refusal
   refusal-first (arrive g ws) = arrive-first g ws
+  refusal-first preempt = accept (on-preempt m n node never)
+  refusal-first (dispatch g) = dispatch-first g
   refusal-first (schedule g) = schedule-first g
   refusal-first (tick k) = tick-first k
   refusal-first (user r) =
@@ -303,11 +322,11 @@ module _ (m : List ℕ) (n : Node) (node : isMemory m ≡ true) (v : Valid paper
 
 -- What a number tells where it is due.
 
--- 1 is for memory that is no node, 2 for an unknown operation, and 15 is the last
+-- 1 is for memory that is no node, 2 for an unknown operation, and 16 is the last
 data Placed (m : List ℕ) (op : Operation) (k : ℕ) : Type 0 where
   first : k ≡ 1 → isMemory m ≡ false → Placed m op k
   second : k ≡ 2 → op ≡ unknown → Placed m op k
-  later : 3 ≤ k → k ≤ 15 → Placed m op k
+  later : 3 ≤ k → k ≤ 16 → Placed m op k
 
 placed : {m : List ℕ} {n : Node} {op : Operation} {k : ℕ} → Due m n op k → Placed m op k
 placed (not-node e) = first refl e
@@ -325,7 +344,9 @@ placed (descriptor-full x) = later (omega arith) (omega arith)
 placed (descriptor-empty x) = later (omega arith) (omega arith)
 placed (bad-node x) = later (omega arith) (omega arith)
 placed (bad-schedule x) = later (omega arith) (omega arith)
+placed (bad-dispatch x) = later (omega arith) (omega arith)
 placed (bad-ticks x) = later (omega arith) (omega arith)
+placed (already-runs x) = later (omega arith) (omega arith)
 
 -- memory that is no node
 pub no-node-first : (m : List ℕ) (n : Node) (op : Operation) → isMemory m ≡ false → FirstDue m n op 1
@@ -344,16 +365,16 @@ module _ {m : List ℕ} {n : Node} {op : Operation} {a : ℕ} (f : FirstDue m n 
       let least : ¬ (k < a) = λ l. f .first k l d in
       (omega arith, omega arith)
 
-  -- the answer is one of 0 to 15
-  pub first-numbered : a ≤ 15
+  -- the answer is one of 0 to 16
+  pub first-numbered : a ≤ 16
   first-numbered = go (ℕ-discrete a 0)
     where
-      last : Placed m op a → a ≤ 15
+      last : Placed m op a → a ≤ 16
       last (first e x) = omega arith
       last (second e x) = omega arith
       last (later l h) = h
 
-      go : Dec (a ≡ 0) → a ≤ 15
+      go : Dec (a ≡ 0) → a ≤ 16
       go (yes z) = omega arith
       go (no not) = last (placed (f .due not))
 

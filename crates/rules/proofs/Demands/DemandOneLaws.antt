@@ -9,30 +9,25 @@ use mathlib.Core.List.{List, _++_}
 use borrow.Author.Tests.{le-leb, lt-leb}
 use lib.ListN.{length, drop, length-append}
 use Rattle.rules.specs.Lists.{passes}
-use Rattle.rules.specs.Build.{Build, paper01}
+use Rattle.rules.specs.Build.{paper01}
 use Rattle.rules.specs.Node.{Node, emptyPage, emptyPaging, powerOn}
 use Rattle.rules.specs.Operation.{Operation, notNode, refused}
 use Rattle.rules.specs.Refusal.{refusal}
-use Rattle.rules.specs.Step.{Stepped, finish, step}
+use Rattle.rules.specs.Step.{Stepped, step}
 use Rattle.rules.specs.Memory.{size, flagWord, queueWords, lineWords, listWords, groupWords, placeWords, pagesFrom, pagesOf, placesOf, allPages, frameWords, pagingWords, words, nodeAt}
 use Rattle.rules.specs.MemoryTest.{memoryTests, isMemory, MemoryStep, replaced, stepMemory, powerOnMemory}
 use Rattle.rules.specs.Valid.{Valid}
 use Rattle.rules.specs.Script.{readLine}
 use Rattle.rules.specs.Conditions.{FirstDue}
 use Rattle.rules.specs.DemandOne.{onlyNumber, powerOnWords, AnyStep, AnyPowerOn, DemandOne}
-use Rattle.rules.proofs.Steps.StepLaws.{power-on-valid, step-cases, step-valid}
+use Rattle.rules.proofs.Steps.StepLaws.{power-on-valid, step-cases, performed-answer, step-answer, step-valid}
 use Rattle.rules.proofs.Steps.SoundLaws.{valid-mapped}
 use Rattle.rules.proofs.Map.MapRead.{words-length}
 use Rattle.rules.proofs.Map.MapLaws.{test-valid, test-words, test-written}
 use Rattle.rules.proofs.Map.RunMemory.{paper-sensible, rest-of, step-tested}
 use Rattle.rules.proofs.Demands.ConditionsLaws.{refusal-first, no-node-first, first-numbered, first-one, first-two}
 
--- a step's answer is its operation's refusal
-step-answer : (b : Build) (n : Node) (op : Operation) → step b n op .report .answer ≡ refusal b n op
-unfolding finish
-step-answer b n op = step-cases b n op (λ s. s .report .answer ≡ refusal b n op) sym (λ r e. sym e)
-
--- and so on memory that is a node
+-- on memory that is a node a step's answer is its operation's refusal
 pub answer-tested : (m : List ℕ) (op : Operation) → isMemory m ≡ true → stepMemory m op .report .answer ≡ refusal paper01 (nodeAt m) op
 answer-tested m op e = ap (λ (x : MemoryStep). x .report .answer) (step-tested m op e) ∙ step-answer paper01 (nodeAt m) op
 
@@ -81,9 +76,9 @@ rewritten : (m : List ℕ) (op : Operation) → isMemory m ≡ true
     → _≡_ {A = MemoryStep}
     (record { report = step paper01 (nodeAt m) op .report; memory = words (step paper01 (nodeAt m) op .node) ++ drop size m })
     (record { report = onlyNumber (step paper01 (nodeAt m) op .report .answer); memory = m })
-unfolding finish
 rewritten m op e =
-    step-cases paper01 (nodeAt m) op Goal (λ z not. absurd (not refl)) (λ r z not i. record { report = onlyNumber (suc r); memory = test-words m e i })
+    step-cases paper01 (nodeAt m) op Goal (λ z not. absurd (not (performed-answer paper01 (nodeAt m) op)))
+    (λ r z not i. record { report = onlyNumber (suc r); memory = test-words m e i })
   where
     Goal : Stepped → Type 0
     Goal s =

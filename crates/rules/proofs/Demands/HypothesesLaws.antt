@@ -1,16 +1,24 @@
 -- What the statements ask for is met by what Hypotheses names. A node with other places in a buffer has the same of all that Agree looks at, group by
 -- group; the tests' laws are TestLaws' and MapLaws'. Assumes nothing.
 use Prim.Native.Nat.{ℕ, zero, suc, _+_, _*_, _≤_, _<_}
-use mathlib.Core.Path.{_≡_, refl, sym, ap, subst}
+use mathlib.Core.Path.{_≡_, refl, sym, ap, _∙_, subst}
+use mathlib.Core.Logic.{_↔_}
+use mathlib.Core.Bool.{Bool, true, false, false≢true, not, and-eq-true-iff}
 use mathlib.Core.List.{List, [], _∷_, _++_}
 use native.Mathlib.Decide.{ℕ-discrete}
 use native.Mathlib.Omega.{arith}
 use lib.ListN.{getD}
+use borrow.Author.Tests.{not-true}
 use Rattle.rules.specs.Build.{Sensible}
 use Rattle.rules.specs.Node.{Message, Place, Group, Node, withGroup, withBuffer, inBuffer, inQueue, line}
+use Rattle.rules.specs.Lists.{Every, all}
+use Rattle.rules.specs.Operation.{Operation, arrive, schedule, preempt, dispatch, tick, user, unknown}
 use Rattle.rules.specs.Memory.{nodeAt}
+use Rattle.rules.specs.Run.{Input, operation, asked, Event}
+use Rattle.rules.specs.Before.{scheduled, stepBefore, playBefore, runBefore, Old, isFull, NeverFull}
 use Rattle.rules.specs.Dumps.{WaitsIn, Agree}
-use Rattle.rules.specs.Hypotheses.{build, BuildExamples, withPlaces, AgreeExamples, twoPages, WaitsExamples, TestSays}
+use Rattle.rules.specs.Hypotheses.{build, BuildExamples, withPlaces, AgreeExamples, twoPages, WaitsExamples, wholeCase, OldExamples, TestSays}
+use Rattle.rules.proofs.Cases.Computes.{computes}
 use Rattle.rules.proofs.Steps.NodeLaws.{group-other, kept, line-same}
 use Rattle.rules.proofs.Map.TestLaws.{isNode-valid, valid-isNode}
 use Rattle.rules.proofs.Map.MapLaws.{test-written, test-valid, test-words}
@@ -109,6 +117,56 @@ waits-examples =
       last = record { index = 1; listed = omega arith; number = refl; behind-used = omega arith; before-end = omega arith };
       behind = none-waits 37 2 (λ e. omega arith) (λ e. omega arith);
       unlisted = λ p i first second. none-waits p i (λ e. absurd (first e)) (λ e. absurd (second e));
+    }
+
+-- that no answer is 5 or 6, as a test
+never-full : (es : List Event) → NeverFull es ↔ (all (λ e. not (isFull (e .report .answer))) es ≡ true)
+unfolding NeverFull
+never-full [] = (λ h. refl, λ h. tt)
+never-full (e ∷ es) = (
+  λ h. and-eq-true-iff (not (isFull (e .report .answer))) _ .1 (ap not (h .0), never-full es .0 (h .1)),
+  λ h.
+      let both = and-eq-true-iff (not (isFull (e .report .answer))) _ .0 h in
+      (not-true (isFull (e .report .answer)) (both .0), never-full es .1 (both .1)),
+)
+
+-- an operation that is neither O nor I, as a test
+abbrev other : Operation → Bool
+other (arrive g ws) = true
+other preempt = false
+other (dispatch g) = false
+other (schedule g) = true
+other (tick k) = true
+other (user r) = true
+other unknown = true
+
+other-old : (i : Input) → other (asked i) ≡ true → Old i
+other-old i e =
+    record {
+      no-preempt = λ same. false≢true (ap other (sym same) ∙ e);
+      no-dispatch = λ g same. false≢true (ap other (sym same) ∙ e);
+    }
+
+others-old : (is : List Input) → all (λ i. other (asked i)) is ≡ true → Every Old is
+others-old [] e = tt
+others-old (i ∷ is) e =
+    let both = and-eq-true-iff (other (asked i)) (all (λ i. other (asked i)) is) .0 e in
+    (other-old i (both .0), others-old is (both .1))
+
+pub old-examples : OldExamples
+unfolding computes isFull stepBefore playBefore runBefore scheduled
+old-examples =
+    record {
+      arrival-old = λ g ws. other-old (operation (arrive g ws)) refl;
+      schedule-old = λ g. other-old (operation (schedule g)) refl;
+      tick-old = λ k. other-old (operation (tick k)) refl;
+      request-old = λ r. other-old (operation (user r)) refl;
+      unknown-old = other-old (operation unknown) refl;
+      line-old = other-old _ refl;
+      full-answers = refl;
+      whole-case = record { old = others-old wholeCase refl; now = never-full _ .1 refl; before = never-full _ .1 refl };
+      five-before = λ o. false≢true (never-full _ .0 (o .before));
+      six-now = λ o. false≢true (never-full _ .0 (o .now));
     }
 
 pub test-says : TestSays

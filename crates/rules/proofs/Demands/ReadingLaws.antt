@@ -118,7 +118,7 @@ module _ (m : List ℕ) (i : ℕ) (t : isMemory m ≡ true) where
     accepted-value zero =
         let none = sym (answer-tested m (user (peek i)) t) ∙ zero in
         ap (λ (x : MemoryStep). x .report .value) (step-tested m (user (peek i)) t)
-        ∙ ap (λ (x : Stepped). x .report .value) (step-accepted paper01 (nodeAt m) (user (peek i)) none)
+        ∙ ap (λ (x : Stepped). x .report .value) (step-accepted paper01 (nodeAt m) (user (peek i)) tt none)
 
     shown : Shows m (headPart m) (line (nodeAt m) (nodeAt m .running))
     shown = rw (tested-part m t) (head-shows m t low)

@@ -7,7 +7,7 @@ use mathlib.Core.List.{[]}
 use borrow.Author.Tests.{ne-eqb}
 use lib.Dec.{eqb}
 use Rattle.rules.specs.Operation.{poll, peek, dispose, beginAtomic, endAtomic, describe, launch}
-use Rattle.rules.specs.Operation.{Operation, arrive, schedule, tick, user, unknown, accepted}
+use Rattle.rules.specs.Operation.{Operation, arrive, schedule, preempt, dispatch, tick, user, unknown, accepted}
 use Rattle.rules.specs.Node.{Node}
 use Rattle.rules.specs.Step.{Stepped}
 use Rattle.rules.specs.Run.{Event, arrivedBy, disposedBy, tickedBy}
@@ -24,6 +24,8 @@ refusal-answer r = ne-eqb (suc r) 0 (λ h. omega arith)
 pub disposed-none : (op : Operation) → disposedBy op false ≡ 0
 unfolding disposedBy
 disposed-none (arrive g ws) = refl
+disposed-none preempt = refl
+disposed-none (dispatch g) = refl
 disposed-none (schedule g) = refl
 disposed-none (tick k) = refl
 disposed-none (user poll) = refl
@@ -39,6 +41,8 @@ disposed-none unknown = refl
 pub arrived-none : (op : Operation) → arrivedBy op false ≡ []
 unfolding arrivedBy
 arrived-none (arrive g ws) = refl
+arrived-none preempt = refl
+arrived-none (dispatch g) = refl
 arrived-none (schedule g) = refl
 arrived-none (tick k) = refl
 arrived-none (user q) = refl
@@ -48,6 +52,8 @@ arrived-none unknown = refl
 pub ticked-none : (op : Operation) → tickedBy op false ≡ 0
 unfolding tickedBy
 ticked-none (arrive g ws) = refl
+ticked-none preempt = refl
+ticked-none (dispatch g) = refl
 ticked-none (schedule g) = refl
 ticked-none (tick k) = refl
 ticked-none (user q) = refl

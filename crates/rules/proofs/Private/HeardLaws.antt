@@ -10,12 +10,12 @@ use borrow.Author.Tests.{eqb-true, eqb-false, ne-eqb}
 use lib.Dec.{eqb}
 use Rattle.rules.specs.Build.{Build, groupCount}
 use Rattle.rules.specs.Node.{Message, Node, groupOf, withRunning, withTimer, withQueue, inBuffer, inQueue, isOf, line}
-use Rattle.rules.specs.Operation.{Request, Operation, arrive, schedule, tick, user, unknown, Report, accepted, nobodyRuns, refused}
+use Rattle.rules.specs.Operation.{Request, Operation, arrive, schedule, preempt, dispatch, tick, user, unknown, Report, accepted, nobodyRuns, refused, allZero}
 use Rattle.rules.specs.Paging.{runnerResident}
 use Rattle.rules.specs.Refusal.{refusal, refuseRequest, queued}
 use Rattle.rules.specs.Settling.{settle, drain, upcall}
-use Rattle.rules.specs.Step.{Effect, Stepped, valued, scheduled, revoke, timedOut, ticks, serve, act, finish, step}
-use Rattle.rules.specs.Private.{PrivateLine, message, request, nothing, told, Answer, Heard, refuses, unchanged, own, isCalled, called, afterwards, answered, unheard, joined, withHas, hear}
+use Rattle.rules.specs.Step.{Effect, Stepped, valued, preempted, revoke, timedOut, ticks, serve, act, finish, inARow, step}
+use Rattle.rules.specs.Private.{PrivateLine, message, processor, request, nothing, told, Answer, Heard, refuses, unchanged, own, isCalled, called, afterwards, answered, unheard, joined, withHas, hear}
 use Rattle.rules.specs.Run.{answerOf, answerTo}
 use Rattle.rules.specs.Valid.{Valid}
 use Rattle.rules.specs.Sound.{Sound}
@@ -26,8 +26,8 @@ use Rattle.rules.proofs.Steps.LineLaws.{arrive-line}
 use Rattle.rules.proofs.Steps.TickLaws.{timed, leftOver, Ticked, idle, counting, timeout, ticked-by}
 use Rattle.rules.proofs.Steps.ListLaws.{filter-pass, filter-fail}
 use Rattle.rules.proofs.Steps.NodeLaws.{is-of, not-of}
-use Rattle.rules.proofs.Steps.ActLaws.{scheduled-cases, user-accepted}
-use Rattle.rules.proofs.Steps.StepLaws.{act-sound, step-cases}
+use Rattle.rules.proofs.Steps.ActLaws.{user-accepted}
+use Rattle.rules.proofs.Steps.StepLaws.{act-sound, OneAct, step-law}
 use Rattle.rules.proofs.Private.EventLaws.{refusal-answer}
 use Rattle.rules.proofs.Private.ViewLaws.{timer-view, timer-flags-view, nobody, called-quiet, view, view-same, settle-view, repaged-view, valid-quiet, upcall-named, upcall-view}
 use Rattle.rules.proofs.Private.RequestLaws.{suc-zero}
@@ -69,7 +69,7 @@ unseen {b} {n} v e s g lo hi same =
     λ i. record { answers = []; upcall = up i; line = l i }
 
 -- an accepted step that the group sees, and is not answered by
-seen : {b : Build} (e : Effect) → Sound b (e .node) → (g : ℕ) → 1 ≤ g → g ≤ groupCount → (xs : List Answer) (p : PrivateLine)
+pub seen : {b : Build} (e : Effect) → Sound b (e .node) → (g : ℕ) → 1 ≤ g → g ≤ groupCount → (xs : List Answer) (p : PrivateLine)
     → p ≡ view g (e .node)
     → afterwards xs p ≡ record { answers = xs; upcall = eqb (finish b e .report .upcall) g; line = view g (finish b e .node) }
 unfolding afterwards
@@ -117,10 +117,12 @@ request-refused g n q r lo e = go (eqb (n .running) g) refl
         ∙ (λ i. record { answers = refuses (suc r) ∷ []; upcall = sym (nobody g lo) i; line = view g n })
 
 -- a refused step of any kind
-refused-agrees : (b : Build) (n : Node) (op : Operation) (r : ℕ) → refusal b n op ≡ suc r → (g : ℕ) → 1 ≤ g
+pub refused-agrees : (b : Build) (n : Node) (op : Operation) (r : ℕ) → refusal b n op ≡ suc r → (g : ℕ) → 1 ≤ g
     → Agrees g n op (record { report = refused (suc r); node = n })
 unfolding told hear answerTo refusal
 refused-agrees b n (arrive h ws) r e g lo = rw (refusal-answer r) (untold g n lo)
+refused-agrees b n preempt r e g lo = suc-zero (sym e)
+refused-agrees b n (dispatch h) r e g lo = rw (refusal-answer r) (untold g n lo)
 refused-agrees b n (schedule h) r e g lo = rw (refusal-answer r) (untold g n lo)
 refused-agrees b n (tick k) r e g lo = untold g n lo
 refused-agrees b n (user q) r e g lo = request-refused g n q r lo e
@@ -151,12 +153,10 @@ arrive-other n g m ne =
     arrive-line m n g ∙ ap (λ (ms : List Message). line n g ++ ms) (filter-fail (isOf g) m [] (not-of g m ne)) ∙ append-nil (line n g) in
     view-same g (queued m n) n refl flags-refl l
 
--- S: the group has the processor exactly if it is named
-pub schedule-view : (n : Node) (h g : ℕ) → withHas (eqb h g) (view g n) ≡ view g (scheduled h n)
+-- O and I: the group has the processor exactly if it is named
+pub handed-view : (n : Node) (h t g : ℕ) → withHas (eqb h g) (view g n) ≡ view g (withTimer t (withRunning h n))
 unfolding withHas view withTimer withRunning line inBuffer inQueue groupOf
-schedule-view n h g =
-    scheduled-cases (λ k. withHas (eqb h g) (view g n) ≡ view g k) h n
-    (λ e. ap (λ (x : ℕ). withHas (eqb x g) (view g n)) (eqb-true _ _ e)) (λ e. refl)
+handed-view n h t g = refl
 
 -- T: ticks, and what a timeout does, are invisible
 pub tick-view : {b : Build} {n : Node} → Valid b n → (k g : ℕ) → 1 ≤ g → g ≤ groupCount → view g (ticks b k (valued 0 n) .node) ≡ view g n
@@ -205,11 +205,11 @@ request-accepted {b} {n} v q s run e g lo hi = go (eqb (n .running) g) refl
     go false t = unseen v e′ s g lo hi (serve-other b n run g lo (λ h. eqb-false _ _ t (sym h)) q)
     go true t = mine (eqb-true _ _ t)
 
--- an accepted step of any kind
-pub accepted-agrees : {b : Build} {n : Node} → Valid b n → (op : Operation) → refusal b n op ≡ 0 → (g : ℕ) → 1 ≤ g → g ≤ groupCount
+-- an accepted step of one act
+pub accepted-agrees : {b : Build} {n : Node} → Valid b n → (op : Operation) → OneAct op → refusal b n op ≡ 0 → (g : ℕ) → 1 ≤ g → g ≤ groupCount
     → Agrees g n op (finish b (act b n op))
-unfolding told hear answerTo refusal act valued finish
-accepted-agrees {b} {n} v (arrive h ws) e g lo hi = go (eqb h g) refl
+unfolding told hear answerTo refusal act valued finish preempted withTimer withRunning
+accepted-agrees {b} {n} v (arrive h ws) one e g lo hi = go (eqb h g) refl
   where
     m : Message
     m = record { group = h; words = ws }
@@ -225,21 +225,56 @@ accepted-agrees {b} {n} v (arrive h ws) e g lo hi = go (eqb h g) refl
         seen arrival (act-sound v (arrive h ws) e) g lo hi [] (joined g ws (view g n))
         (arrive-same n g ws ∙ ap (λ (x : ℕ). view g (queued (record { group = x; words = ws }) n)) (sym (eqb-true _ _ t)))
     go false t = unseen v arrival (act-sound v (arrive h ws) e) g lo hi (arrive-other n g m (eqb-false _ _ t))
-accepted-agrees {b} {n} v (schedule h) e g lo hi =
-    seen (valued 0 (scheduled h n)) (act-sound v (schedule h) e) g lo hi [] (withHas (eqb h g) (view g n)) (schedule-view n h g)
-accepted-agrees {b} {n} v (tick k) e g lo hi = unseen v (ticks b k (valued 0 n)) (act-sound v (tick k) e) g lo hi (tick-view v k g lo hi)
-accepted-agrees {b} {n} v (user q) e g lo hi =
+accepted-agrees {b} {n} v preempt one e g lo hi =
+    seen (act b n preempt) (act-sound v preempt e) g lo hi [] (withHas (eqb 0 g) (view g n)) (handed-view n 0 0 g)
+accepted-agrees {b} {n} v (dispatch h) one e g lo hi =
+    seen (act b n (dispatch h)) (act-sound v (dispatch h) e) g lo hi [] (withHas (eqb h g) (view g n)) (handed-view n h (n .timer) g)
+accepted-agrees {b} {n} v (schedule h) one e g lo hi = absurd one
+accepted-agrees {b} {n} v (tick k) one e g lo hi = unseen v (ticks b k (valued 0 n)) (act-sound v (tick k) e) g lo hi (tick-view v k g lo hi)
+accepted-agrees {b} {n} v (user q) one e g lo hi =
     let h : (1 ≤ n .running) × (refuseRequest n q ≡ 0) = user-accepted n q e in
     request-accepted v q (act-sound v (user q) e) (h .0) (h .1) g lo hi
-accepted-agrees {b} {n} v unknown e g lo hi = suc-zero e
+accepted-agrees {b} {n} v unknown one e g lo hi = suc-zero e
 
--- so a group is seen after an accepted step as its private line then stands
-pub accepted-view : {b : Build} {n : Node} → Valid b n → (op : Operation) → refusal b n op ≡ 0 → (g : ℕ) → 1 ≤ g → g ≤ groupCount
+-- so a group is seen after it as its private line then stands
+pub accepted-view : {b : Build} {n : Node} → Valid b n → (op : Operation) → OneAct op → refusal b n op ≡ 0 → (g : ℕ) → 1 ≤ g → g ≤ groupCount
     → view g (finish b (act b n op) .node) ≡ hear g (view g n) (told g op true) .line
 unfolding finish
-accepted-view v op taken g lo hi = sym (ap (λ (h : Heard). h .line) (accepted-agrees v op taken g lo hi))
+accepted-view v op one taken g lo hi = sym (ap (λ (h : Heard). h .line) (accepted-agrees v op one taken g lo hi))
+
+-- S, by the two acts.
+
+-- to the one running: to be told who has the processor already is to hear nothing, since a running group with a line is atomic
+still-agrees : {b : Build} {n : Node} → Valid b n → (g : ℕ) → 1 ≤ g → Agrees g n (schedule (n .running)) (record { report = allZero; node = n })
+unfolding told hear afterwards answerTo withHas view
+still-agrees {b} {n} v g lo =
+    let quiet : isCalled (view g n) ≡ false = valid-quiet v g lo in
+    let up : isCalled (view g n) ≡ eqb 0 g = quiet ∙ sym (nobody g lo) in
+    λ i. record { answers = []; upcall = up i; line = called-quiet (view g n) quiet i }
+
+-- to another: a private line that has lost the processor hears next what it would have heard at once
+lost-heard : (g : ℕ) (p : PrivateLine) (h : Bool) → hear g (hear g p (processor false) .line) (processor h) ≡ hear g p (processor h)
+unfolding hear afterwards called isCalled withHas
+lost-heard g p h = refl
+
+switch-agrees : (g : ℕ) → 1 ≤ g → (b : Build) (n : Node) (h : ℕ) (e f : Effect) → Agrees g n preempt (finish b e)
+    → Agrees g (finish b e .node) (dispatch h) (finish b f) → Agrees g n (schedule h) (inARow (finish b e) (finish b f))
+unfolding told finish inARow answerTo
+switch-agrees g lo b n h e f took gave =
+    let gone : hear g (view g n) (processor false) ≡ heardAs g n preempt (finish b e .report) (finish b e .node) =
+    ap (λ (t : Bool). hear g (view g n) (processor t)) (sym (nobody g lo)) ∙ took in
+    sym (lost-heard g (view g n) (eqb h g)) ∙ ap (λ (x : Heard). hear g (x .line) (processor (eqb h g))) gone ∙ gave
 
 -- what a step shows and leaves of a group is what its private line makes of what it is told
 pub step-agrees : {b : Build} {n : Node} → Valid b n → (op : Operation) (g : ℕ) → 1 ≤ g → g ≤ groupCount → Agrees g n op (step b n op)
-step-agrees {b} {n} v op g lo hi =
-    step-cases b n op (Agrees g n op) (λ e. accepted-agrees v op e g lo hi) (λ r e. refused-agrees b n op r e g lo)
+unfolding told answerTo
+step-agrees {b} v op g lo hi =
+    step-law (Agrees g)
+    (record {
+      refuses = λ n v op r e. refused-agrees b n op r e g lo;
+      acts = λ n v op one e. accepted-agrees v op one e g lo hi;
+      still = λ n v. still-agrees v g lo;
+      takes = λ n v runs took. took;
+      switches = λ n v h other some high took gave. switch-agrees g lo b n h _ _ took gave;
+    })
+    v op

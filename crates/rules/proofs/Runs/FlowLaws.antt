@@ -33,6 +33,15 @@ module _ {A : Type 0} where
       ∙ drop-drop e d ((before ++ a) ++ rest)
       ∙ ap (drop (d + e)) (append-assoc before a rest)
 
+  -- one after the other, where nothing joins
+  pub flow-then : {before between after : List A} {d e : ℕ} → Flow before between [] d → Flow between after [] e → Flow before after [] (d + e)
+  flow-then {before} {between} {after} {d} {e} f g =
+      let len : length between ≡ length (drop d (before ++ [])) = ap length (f .same) in
+      record {
+        same = g .same ∙ flow-join e [] f;
+        enough = omega (arith, length-drop d (before ++ []), length-append between [], len, f .enough, g .enough);
+      }
+
   -- what is there at the end: what was, and what joined, less what was taken
   pub flow-length : {before after a : List A} {d : ℕ} → Flow before after a d → d + length after ≡ length before + length a
   flow-length {before} {after} {a} {d} f =

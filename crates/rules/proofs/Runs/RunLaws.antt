@@ -30,6 +30,10 @@ seenAs b n g is =
       line = view g (play b n is .node);
     }
 
+-- what was heard of a step, and then of the rest
+abbrev pub heardThen : Heard → Listened → Listened
+heardThen h r = record { answers = h .answers ++ r .answers; upcalls = h .upcall ∷ r .upcalls; line = r .line }
+
 -- the private line hears what the group sees
 pub play-heard : {b : Build} {n : Node} → Valid b n → (g : ℕ) → 1 ≤ g → g ≤ groupCount → (is : List Input)
     → listenFrom g (view g n) (play b n is .events) ≡ seenAs b n g is
@@ -39,9 +43,8 @@ play-heard {b} {n} v g lo hi (i ∷ is) =
     let st : Stepped = step b n (asked i) in
     let first : hear g (view g n) (told g (asked i) (eqb (st .report .answer) accepted)) ≡ heardAs g n (asked i) (st .report) (st .node) =
     step-agrees v (asked i) g lo hi in
-    let after : Heard → Listened → Listened = λ h r. record { answers = h .answers ++ r .answers; upcalls = h .upcall ∷ r .upcalls; line = r .line } in
-    ap (λ (h : Heard). after h (listenFrom g (h .line) (play b (st .node) is .events))) first
-    ∙ ap (after (heardAs g n (asked i) (st .report) (st .node))) (play-heard (step-valid v (asked i)) g lo hi is)
+    ap (λ (h : Heard). heardThen h (listenFrom g (h .line) (play b (st .node) is .events))) first
+    ∙ ap (heardThen (heardAs g n (asked i) (st .report) (st .node))) (play-heard (step-valid v (asked i)) g lo hi is)
 
 -- from power-on
 pub run-heard : {b : Build} → Sensible b → (g : ℕ) → 1 ≤ g → g ≤ groupCount → (is : List Input)

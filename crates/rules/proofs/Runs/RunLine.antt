@@ -9,30 +9,32 @@ use lib.Dec.{eqb}
 use lib.ListN.{drop}
 use Rattle.rules.specs.Lists.{filter}
 use Rattle.rules.specs.Build.{Build, groupCount}
-use Rattle.rules.specs.Node.{Message, Node, isOf, line}
-use Rattle.rules.specs.Operation.{Operation, arrive, schedule, tick, user, unknown, accepted}
+use Rattle.rules.specs.Node.{Message, Node, withRunning, withTimer, isOf, line}
+use Rattle.rules.specs.Operation.{Operation, arrive, schedule, preempt, dispatch, tick, user, unknown, accepted}
 use Rattle.rules.specs.Refusal.{refusal, refuseRequest}
-use Rattle.rules.specs.Step.{Stepped, valued, serve, act, finish, step}
+use Rattle.rules.specs.Step.{Stepped, valued, preempted, serve, act, finish, inARow, step}
 use Rattle.rules.specs.Private.{PrivateLine, isCalled, called, withHas}
 use Rattle.rules.specs.Run.{Input, asked, Event, play, wasAccepted, arrivedBy, arrived, arrivals, disposedBy, disposals}
 use Rattle.rules.specs.Valid.{Valid}
 use Rattle.rules.proofs.Steps.ListLaws.{filter-append}
-use Rattle.rules.proofs.Runs.FlowLaws.{Flow, flow-kept, flow-join}
+use Rattle.rules.proofs.Runs.FlowLaws.{Flow, flow-kept, flow-join, flow-then}
 use Rattle.rules.proofs.Steps.ActLaws.{user-accepted}
-use Rattle.rules.proofs.Steps.StepLaws.{act-sound, step-cases, step-valid}
+use Rattle.rules.proofs.Steps.StepLaws.{act-sound, step-law, step-valid}
 use Rattle.rules.proofs.Private.EventLaws.{refusal-answer, disposed-none, arrived-none}
 use Rattle.rules.proofs.Steps.LineLaws.{arrive-line}
 use Rattle.rules.proofs.Private.ViewLaws.{view}
 use Rattle.rules.proofs.Private.RequestLaws.{suc-zero}
 use Rattle.rules.proofs.Private.ServeLaws.{serve-other, served-line, served-enough}
-use Rattle.rules.proofs.Private.HeardLaws.{finish-view, schedule-view, tick-view}
+use Rattle.rules.proofs.Private.HeardLaws.{finish-view, handed-view, tick-view}
 
 -- an accepted operation
 act-line : {b : Build} {n : Node} → Valid b n → (op : Operation) → refusal b n op ≡ 0 → (g : ℕ) → 1 ≤ g → g ≤ groupCount
     → Flow (line n g) (line (act b n op .node) g) (filter (isOf g) (arrivedBy op true)) (disposedBy op (eqb (n .running) g))
-unfolding act arrivedBy refusal valued view disposedBy withHas
+unfolding act arrivedBy refusal valued view disposedBy withHas preempted withTimer withRunning
 act-line {b} {n} v (arrive h ws) e g lo hi = record { same = arrive-line (record { group = h; words = ws }) n g; enough = omega arith }
-act-line {b} {n} v (schedule h) e g lo hi = flow-kept (sym (ap (λ (p : PrivateLine). p .messages) (schedule-view n h g)))
+act-line {b} {n} v preempt e g lo hi = flow-kept (sym (ap (λ (p : PrivateLine). p .messages) (handed-view n 0 0 g)))
+act-line {b} {n} v (dispatch h) e g lo hi = flow-kept (sym (ap (λ (p : PrivateLine). p .messages) (handed-view n h (n .timer) g)))
+act-line {b} {n} v (schedule h) e g lo hi = flow-kept refl
 act-line {b} {n} v (tick k) e g lo hi = flow-kept (ap (λ (p : PrivateLine). p .messages) (tick-view v k g lo hi))
 act-line {b} {n} v (user q) e g lo hi = go (eqb (n .running) g) refl
   where
@@ -74,17 +76,25 @@ finish-line {b} {n} v op e g lo hi =
 pub step-line : {b : Build} {n : Node} → Valid b n → (op : Operation) (g : ℕ) → 1 ≤ g → g ≤ groupCount
     → Flow (line n g) (line (step b n op .node) g) (filter (isOf g) (arrivedBy op (eqb (step b n op .report .answer) accepted)))
     (disposedBy op (eqb (step b n op .report .answer) accepted && eqb (n .running) g))
-unfolding finish
-step-line {b} {n} v op g lo hi =
-    step-cases b n op Goal finished (λ r e. rw (refusal-answer r, arrived-none op, disposed-none op) (flow-kept refl))
+unfolding finish inARow arrivedBy disposedBy
+step-line {b} v op g lo hi =
+    step-law Goal
+    (record {
+      refuses = λ n v op r e. rw (refusal-answer r, arrived-none op, disposed-none op) (flow-kept refl);
+      acts = λ n v op one e. finished v op e;
+      still = λ n v. flow-kept refl;
+      takes = λ n v runs took. took;
+      switches = λ n v h other some high took gave. flow-then took gave;
+    })
+    v op
   where
-    Goal : Stepped → Type 0
-    Goal s =
+    Goal : Node → Operation → Stepped → Type 0
+    Goal n op s =
         Flow (line n g) (line (s .node) g) (filter (isOf g) (arrivedBy op (eqb (s .report .answer) accepted)))
         (disposedBy op (eqb (s .report .answer) accepted && eqb (n .running) g))
 
-    finished : refusal b n op ≡ 0 → Goal (finish b (act b n op))
-    finished e =
+    finished : {n : Node} → Valid b n → (op : Operation) → refusal b n op ≡ 0 → Goal n op (finish b (act b n op))
+    finished {n} v op e =
         let l : Flow (line n g) (line (act b n op .node) g) (filter (isOf g) (arrivedBy op true)) (disposedBy op (eqb (n .running) g)) =
         act-line v op e g lo hi in
         record { same = finish-line v op e g lo hi ∙ l .same; enough = l .enough }

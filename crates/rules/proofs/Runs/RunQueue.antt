@@ -12,29 +12,24 @@ use Rattle.rules.specs.Lists.{isEmpty}
 use Rattle.rules.specs.Build.{Build}
 use Rattle.rules.specs.Node.{Message, Node, withRunning, withTimer, withQueue, withGroup, bufferHolds, buffered, line}
 use Rattle.rules.specs.Operation.{poll, peek, dispose, beginAtomic, endAtomic, describe, launch}
-use Rattle.rules.specs.Operation.{Operation, arrive, schedule, tick, user, unknown, accepted, noTrap, disposeExtend}
+use Rattle.rules.specs.Operation.{Operation, arrive, schedule, preempt, dispatch, tick, user, unknown, accepted, noTrap, disposeExtend}
 use Rattle.rules.specs.Refusal.{refusal, refuseRequest, queued}
 use Rattle.rules.specs.Settling.{settle, drain}
-use Rattle.rules.specs.Step.{Effect, Stepped, valued, scheduled, timerFlagged, revoke, timedOut, ticks, removed, flagged, disposed, sectionBegun, sectionEnded, extending, described, launched, serve, act, finish, step}
+use Rattle.rules.specs.Step.{Effect, Stepped, valued, preempted, timerFlagged, revoke, timedOut, ticks, removed, flagged, disposed, sectionBegun, sectionEnded, extending, described, launched, serve, act, finish, inARow, step}
 use Rattle.rules.specs.Run.{Input, asked, Event, play, wasAccepted, arrivedBy, arrived, arrivals, disposedBy, leftBy, left}
 use Rattle.rules.specs.Valid.{Valid}
 use Rattle.rules.proofs.Steps.SettlingLaws.{settle-queue, settle-moved, drain-queue}
 use Rattle.rules.proofs.Steps.LineLaws.{direct-head, buffered-holds, removed-queue-buffered, removed-queue-direct}
 use Rattle.rules.proofs.Steps.TickLaws.{timed, Ticked, idle, counting, timeout, ticked-by}
-use Rattle.rules.proofs.Steps.StepLaws.{finish-queue, step-cases, step-valid}
+use Rattle.rules.proofs.Steps.StepLaws.{finish-queue, given, step-law, step-valid}
 use Rattle.rules.proofs.Private.EventLaws.{eventOf, refusal-answer, disposed-none, arrived-none}
 use Rattle.rules.proofs.Private.RequestLaws.{suc-zero, dispose-some}
-use Rattle.rules.proofs.Steps.ActLaws.{scheduled-cases, user-accepted}
-use Rattle.rules.proofs.Runs.FlowLaws.{Flow, flow-kept, flow-drop, flow-join}
+use Rattle.rules.proofs.Steps.ActLaws.{user-accepted}
+use Rattle.rules.proofs.Runs.FlowLaws.{Flow, flow-kept, flow-drop, flow-join, flow-then}
 
 -- how many an accepted operation takes from the hardware queue before settling
 unfoldable pub taken : Operation → Effect → ℕ
 taken op e = e .moved + disposedBy op (eqb (e .trap) noTrap)
-
--- S
-scheduled-queue : (h : ℕ) (n : Node) → scheduled h n .queue ≡ n .queue
-unfolding withTimer withRunning
-scheduled-queue h n = scheduled-cases (λ k. k .queue ≡ n .queue) h n (λ e. refl) (λ e. refl)
 
 -- T
 ticked-queue : {b : Build} {n : Node} → Valid b n → (k : ℕ)
@@ -77,9 +72,11 @@ disposed-queue {b} {n} v some = rw (buffered-holds v some) (go (bufferHolds n (n
 -- an accepted operation
 act-queue : {b : Build} {n : Node} → Valid b n → (op : Operation) → refusal b n op ≡ 0
     → Flow (n .queue) (act b n op .node .queue) (arrivedBy op true) (taken op (act b n op))
-unfolding act arrivedBy refusal valued taken disposedBy serve extending launched described sectionBegun sectionEnded flagged timerFlagged withGroup queued withQueue refuseRequest
+unfolding act arrivedBy refusal valued taken disposedBy preempted serve extending launched described sectionBegun sectionEnded flagged timerFlagged withRunning withTimer withGroup queued withQueue refuseRequest
 act-queue {b} {n} v (arrive h ws) e = record { same = refl; enough = omega arith }
-act-queue {b} {n} v (schedule h) e = flow-kept (scheduled-queue h n)
+act-queue {b} {n} v preempt e = flow-kept refl
+act-queue {b} {n} v (dispatch h) e = flow-kept refl
+act-queue {b} {n} v (schedule h) e = flow-kept refl
 act-queue {b} {n} v (tick k) e = ticked-queue v k
 act-queue {b} {n} v (user poll) e = flow-kept refl
 act-queue {b} {n} v (user (peek i)) e = flow-kept refl
@@ -95,20 +92,29 @@ act-queue {b} {n} v unknown e = suc-zero e
 pub step-queue : {b : Build} {n : Node} → Valid b n → (op : Operation)
     → Flow (n .queue) (step b n op .node .queue) (arrivedBy op (eqb (step b n op .report .answer) accepted))
     (leftBy (eventOf n op (step b n op)))
-unfolding finish leftBy wasAccepted taken
-step-queue {b} {n} v op =
-    step-cases b n op Goal finished (λ r z. rw (refusal-answer r, arrived-none op, disposed-none op) (flow-kept refl))
+unfolding finish inARow leftBy wasAccepted taken arrivedBy disposedBy
+step-queue {b} v op =
+    step-law Goal
+    (record {
+      refuses = λ n v op r z. rw (refusal-answer r, arrived-none op, disposed-none op) (flow-kept refl);
+      acts = λ n v op one z. finished v op z;
+      still = λ n v. flow-kept refl;
+      takes = λ n v runs took. took;
+      switches = λ n v g other some high took gave.
+          let sum : finish b (act b n preempt) .report .moved + 0 + (given b n g .report .moved + 0)
+          ≡ finish b (act b n preempt) .report .moved + given b n g .report .moved + 0 = omega arith in
+          subst (λ (k : ℕ). Flow (n .queue) (given b n g .node .queue) [] k) sum (flow-then took gave);
+    })
+    v op
   where
-    Goal : Stepped → Type 0
-    Goal s =
+    Goal : Node → Operation → Stepped → Type 0
+    Goal n op s =
         Flow (n .queue) (s .node .queue) (arrivedBy op (eqb (s .report .answer) accepted))
         (leftBy (eventOf n op s))
 
-    e : Effect
-    e = act b n op
-
-    finished : refusal b n op ≡ 0 → Goal (finish b e)
-    finished z =
+    finished : {n : Node} → Valid b n → (op : Operation) → refusal b n op ≡ 0 → Goal n op (finish b (act b n op))
+    finished {n} v op z =
+        let e : Effect = act b n op in
         let s : ℕ = settle b (e .node) .moved in
         let d : ℕ = disposedBy op (eqb (e .trap) noTrap) in
         let f : Flow (n .queue) (drop s (e .node .queue)) (arrivedBy op true) (e .moved + d + s) =

@@ -1,29 +1,29 @@
 -- The timer over a run: while a message stays in the hardware queue, ticks are counted by the timer, and whatever sets the timer back takes a
 -- message out. So ticks and timer together grow by at most a timeout for each message that leaves. Assumes nothing.
-use Prim.Native.Nat.{ℕ, _+_, _*_, _≤_}
+use Prim.Native.Nat.{ℕ, suc, _+_, _*_, _≤_}
 use native.Mathlib.Nat.{mul-le-mul-left, mul-one}
 use native.Mathlib.Omega.{arith}
 use mathlib.Core.Path.{_≡_, refl, sym, ap, _∙_, subst}
-use mathlib.Core.Bool.{Bool, true, false, cond, not, _&&_, true≢false}
-use mathlib.Core.List.{List, [], _∷_}
-use borrow.Author.Tests.{eqb-false, ne-eqb}
+use mathlib.Core.Bool.{Bool, true, false, cond, true≢false}
+use mathlib.Core.List.{[]}
 use lib.Dec.{eqb}
 use lib.ListN.{length}
 use Rattle.rules.specs.Lists.{isEmpty}
 use Rattle.rules.specs.Build.{Build}
-use Rattle.rules.specs.Node.{Message, Node, withRunning, withTimer, withQueue, withGroup, buffered}
+use Rattle.rules.specs.Node.{Node, withRunning, withTimer, withQueue, withGroup, buffered}
 use Rattle.rules.specs.Operation.{poll, peek, dispose, beginAtomic, endAtomic, describe, launch}
-use Rattle.rules.specs.Operation.{Operation, arrive, schedule, tick, user, unknown, accepted, noTrap, disposeExtend}
+use Rattle.rules.specs.Operation.{Operation, arrive, schedule, preempt, dispatch, tick, user, unknown, accepted, refused, noTrap, disposeExtend}
 use Rattle.rules.specs.Refusal.{refusal, queued}
-use Rattle.rules.specs.Settling.{mayStay, pass, settle, drain}
-use Rattle.rules.specs.Step.{Effect, Stepped, valued, scheduled, timerFlagged, revoke, timedOut, ticks, flagged, disposed, sectionBegun, sectionEnded, extending, described, launched, serve, act, finish, step}
+use Rattle.rules.specs.Settling.{settle, drain}
+use Rattle.rules.specs.Step.{Effect, Stepped, valued, preempted, timerFlagged, revoke, timedOut, ticks, flagged, disposed, sectionBegun, sectionEnded, extending, described, launched, serve, act, finish, inARow, step}
 use Rattle.rules.specs.Run.{wasAccepted, disposedBy, leftBy, tickedBy}
 use Rattle.rules.specs.Valid.{Valid}
-use Rattle.rules.proofs.Steps.SettlingLaws.{runs-queued, pass-moves, settle-keeps, settle-moved, drain-queue}
-use Rattle.rules.proofs.Steps.LineLaws.{stays, buffered-empty}
+use Rattle.rules.proofs.Steps.SettlingLaws.{runs-queued, settle-keeps, settle-moved, drain-queue}
+use Rattle.rules.proofs.Steps.LineLaws.{nobody-empty, buffered-empty}
 use Rattle.rules.proofs.Steps.TickLaws.{timed, leftOver, Ticked, idle, counting, timeout, ticked-by}
-use Rattle.rules.proofs.Steps.ActLaws.{scheduled-cases}
-use Rattle.rules.proofs.Steps.StepLaws.{finish-queue, finish-timer, step-cases}
+use Rattle.rules.proofs.Steps.ActLaws.{dispatched}
+use Rattle.rules.proofs.Steps.StepLaws.{finish-queue, finish-timer, given-empty, step-law}
+use Rattle.rules.proofs.Steps.SwitchLaws.{nobody-emptied}
 use Rattle.rules.proofs.Private.RequestLaws.{suc-zero}
 use Rattle.rules.proofs.Steps.ListLaws.{some-length}
 use Rattle.rules.proofs.Private.EventLaws.{eventOf, refusal-answer, ticked-none}
@@ -41,34 +41,9 @@ module _ {b : Build} {n : Node} (v : Valid b n) (some : isEmpty (n .queue) ≡ f
   queue-some : n .queue ≡ [] → ⊥
   queue-some e = true≢false (sym (ap isEmpty e) ∙ some)
 
-  -- S to another group: the head was the last runner's
-  switch-moves : (h : ℕ) → eqb h (n .running) ≡ false → 1 ≤ settle b (withTimer 0 (withRunning h n)) .moved
-  unfolding settle withTimer withRunning mayStay
-  switch-moves h ne = go (n .queue) refl
-    where
-      k : Node
-      k = withTimer 0 (withRunning h n)
-
-      go : (q : List Message) → n .queue ≡ q → 1 ≤ pass b (n .queue) k .moved
-      go [] e = absurd (queue-some e)
-      go (m ∷ q) e =
-          let own : m .group ≡ n .running = stays n m (v .head-stays m q e) .0 in
-          let gone : eqb (m .group) h ≡ false = ne-eqb (m .group) h (λ x. eqb-false _ _ ne (sym x ∙ own)) in
-          let leaves : mayStay k m ≡ false = ap (λ (t : Bool). t && not (buffered k (m .group))) gone in
-          subst (λ (l : List Message). 1 ≤ pass b l k .moved) (sym e) (pass-moves b m q k leaves)
-
   -- the queue that an operation leaves is not empty where one is left after settling
   left-some : (k : Node) → isEmpty (settle b k .node .queue) ≡ false → k .queue ≡ [] → ⊥
   left-some k s e = omega (arith, settle-moved b k, ap length e, some-length (settle b k .node .queue) s)
-
-  -- S
-  schedule-timer : (h : ℕ) → 0 + n .timer ≤ b .timeout * (0 + settle b (scheduled h n) .moved) + scheduled h n .timer
-  unfolding withTimer
-  schedule-timer h =
-      scheduled-cases (λ k. 0 + n .timer ≤ b .timeout * (0 + settle b k .moved) + k .timer) h n (λ e. omega arith)
-      (λ e.
-      let moved : ℕ = settle b (withTimer 0 (withRunning h n)) .moved in
-      omega (arith, paid (0 + moved) (omega (arith, switch-moves h e))))
 
   -- T
   tick-timer : (k : ℕ) → isEmpty (settle b (ticks b k (valued 0 n) .node) .node .queue) ≡ false
@@ -100,9 +75,11 @@ module _ {b : Build} {n : Node} (v : Valid b n) (some : isEmpty (n .queue) ≡ f
 
   act-timer : (op : Operation) → refusal b n op ≡ 0 → isEmpty (settle b (act b n op .node) .node .queue) ≡ false
       → tickedBy op true + n .timer ≤ b .timeout * (taken op (act b n op) + settle b (act b n op .node) .moved) + act b n op .node .timer
-  unfolding act tickedBy refusal valued taken disposedBy serve extending launched described sectionBegun sectionEnded flagged timerFlagged withGroup queued withQueue disposed withTimer
+  unfolding act tickedBy refusal valued taken disposedBy serve extending launched described sectionBegun sectionEnded flagged timerFlagged withGroup queued withQueue disposed preempted withTimer withRunning
   act-timer (arrive h ws) z s = omega arith
-  act-timer (schedule h) z s = schedule-timer h
+  act-timer preempt z s = absurd (true≢false (ap isEmpty (sym (nobody-emptied b (preempted n) refl (v .queue-good))) ∙ s))
+  act-timer (dispatch h) z s = absurd (queue-some (nobody-empty v (dispatched n h z .nobody)))
+  act-timer (schedule h) z s = omega arith
   act-timer (tick k) z s = tick-timer k s
   act-timer (user poll) z s = omega arith
   act-timer (user (peek i)) z s = omega arith
@@ -113,26 +90,41 @@ module _ {b : Build} {n : Node} (v : Valid b n) (some : isEmpty (n .queue) ≡ f
   act-timer (user (launch k)) z s = omega arith
   act-timer unknown z s = suc-zero z
 
-  -- a step
-  pub step-timer : (op : Operation) → isEmpty (step b n op .node .queue) ≡ false
-      → tickedBy op (eqb (step b n op .report .answer) accepted) + n .timer
-      ≤ b .timeout * leftBy (eventOf n op (step b n op)) + step b n op .node .timer
-  unfolding finish leftBy wasAccepted taken
-  step-timer op = step-cases b n op Goal finished (λ r z s. rw (refusal-answer r, ticked-none op) (omega arith))
-    where
-      Goal : Stepped → Type 0
-      Goal s =
-          isEmpty (s .node .queue) ≡ false
-          → tickedBy op (eqb (s .report .answer) accepted) + n .timer
-          ≤ b .timeout * leftBy (eventOf n op s) + s .node .timer
+-- a step
+pub step-timer : {b : Build} {n : Node} → Valid b n → isEmpty (n .queue) ≡ false → (op : Operation) → isEmpty (step b n op .node .queue) ≡ false
+    → tickedBy op (eqb (step b n op .report .answer) accepted) + n .timer
+    ≤ b .timeout * leftBy (eventOf n op (step b n op)) + step b n op .node .timer
+unfolding finish inARow leftBy wasAccepted taken tickedBy disposedBy
+step-timer {b} v some op =
+    step-law Goal
+    (record {
+      refuses = λ n v op r z. refused-timer n op r;
+      acts = λ n v op one z some. finished v some op z;
+      still = λ n v some s. omega arith;
+      takes = λ n v runs took. took;
+      switches = λ n v g other named high took gave some s. absurd (true≢false (ap isEmpty (sym (given-empty v g)) ∙ s));
+    })
+    v op some
+  where
+    Goal : Node → Operation → Stepped → Type 0
+    Goal n op s =
+        isEmpty (n .queue) ≡ false
+        → isEmpty (s .node .queue) ≡ false
+        → tickedBy op (eqb (s .report .answer) accepted) + n .timer
+        ≤ b .timeout * leftBy (eventOf n op s) + s .node .timer
 
-      finished : refusal b n op ≡ 0 → Goal (finish b (act b n op))
-      finished z s =
-          let e : Effect = act b n op in
-          let k : Node = settle b (e .node) .node in
-          let left : isEmpty (k .queue) ≡ false = ap isEmpty (sym (finish-queue b e)) ∙ s in
-          let kept : finish b e .node .timer ≡ e .node .timer = finish-timer b e ∙ settle-keeps b (e .node) (runs-queued k left) in
-          let d : ℕ = disposedBy op (eqb (e .trap) noTrap) in
-          let m : ℕ = settle b (e .node) .moved in
-          let order : b .timeout * (e .moved + d + m) ≡ b .timeout * (e .moved + m + d) = ap (λ (x : ℕ). b .timeout * x) (omega arith) in
-          omega (arith, act-timer op z left, order, kept)
+    refused-timer : (n : Node) (op : Operation) (r : ℕ) → Goal n op (record { report = refused (suc r); node = n })
+    refused-timer n op r some s = rw (refusal-answer r, ticked-none op) (omega arith)
+
+    finished : {n : Node} → Valid b n → isEmpty (n .queue) ≡ false → (op : Operation) → refusal b n op ≡ 0
+        → isEmpty (finish b (act b n op) .node .queue) ≡ false
+        → tickedBy op true + n .timer ≤ b .timeout * leftBy (eventOf n op (finish b (act b n op))) + finish b (act b n op) .node .timer
+    finished {n} v some op z s =
+        let e : Effect = act b n op in
+        let k : Node = settle b (e .node) .node in
+        let left : isEmpty (k .queue) ≡ false = ap isEmpty (sym (finish-queue b e)) ∙ s in
+        let kept : finish b e .node .timer ≡ e .node .timer = finish-timer b e ∙ settle-keeps b (e .node) (runs-queued k left) in
+        let d : ℕ = disposedBy op (eqb (e .trap) noTrap) in
+        let m : ℕ = settle b (e .node) .moved in
+        let order : b .timeout * (e .moved + d + m) ≡ b .timeout * (e .moved + m + d) = ap (λ (x : ℕ). b .timeout * x) (omega arith) in
+        omega (arith, act-timer v some op z left, order, kept)

@@ -1,6 +1,6 @@
 -- Where pages are shows in no report: on two nodes that are alike, perhaps of builds that differ in how many pages are frames, every operation
 -- is refused alike or acts alike, and so every run from power-on reports the same. Assumes nothing.
-use Prim.Native.Nat.{ℕ, zero, suc, _+_, _-_, _%_, _≤_}
+use Prim.Native.Nat.{ℕ, _+_, _-_, _%_, _≤_}
 use mathlib.Core.Path.{_≡_, refl, sym, subst, ap, _∙_}
 use mathlib.Core.Logic.{_≢_}
 use mathlib.Core.Bool.{Bool, true, false, true≢false, false≢true, cond, _||_}
@@ -12,13 +12,13 @@ use lib.ListN.{length, drop}
 use borrow.Author.Tests.{ltb-true, ltb-false, eq-eqb}
 use Rattle.rules.specs.Lists.{isEmpty}
 use Rattle.rules.specs.Build.{Build, pageCount, groupCount, wordLimit}
-use Rattle.rules.specs.Node.{Message, Buffer, Group, Node, powerOn, groupOf, withRunning, withTimer, withQueue, withFree, withPaging, withGroup, withFlags, withTimerFlags, withDescriptor, bufferHolds, forced, timerRuns, waiting}
+use Rattle.rules.specs.Node.{Message, Buffer, Group, Node, powerOn, groupOf, withTimer, withQueue, withFree, withPaging, withGroup, withFlags, withTimerFlags, withDescriptor, bufferHolds, forced, timerRuns, waiting}
 use Rattle.rules.specs.Frames.{Stock, freeFirst, useUp, removeFirst, withStock, pledges}
 use Rattle.rules.specs.Operation.{Request, poll, peek, dispose, beginAtomic, endAtomic, describe, launch}
-use Rattle.rules.specs.Operation.{Operation, arrive, schedule, tick, user, unknown, accepted, badGroup, badWords, queueFull, noFrames, nobodyRuns, noTrap, disposeExtend, atomicityExtend}
-use Rattle.rules.specs.Refusal.{queued, refuseArrive, refusePeek, refuseDispose, refuseEnd, refuseDescribe, refuseLaunch, refuseRequest, refusal}
+use Rattle.rules.specs.Operation.{Operation, arrive, schedule, preempt, dispatch, tick, user, unknown, accepted, badGroup, badWords, queueFull, noFrames, nobodyRuns, noTrap, disposeExtend, atomicityExtend}
+use Rattle.rules.specs.Refusal.{queued, refuseArrive, refusePeek, refuseDispose, refuseEnd, refuseDescribe, refuseLaunch, refuseRequest, refuseDispatch, refusal}
 use Rattle.rules.specs.Settling.{settle, drain, calls, upcall}
-use Rattle.rules.specs.Step.{Effect, Stepped, valued, scheduled, timerFlagged, revoke, timedOut, ticks, firstLength, firstWord, withoutFirst, removed, flagged, disposed, sectionBegun, sectionEnded, extending, described, launched, serve, act, finish, step}
+use Rattle.rules.specs.Step.{Effect, Stepped, valued, preempted, timerFlagged, revoke, timedOut, ticks, firstLength, firstWord, withoutFirst, removed, flagged, disposed, sectionBegun, sectionEnded, extending, described, launched, serve, act, finish, inARow, step}
 use Rattle.rules.specs.Run.{Input, asked, play, run}
 use Rattle.rules.specs.Sound.{Sound}
 use Rattle.rules.specs.Unseen.{SameButFrames, PagingUnseen}
@@ -31,7 +31,7 @@ use Rattle.rules.proofs.Steps.SettlingLaws.{settle-sound, drain-sound, 
 use Rattle.rules.proofs.Steps.LineLaws.{timer-timed, removed-running}
 use Rattle.rules.proofs.Steps.TickLaws.{timed, leftOver, ticks-idle, ticks-counted, ticks-timeout}
 use Rattle.rules.proofs.Steps.ActLaws.{valid-ready, flagged-ready, timer-flagged-ready, removed-sound, user-accepted}
-use Rattle.rules.proofs.Steps.StepLaws.{calls-group, act-sound, step-accepted, step-refused, step-valid, power-on-valid}
+use Rattle.rules.proofs.Steps.StepLaws.{calls-group, act-sound, step-accepted, step-refused, schedule-still, schedule-takes, taken, given, schedule-switches, step-taken, step-given, taken-valid, step-law, step-valid, power-on-valid}
 use Rattle.rules.proofs.Runs.AlikeLaws.{Alike, AlikeGroup, paged-alike, alike-queue, alike-timer, alike-running, alike-group, alike-pledges, alike-settled, alike-drained, alike-forced, alike-runs, runner-alike, runner-line, runner-holds, runner-buffered, alike-calls, alike-named, flags-sym}
 
 -- what two operations did is alike
@@ -115,17 +115,6 @@ unfolding queued
 alike-queued {n} {k} a m =
     subst (λ (q : List Message). Alike (withQueue (n .queue ++ (m ∷ [])) n) (withQueue q k)) (ap (λ (q : List Message). q ++ (m ∷ [])) (a .queue))
     (alike-queue a (n .queue ++ (m ∷ [])))
-
--- S
-alike-scheduled : {n k : Node} → Alike n k → (g : ℕ) → Alike (scheduled g n) (scheduled g k)
-unfolding scheduled
-alike-scheduled {n} {k} a g = go (eqb g (n .running)) (eqb g (k .running)) (ap (eqb g) (a .running))
-  where
-    go : (u w : Bool) → u ≡ w → Alike (cond u n (withTimer 0 (withRunning g n))) (cond w k (withTimer 0 (withRunning g k)))
-    go true true same = a
-    go true false same = absurd (true≢false same)
-    go false true same = absurd (true≢false (sym same))
-    go false false same = alike-timer (alike-running a g) 0
 
 -- the running group's flags force and revoked
 alike-timer-flagged : {b c : Build} {n k : Node} → Sound b n → Sound c k → Alike n k → 1 ≤ n .running → (x y x′ y′ : Bool) → x ≡ x′ → y ≡ y′
@@ -407,6 +396,8 @@ module _ {b c : Build} (same : SameButFrames b c) {n k : Node} (v : Valid b n) (
       ap (λ (p : ℕ). ltb p (pledges b (queued m n))) (same .pages) ∙ ap (ltb (pageCount c)) (alike-pledges (alike-queued a m) same) in
       ap (λ (t : Bool). cond (eqb g 0 || ltb groupCount g) badGroup (cond (isEmpty ws || ltb wordLimit (length ws)) badWords (cond t queueFull (cond (ltb (pageCount b) (pledges b (queued m n))) noFrames accepted)))) room
       ∙ ap (λ (t : Bool). cond (eqb g 0 || ltb groupCount g) badGroup (cond (isEmpty ws || ltb wordLimit (length ws)) badWords (cond (leb (c .places) (length (k .queue))) queueFull (cond t noFrames accepted)))) fits
+  alike-refusal preempt = refl
+  alike-refusal (dispatch g) = ap (λ (r : ℕ). refuseDispatch r g) (a .running)
   alike-refusal (schedule g) = refl
   alike-refusal (tick i) = refl
   alike-refusal (user r) = go (ℕ-discrete (n .running) 0)
@@ -420,32 +411,64 @@ module _ {b c : Build} (same : SameButFrames b c) {n k : Node} (v : Valid b n) (
 
   -- or acts alike
   alike-act : (op : Operation) → refusal b n op ≡ 0 → AlikeEffect (act b n op) (act c k op)
-  unfolding act refusal
+  unfolding act refusal preempted
   alike-act (arrive g ws) e = alike-valued (alike-queued a (record { group = g; words = ws })) 0 0 refl
-  alike-act (schedule g) e = alike-valued (alike-scheduled a g) 0 0 refl
+  alike-act preempt e = alike-valued (alike-timer (alike-running a 0) 0) 0 0 refl
+  alike-act (dispatch g) e = alike-valued (alike-running a g) 0 0 refl
+  alike-act (schedule g) e = alike-valued a 0 0 refl
   alike-act (tick i) e = alike-ticks same v w a i
   alike-act (user r) e = alike-served same v w a (user-accepted n r e .0) r
   alike-act unknown e = alike-valued a 0 0 refl
 
-  -- so a step reports the same
-  alike-step : (op : Operation) → AlikeStepped (step b n op) (step c k op)
-  alike-step op = go (refusal b n op) refl
-    where
-      go : (r : ℕ) → refusal b n op ≡ r → AlikeStepped (step b n op) (step c k op)
-      go zero e =
-          let f : refusal c k op ≡ 0 = sym (alike-refusal op) ∙ e in
-          rw (step-accepted b n op e, step-accepted c k op f)
-          (alike-finish (act b n op) (act c k op) (act-sound v op e) (act-sound w op f) (alike-act op e))
-      go (suc r) e =
-          let f : refusal c k op ≡ suc r = sym (alike-refusal op) ∙ e in
-          rw (step-refused b n op r e, step-refused c k op r f) (record { report = refl; node = a })
+-- two steps in a row
+alike-row : {s s′ t t′ : Stepped} → AlikeStepped s s′ → AlikeStepped t t′ → AlikeStepped (inARow s t) (inARow s′ t′)
+unfolding inARow
+alike-row x y =
+    record {
+      report = λ i.
+          record {
+            answer = y .report i .answer;
+            value = y .report i .value;
+            trap = y .report i .trap;
+            upcall = y .report i .upcall;
+            moved = x .report i .moved + y .report i .moved;
+            sent = y .report i .sent;
+          };
+      node = y .node;
+    }
+
+-- so a step reports the same
+alike-step : {b c : Build} → SameButFrames b c → {n : Node} → Valid b n → (op : Operation) {k : Node} → Valid c k → Alike n k
+    → AlikeStepped (step b n op) (step c k op)
+alike-step {b} {c} same v op w a =
+    step-law Goal
+    (record {
+      refuses = λ n v op r e k w a.
+          rw (step-refused c k op r (sym (alike-refusal same v w a op) ∙ e)) (record { report = refl; node = a });
+      acts = λ n v op one e k w a.
+          let f : refusal c k op ≡ 0 = sym (alike-refusal same v w a op) ∙ e in
+          rw (step-accepted c k op one f)
+          (alike-finish (act b n op) (act c k op) (act-sound v op e) (act-sound w op f) (alike-act same v w a op e));
+      still = λ n v k w a.
+          rw (ap (λ (g : ℕ). step c k (schedule g)) (a .running) ∙ schedule-still w) (record { report = refl; node = a });
+      takes = λ n v runs took k w a. rw (schedule-takes c k (λ none. runs (a .running ∙ none)) ∙ sym (step-taken c k)) (took k w a);
+      switches = λ n v g other some high took gave k w a.
+          let s : AlikeStepped (taken b n) (taken c k) = subst (AlikeStepped (taken b n)) (step-taken c k) (took k w a) in
+          let t : AlikeStepped (given b n g) (given c k g) =
+          subst (AlikeStepped (given b n g)) (step-given c k g some high) (gave (taken c k .node) (taken-valid w) (s .node)) in
+          rw (schedule-switches c k g (λ e. other (e ∙ sym (a .running))) some high) (alike-row s t);
+    })
+    v op _ w a
+  where
+    Goal : Node → Operation → Stepped → Type 0
+    Goal n op s = (k : Node) → Valid c k → Alike n k → AlikeStepped s (step c k op)
 
 -- a run from two such nodes
 alike-play : {b c : Build} → SameButFrames b c → (is : List Input) {n k : Node} → Valid b n → Valid c k → Alike n k → play b n is .events ≡ play c k is .events
 unfolding play
 alike-play same [] v w a = refl
 alike-play {b} {c} same (i ∷ is) {n} {k} v w a =
-    let s = alike-step same v w a (asked i) in
+    let s = alike-step same v (asked i) w a in
     let rest = alike-play same is (step-valid v (asked i)) (step-valid w (asked i)) (s .node) in
     λ j. record { runner = a .running j; operation = asked i; report = s .report j } ∷ rest j
 

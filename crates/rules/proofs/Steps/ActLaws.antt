@@ -9,16 +9,16 @@ use native.Mathlib.Decide.{ℕ-discrete}
 use native.Mathlib.Omega.{arith}
 use lib.Dec.{ltb, leb, eqb}
 use lib.ListN.{length, drop, length-append, length-drop}
-use borrow.Author.Tests.{ltb-true, ltb-false, leb-false, eqb-false}
+use borrow.Author.Tests.{ltb-true, ltb-false, leb-false, eqb-true, eqb-false}
 use Rattle.rules.specs.Lists.{filter, isEmpty}
 use Rattle.rules.specs.Build.{Build, pageCount, groupCount, wordLimit}
 use Rattle.rules.specs.Node.{Message, Group, Node, groupOf, withRunning, withTimer, withQueue, withFree, withPaging, withGroup, withFlags, withTimerFlags, withDescriptor, bufferHolds, timerRuns, isOf, inBuffer, inQueue, line}
 use Rattle.rules.specs.Frames.{pledge, Stock, removeFirst, withStock, pledges}
 use Rattle.rules.specs.Operation.{Request, poll, peek, dispose, beginAtomic, endAtomic, describe, launch}
-use Rattle.rules.specs.Operation.{Operation, arrive, schedule, tick, user, unknown, nobodyRuns}
-use Rattle.rules.specs.Refusal.{queued, refuseArrive, refuseSchedule, refuseEnd, refuseDescribe, refuseRequest, refusal}
+use Rattle.rules.specs.Operation.{Operation, arrive, schedule, preempt, dispatch, tick, user, unknown, accepted, nobodyRuns, alreadyRuns}
+use Rattle.rules.specs.Refusal.{queued, refuseArrive, refuseDispatch, refuseEnd, refuseDescribe, refuseRequest, refusal}
 use Rattle.rules.specs.Settling.{drain}
-use Rattle.rules.specs.Step.{valued, scheduled, timerFlagged, revoke, timedOut, ticks, removed, flagged, disposed, sectionBegun, sectionEnded, extending, described, launched, serve, act}
+use Rattle.rules.specs.Step.{valued, preempted, timerFlagged, revoke, timedOut, ticks, removed, flagged, disposed, sectionBegun, sectionEnded, extending, described, launched, serve, act}
 use Rattle.rules.specs.Valid.{GoodMessage, GoodGroup, Valid}
 use Rattle.rules.specs.Sound.{Sound}
 use Rattle.rules.proofs.Steps.SoundLaws.{PendingLines, valid-sound}
@@ -32,7 +32,7 @@ use Rattle.rules.proofs.Steps.LineLaws.{neither, arrive-line, timer-tim
 use Rattle.rules.proofs.Steps.TickLaws.{timed, leftOver, left-over, Ticked, idle, counting, timeout, ticked-by}
 
 -- an answer that is 0 comes from a test that failed, and from what is asked after it
-failed : (t : Bool) (r x : ℕ) → cond t (suc r) x ≡ 0 → (t ≡ false) × (x ≡ 0)
+pub failed : (t : Bool) (r x : ℕ) → cond t (suc r) x ≡ 0 → (t ≡ false) × (x ≡ 0)
 failed true r x e = absurd (omega arith)
 failed false r x e = (refl, e)
 
@@ -207,22 +207,30 @@ ended-ready {b} {n} y low off =
     flagged-ready {n = k} (timer-flagged-ready y low false false (λ e. absurd (false≢true e)) (λ e. absurd (false≢true e))) low
     false (groupOf n (n .running) .pending) (λ e. cc) (λ e. pending ∙ e) (λ e. cc) (λ e. cc)
 
--- an S to the one running changes nothing, and one to another gives the processor and sets the timer to 0
-pub scheduled-cases : (P : Node → Type 0) (g : ℕ) (n : Node) → (eqb g (n .running) ≡ true → P n)
-    → (eqb g (n .running) ≡ false → P (withTimer 0 (withRunning g n))) → P (scheduled g n)
-unfolding scheduled
-scheduled-cases P g n same other = go (eqb g (n .running)) refl
-  where
-    go : (t : Bool) → eqb g (n .running) ≡ t → P (cond t n (withTimer 0 (withRunning g n)))
-    go true e = same e
-    go false e = other e
-
 -- an accepted request has a runner
 pub user-accepted : (n : Node) (r : Request) → cond (eqb (n .running) 0) nobodyRuns (refuseRequest n r) ≡ 0 → (1 ≤ n .running) × (refuseRequest n r ≡ 0)
 user-accepted n r e =
     let runs = failed (eqb (n .running) 0) _ _ e in
     let nonzero : n .running ≢ 0 = eqb-false (n .running) 0 (runs .0) in
     (omega arith, runs .1)
+
+-- an accepted I names a group, and nobody runs
+pub record Dispatched (n : Node) (g : ℕ) : Type 0 where
+  pub low : 1 ≤ g
+  pub high : g ≤ groupCount
+  pub nobody : n .running ≡ 0
+
+pub dispatched : (n : Node) (g : ℕ) → refuseDispatch (n .running) g ≡ 0 → Dispatched n g
+unfolding refuseDispatch
+dispatched n g e =
+    let group = failed (eqb g 0 || ltb groupCount g) _ _ e in
+    let bounds = neither (eqb g 0) (ltb groupCount g) (group .0) in
+    let nonzero : g ≢ 0 = eqb-false g 0 (bounds .0) in
+    record { low = omega arith; high = ltb-false groupCount g (bounds .1); nobody = eqb-true (n .running) 0 (passed (eqb (n .running) 0) (group .1)) }
+  where
+    passed : (t : Bool) → cond t accepted alreadyRuns ≡ 0 → t ≡ true
+    passed true e = refl
+    passed false e = absurd (omega arith)
 
 module _ {b : Build} {n : Node} (v : Valid b n) where
   -- the running group's descriptor
@@ -270,16 +278,14 @@ module _ {b : Build} {n : Node} (v : Valid b n) where
       })
       0 (omega (arith, v .timer-bound))
 
-  -- the processor given
-  scheduled-ready : (g : ℕ) → g ≤ groupCount → Ready b (scheduled g n)
+  -- the processor taken or given, and the timer set
+  pub handed-ready : (g t : ℕ) → g ≤ groupCount → t < b .timeout → Ready b (withTimer t (withRunning g n))
   unfolding withTimer withRunning withQueue groupOf line inBuffer inQueue
-  scheduled-ready g high =
-      scheduled-cases (Ready b) g n (λ same. valid-ready v)
-      (λ other.
+  handed-ready g t high below =
       record {
-        sound = refronted (valid-sound v) g 0 (n .queue) high (omega (arith, v .timer-bound)) (v .queue-length) (v .queue-good) (v .pledged);
+        sound = refronted (valid-sound v) g t (n .queue) high below (v .queue-length) (v .queue-good) (v .pledged);
         pending = v .pending-line;
-      })
+      }
 
   -- the whole queue drained
   drained-ready : Ready b (drain b (n .queue) n)
@@ -329,11 +335,13 @@ module _ {b : Build} {n : Node} (v : Valid b n) where
 
   -- an accepted operation
   pub act-ready : (op : Operation) → refusal b n op ≡ 0 → Ready b (act b n op .node)
-  unfolding act refusal refuseSchedule valued
+  unfolding act refusal valued preempted withTimer withRunning
   act-ready (arrive g ws) e =
       let m : Message = record { group = g; words = ws } in
       record { sound = arrive-sound (valid-sound v) m (arrives b n m e); pending = arrive-pending n m (v .pending-line) }
-  act-ready (schedule g) e = scheduled-ready g (ltb-false groupCount g (failed (ltb groupCount g) _ _ e .0))
+  act-ready preempt e = handed-ready 0 0 (omega arith) (omega (arith, v .timer-bound))
+  act-ready (dispatch g) e = handed-ready g (n .timer) (dispatched n g e .high) (v .timer-bound)
+  act-ready (schedule g) e = valid-ready v
   act-ready (tick k) e = ticks-ready k
   act-ready (user r) e =
       let runs = user-accepted n r e in

@@ -52,6 +52,14 @@ stays n m e =
     let same = eqb-true (m .group) (n .running) (tests .0) in
     (same, rw same at (not-true (buffered n (m .group)) (tests .1)))
 
+-- where nobody runs the queue is empty
+pub nobody-empty : {b : Build} {n : Node} → Valid b n → n .running ≡ 0 → n .queue ≡ []
+nobody-empty {b} {n} v nobody = go (n .queue) refl (v .queue-good)
+  where
+    go : (q : List Message) → n .queue ≡ q → Every GoodMessage q → q ≡ []
+    go [] e good = refl
+    go (m ∷ q) e good = absurd (omega (arith, good .0 .group-low, stays n m (v .head-stays m q e) .0))
+
 -- a running group that is buffered meets an empty queue
 pub buffered-empty : {b : Build} {n : Node} → Valid b n → buffered n (n .running) ≡ true → n .queue ≡ []
 buffered-empty {b} {n} v yes′ = go (n .queue) refl
@@ -163,6 +171,11 @@ timer-rests {b} {n} v rests =
     none : (q : List Message) → not (isEmpty q) ≡ false → q ≡ []
     none [] e = refl
     none (m ∷ q) e = absurd (true≢false e)
+
+-- nor does it where nobody runs
+pub nobody-timer : {b : Build} {n : Node} → Valid b n → n .running ≡ 0 → n .timer ≡ 0
+unfolding forced
+nobody-timer {b} {n} v nobody = v .timer-idle (nobody-empty v nobody) (rw nobody refl)
 
 -- a disposal takes from the buffer where that holds a message, else from the queue
 pub removed-cases : (P : Node → Type 0) (b : Build) (n : Node)

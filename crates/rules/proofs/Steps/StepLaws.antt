@@ -6,30 +6,31 @@ use mathlib.Core.Path.{_≡_, refl, sym, subst, ap, _∙_}
 use mathlib.Core.Logic.{_≢_}
 use mathlib.Core.Bool.{Bool, true, false, true≢false, not, _&&_, _||_, false≢true, and-eq-true-iff, and-false}
 use mathlib.Core.List.{List, [], _∷_, _++_, append-nil}
+use native.Mathlib.Decide.{ℕ-discrete}
 use native.Mathlib.Omega.{arith}
 use native.Mathlib.Nat.{zero-add, zero-mul, not-suc-le-zero}
 use lib.Dec.{ltb, eqb}
 use lib.ListN.{length, getD, replicate, length-replicate}
-use borrow.Author.Tests.{eqb-false, ne-eqb, not-true, not-false}
+use borrow.Author.Tests.{eq-eqb, eqb-false, ne-eqb, ltb-false, le-ltb, not-true, not-false}
 use Rattle.rules.specs.Lists.{Every, isEmpty, concatMap, countOf, upFrom}
 use Rattle.rules.specs.Build.{Build, Sensible, pageCount, groupCount}
-use Rattle.rules.specs.Node.{Message, Buffer, Group, Node, groupOf, withGroup, withFlags, bufferHolds, buffered, forced, timerRuns, line, emptyGroup, emptyPaging, powerOn, waiting, unused, inQueue}
+use Rattle.rules.specs.Node.{Message, Buffer, Group, Node, groupOf, withRunning, withTimer, withGroup, withFlags, bufferHolds, buffered, forced, timerRuns, line, emptyGroup, emptyPaging, powerOn, waiting, unused, inQueue}
 use Rattle.rules.specs.Frames.{pledge, pledges}
-use Rattle.rules.specs.Operation.{refused, Operation}
+use Rattle.rules.specs.Operation.{Operation, arrive, schedule, preempt, dispatch, tick, user, unknown, accepted, refused, allZero}
 use Rattle.rules.specs.Paging.{runnerResident}
-use Rattle.rules.specs.Refusal.{refusal}
+use Rattle.rules.specs.Refusal.{refuseSchedule, refuseDispatch, refusal}
 use Rattle.rules.specs.Settling.{mayStay, settle, calls, upcall}
-use Rattle.rules.specs.Step.{Effect, Stepped, act, finish, step}
+use Rattle.rules.specs.Step.{Effect, Stepped, valued, preempted, act, finish, inARow, switched, performed, step}
 use Rattle.rules.specs.Valid.{GoodGroup, Valid, IsSwap, FirstInFrame, frameList, idle, frameNumbers, frameOrder}
 use Rattle.rules.specs.Sound.{Sound}
 use Rattle.rules.proofs.Steps.EveryLaws.{every-replicate, every-upFrom}
-use Rattle.rules.proofs.Steps.ListLaws.{sum-le, count-within, length-upFrom, upFrom-append}
+use Rattle.rules.proofs.Steps.ListLaws.{no-length, sum-le, count-within, length-upFrom, upFrom-append}
 use Rattle.rules.proofs.Steps.FrameLaws.{ceil-none}
 use Rattle.rules.proofs.Steps.NodeLaws.{group-same, kept, within, group-good, reflagged}
-use Rattle.rules.proofs.Steps.SettlingLaws.{runs-empty, forced-same, upcall-cases, upcall-kept, settle-sound, settle-line, settle-flags, settle-head, settle-timer}
+use Rattle.rules.proofs.Steps.SettlingLaws.{runs-empty, forced-same, upcall-cases, upcall-kept, settle-sound, settle-running, settle-moved, settle-line, settle-flags, settle-head, settle-timer}
 use Rattle.rules.proofs.Steps.PagingLaws.{Repaged, repaged-line, repaged-buffered, runner-repaged, runner-sound, runner-first}
-use Rattle.rules.proofs.Steps.LineLaws.{neither}
-use Rattle.rules.proofs.Steps.ActLaws.{Ready, reflagged-pending, act-ready}
+use Rattle.rules.proofs.Steps.LineLaws.{neither, nobody-empty}
+use Rattle.rules.proofs.Steps.ActLaws.{failed, Ready, reflagged-pending, act-ready}
 
 -- a node after settling: ready, its head stays, and its timer is 0 where it does not run
 record Settled (b : Build) (n : Node) : Type 0 where
@@ -205,31 +206,204 @@ finish-timer b e =
 pub act-sound : {b : Build} {n : Node} → Valid b n → (op : Operation) → refusal b n op ≡ 0 → Sound b (act b n op .node)
 act-sound v op e = act-ready v op e .sound
 
--- an accepted step acts and finishes
-pub step-accepted : (b : Build) (n : Node) (op : Operation) → refusal b n op ≡ 0 → step b n op ≡ finish b (act b n op)
+-- and it leaves the processor with whom the operation left it
+pub finish-running : (b : Build) (e : Effect) → finish b e .node .running ≡ e .node .running
+unfolding finish withGroup
+finish-running b e =
+    let k = settle b (e .node) .node in
+    upcall-kept (λ m. m .running) (runnerResident b k) (λ G. refl) ∙ runner-repaged b k .running ∙ settle-running b (e .node)
+
+-- an operation of one act: each but S
+abbrev pub OneAct : Operation → Type 0
+OneAct (arrive g ws) = Unit {0}
+OneAct preempt = Unit {0}
+OneAct (dispatch g) = Unit {0}
+OneAct (schedule g) = ⊥
+OneAct (tick k) = Unit {0}
+OneAct (user r) = Unit {0}
+OneAct unknown = Unit {0}
+
+-- an accepted step performs its operation
+step-performed : (b : Build) (n : Node) (op : Operation) → refusal b n op ≡ 0 → step b n op ≡ performed b n op
 unfolding step
-step-accepted b n op e = rw (e, step)
+step-performed b n op e = rw (e, step)
+
+-- which is to act and to finish
+pub step-accepted : (b : Build) (n : Node) (op : Operation) → OneAct op → refusal b n op ≡ 0 → step b n op ≡ finish b (act b n op)
+unfolding performed
+step-accepted b n (arrive g ws) one e = step-performed b n (arrive g ws) e
+step-accepted b n preempt one e = step-performed b n preempt e
+step-accepted b n (dispatch g) one e = step-performed b n (dispatch g) e
+step-accepted b n (schedule g) one e = absurd one
+step-accepted b n (tick k) one e = step-performed b n (tick k) e
+step-accepted b n (user r) one e = step-performed b n (user r) e
+step-accepted b n unknown one e = step-performed b n unknown e
 
 -- a refused step reports its number and leaves the node
 pub step-refused : (b : Build) (n : Node) (op : Operation) (r : ℕ) → refusal b n op ≡ suc r → step b n op ≡ record { report = refused (suc r); node = n }
 unfolding step
 step-refused b n op r e = rw (e, step)
 
--- what holds of a refused step, and of an accepted one, holds of a step
+-- what holds of a refused step, and of an operation performed, holds of a step
 pub step-cases : (b : Build) (n : Node) (op : Operation) (P : Stepped → Type 0)
-    → (refusal b n op ≡ 0 → P (finish b (act b n op)))
+    → (refusal b n op ≡ 0 → P (performed b n op))
     → ((r : ℕ) → refusal b n op ≡ suc r → P (record { report = refused (suc r); node = n }))
     → P (step b n op)
-step-cases b n op P accepts refuses = go (refusal b n op) refl
+step-cases b n op P performs refuses = go (refusal b n op) refl
   where
     go : (r : ℕ) → refusal b n op ≡ r → P (step b n op)
-    go zero e = subst P (sym (step-accepted b n op e)) (accepts e)
+    go zero e = subst P (sym (step-performed b n op e)) (performs e)
     go (suc r) e = subst P (sym (step-refused b n op r e)) (refuses r e)
+
+-- an operation performed is accepted
+pub performed-answer : (b : Build) (n : Node) (op : Operation) → performed b n op .report .answer ≡ accepted
+unfolding performed finish switched inARow
+performed-answer b n (arrive g ws) = refl
+performed-answer b n preempt = refl
+performed-answer b n (dispatch g) = refl
+performed-answer b n (schedule g) = go (eqb g (n .running)) (eqb g 0)
+  where
+    go : (t u : Bool)
+        → (elim t as (λ t. Stepped) [
+          | true ↦ record { report = allZero; node = n }
+          | false ↦
+              elim u as (λ u. Stepped) [
+                | true ↦ finish b (act b n preempt)
+                | false ↦ inARow (finish b (act b n preempt)) (finish b (act b (finish b (act b n preempt) .node) (dispatch g)))
+              ]
+        ]) .report .answer ≡ accepted
+    go true u = refl
+    go false true = refl
+    go false false = refl
+performed-answer b n (tick k) = refl
+performed-answer b n (user r) = refl
+performed-answer b n unknown = refl
+
+-- so a step's answer is its operation's refusal
+pub step-answer : (b : Build) (n : Node) (op : Operation) → step b n op .report .answer ≡ refusal b n op
+step-answer b n op =
+    step-cases b n op (λ s. s .report .answer ≡ refusal b n op) (λ e. performed-answer b n op ∙ sym e) (λ r e. sym e)
+
+-- S, by the paper's sentence. To the one running, or to nobody where nobody runs, it is nothing.
+pub schedule-still : {b : Build} {n : Node} → Valid b n → step b n (schedule (n .running)) ≡ record { report = allZero; node = n }
+unfolding performed switched refusal refuseSchedule
+schedule-still {b} {n} v =
+    let nothing : switched b n (n .running) ≡ record { report = allZero; node = n } = rw (eq-eqb (n .running) (n .running) refl, switched) in
+    step-performed b n (schedule (n .running)) (rw (le-ltb groupCount (n .running) (v .running-bound))) ∙ nothing
+
+-- to nobody it is O
+pub schedule-takes : (b : Build) (n : Node) → n .running ≢ 0 → step b n (schedule 0) ≡ finish b (act b n preempt)
+unfolding performed switched refusal refuseSchedule
+schedule-takes b n runs =
+    let one : switched b n 0 ≡ finish b (act b n preempt) = rw (ne-eqb 0 (n .running) (λ e. runs (sym e)), switched) in
+    step-performed b n (schedule 0) refl ∙ one
+
+-- to another it is O, and I
+abbrev pub taken : Build → Node → Stepped
+taken b n = finish b (act b n preempt)
+
+abbrev pub given : Build → Node → ℕ → Stepped
+given b n g = finish b (act b (taken b n .node) (dispatch g))
+
+pub schedule-switches : (b : Build) (n : Node) (g : ℕ) → g ≢ n .running → g ≢ 0 → g ≤ groupCount → step b n (schedule g) ≡ inARow (taken b n) (given b n g)
+unfolding performed switched refusal refuseSchedule
+schedule-switches b n g other some high =
+    let two : switched b n g ≡ inARow (taken b n) (given b n g) = rw (ne-eqb g (n .running) other, ne-eqb g 0 some, switched) in
+    step-performed b n (schedule g) (rw (le-ltb groupCount g high)) ∙ two
+
+-- these are the steps of O, and of I after it
+pub step-taken : (b : Build) (n : Node) → step b n preempt ≡ taken b n
+unfolding refusal
+step-taken b n = step-accepted b n preempt tt refl
+
+taken-nobody : (b : Build) (n : Node) → taken b n .node .running ≡ 0
+unfolding act valued preempted withTimer withRunning
+taken-nobody b n = finish-running b (act b n preempt)
+
+given-accepted : (b : Build) (n : Node) (g : ℕ) → g ≢ 0 → g ≤ groupCount → refusal b (taken b n .node) (dispatch g) ≡ 0
+unfolding refusal refuseDispatch
+given-accepted b n g some high = rw (ne-eqb g 0 some, le-ltb groupCount g high, taken-nobody b n)
+
+pub step-given : (b : Build) (n : Node) (g : ℕ) → g ≢ 0 → g ≤ groupCount → step b (taken b n .node) (dispatch g) ≡ given b n g
+step-given b n g some high = step-accepted b (taken b n .node) (dispatch g) tt (given-accepted b n g some high)
+
+-- O leaves a node
+pub taken-valid : {b : Build} {n : Node} → Valid b n → Valid b (taken b n .node)
+unfolding refusal
+taken-valid {b} {n} v = finish-valid (act b n preempt) (act-ready v preempt refl)
+
+-- and the queue empty, as does I after it
+pub taken-empty : {b : Build} {n : Node} → Valid b n → taken b n .node .queue ≡ []
+taken-empty {b} {n} v = nobody-empty (taken-valid v) (taken-nobody b n)
+
+pub given-empty : {b : Build} {n : Node} → Valid b n → (g : ℕ) → given b n g .node .queue ≡ []
+unfolding act valued withRunning
+given-empty {b} {n} v g =
+    let k = act b (taken b n .node) (dispatch g) .node in
+    finish-queue b (act b (taken b n .node) (dispatch g)) ∙ no-length (settle b k .node .queue) (omega (arith, settle-moved b k, ap length (taken-empty v)))
+
+-- What holds of every step on a node: of a refused one, of an accepted one of one act, and of S, for which it is to follow from the two acts.
+pub record Law (b : Build) (P : Node → Operation → Stepped → Type 0) : Type 0 where
+  pub refuses : (n : Node) → Valid b n → (op : Operation) (r : ℕ) → refusal b n op ≡ suc r → P n op (record { report = refused (suc r); node = n })
+  pub acts : (n : Node) → Valid b n → (op : Operation) → OneAct op → refusal b n op ≡ 0 → P n op (finish b (act b n op))
+  pub still : (n : Node) → Valid b n → P n (schedule (n .running)) (record { report = allZero; node = n })
+  pub takes : (n : Node) → Valid b n → n .running ≢ 0 → P n preempt (taken b n) → P n (schedule 0) (taken b n)
+  pub switches : (n : Node) → Valid b n → (g : ℕ) → g ≢ n .running → g ≢ 0 → g ≤ groupCount
+      → P n preempt (taken b n) → P (taken b n .node) (dispatch g) (given b n g) → P n (schedule g) (inARow (taken b n) (given b n g))
+
+module _ {b : Build} (P : Node → Operation → Stepped → Type 0) (l : Law b P) {n : Node} (v : Valid b n) where
+  -- of one act
+  act-law : (op : Operation) → OneAct op → refusal b n op ≡ 0 → P n op (step b n op)
+  act-law op one e = subst (P n op) (sym (step-accepted b n op one e)) (l .acts n v op one e)
+
+  -- of S
+  schedule-law : (g : ℕ) → g ≤ groupCount → P n (schedule g) (step b n (schedule g))
+  unfolding refusal
+  schedule-law g high = go (ℕ-discrete g (n .running)) (ℕ-discrete g 0)
+    where
+      took : P n preempt (taken b n)
+      took = l .acts n v preempt tt refl
+
+      gave : g ≢ 0 → P (taken b n .node) (dispatch g) (given b n g)
+      gave some =
+          l .acts (taken b n .node) (taken-valid v) (dispatch g) tt (given-accepted b n g some high)
+
+      go : Dec (g ≡ n .running) → Dec (g ≡ 0) → P n (schedule g) (step b n (schedule g))
+      go (yes same) none = rw (same, schedule-still v) (l .still n v)
+      go (no other) (yes none) =
+          let runs : n .running ≢ 0 = λ e. other (none ∙ sym e) in
+          rw (none, schedule-takes b n runs) (l .takes n v runs took)
+      go (no other) (no some) = rw (schedule-switches b n g other some high) (l .switches n v g other some high took (gave some))
+
+  -- of an accepted step
+  accepted-law : (op : Operation) → refusal b n op ≡ 0 → P n op (step b n op)
+  unfolding refusal refuseSchedule
+  accepted-law (arrive g ws) e = act-law (arrive g ws) tt e
+  accepted-law preempt e = act-law preempt tt e
+  accepted-law (dispatch g) e = act-law (dispatch g) tt e
+  accepted-law (schedule g) e = schedule-law g (ltb-false groupCount g (failed (ltb groupCount g) _ _ e .0))
+  accepted-law (tick k) e = act-law (tick k) tt e
+  accepted-law (user r) e = act-law (user r) tt e
+  accepted-law unknown e = act-law unknown tt e
+
+  -- of every step
+  pub step-law : (op : Operation) → P n op (step b n op)
+  step-law op =
+      step-cases b n op (P n op) (λ e. subst (P n op) (step-performed b n op e) (accepted-law op e)) (l .refuses n v op)
 
 -- a node stays a node
 pub step-valid : {b : Build} {n : Node} → Valid b n → (op : Operation) → Valid b (step b n op .node)
-step-valid {b} {n} v op =
-    step-cases b n op (λ s. Valid b (s .node)) (λ e. finish-valid (act b n op) (act-ready v op e)) (λ r e. v)
+unfolding inARow
+step-valid {b} v op =
+    step-law (λ n op s. Valid b (s .node))
+    (record {
+      refuses = λ n v op r e. v;
+      acts = λ n v op one e. finish-valid (act b n op) (act-ready v op e);
+      still = λ n v. v;
+      takes = λ n v runs took. took;
+      switches = λ n v g other some high took gave. gave;
+    })
+    v op
 
 -- an empty group is good
 empty-good : (b : Build) → 1 ≤ b .perFrame → GoodGroup b emptyGroup

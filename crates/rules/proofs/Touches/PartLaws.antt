@@ -10,7 +10,7 @@ use borrow.Author.Tests.{eqb-true}
 use Rattle.rules.specs.Lists.{all}
 use Rattle.rules.specs.Build.{groupCount}
 use Rattle.rules.specs.Node.{Node, groupOf}
-use Rattle.rules.specs.Touches.{NodePart, GroupPart, running, timer, queue, free, swap, entered, out, brought, atomic, pending, force, revoked, used, count, places, pages, descriptor, part, groupPart, Row, row, when, filling, Touched}
+use Rattle.rules.specs.Touches.{NodePart, GroupPart, running, timer, queue, free, swap, entered, out, brought, atomic, pending, force, revoked, used, count, places, pages, descriptor, part, groupPart, Row, row, both, when, filling, Touched}
 
 -- Parts told apart.
 
@@ -132,6 +132,15 @@ module _ {A : Type 0} (number : A → ℕ) where
   among-right x [] zs e = e
   among-right x (y ∷ ys) zs e = rw (among-right x ys zs e) (or-true (eqb (number x) (number y)))
 
+  -- and what is none of two lists joined is none of each
+  pub apart : (x : A) (ys zs : List A) → among number x (ys ++ zs) ≡ false → (among number x ys ≡ false) × (among number x zs ≡ false)
+  apart x ys zs none =
+      (not-named (among number x ys) (among-left x ys zs), not-named (among number x zs) (among-right x ys zs))
+    where
+      not-named : (t : Bool) → (t ≡ true → among number x (ys ++ zs) ≡ true) → t ≡ false
+      not-named true named = absurd (true≢false (sym (named refl) ∙ none))
+      not-named false named = refl
+
   inside-more : (xs ys zs : List A) → ((x : A) → among number x ys ≡ true → among number x zs ≡ true) → inside xs ys ≡ true → inside xs zs ≡ true
   inside-more [] ys zs more h = refl
   inside-more (x ∷ xs) ys zs more h =
@@ -183,6 +192,21 @@ touched-inside {t} {u} nodes groups h =
     record {
       node = λ p none. h .node p (inside-none nodeNumber p (t .node) (u .node) nodes none);
       group = λ g low high p none. h .group g low high p (inside-none groupNumber p (t .group g) (u .group g) (groups g) none);
+    }
+
+-- two rows, or one of them
+pub touched-left : (t u : Row) {k n : Node} → Kept t k n → Kept (both t u) k n
+touched-left t u h =
+    record {
+      node = λ p none. h .node p (apart nodeNumber p (t .node) (u .node) none .0);
+      group = λ g low high p none. h .group g low high p (apart groupNumber p (t .group g) (u .group g) none .0);
+    }
+
+pub touched-right : (t u : Row) {k n : Node} → Kept u k n → Kept (both t u) k n
+touched-right t u h =
+    record {
+      node = λ p none. h .node p (apart nodeNumber p (t .node) (u .node) none .1);
+      group = λ g low high p none. h .group g low high p (apart groupNumber p (t .group g) (u .group g) none .1);
     }
 
 -- a part that is not named is not named under a condition

@@ -1,19 +1,18 @@
--- The rows of A, S and T, by which messages join the hardware queue and leave it. An arrival finds an empty queue where it moves, for the head of
+-- The rows of A and T, by which messages join the hardware queue and leave it. An arrival finds an empty queue where it moves, for the head of
 -- another would stay and it behind it. After a timeout nothing is left to move. Flags are told by what the private line keeps. Assumes nothing.
 use Prim.Native.Nat.{ℕ, zero, suc, _+_, _≤_}
 use mathlib.Core.Bool.{Bool, true, false, true≢false, false≢true, cond, not, _&&_, and-eq-true-iff}
 use mathlib.Core.List.{List, [], _∷_, _++_}
 use mathlib.Core.Path.{_≡_, refl, sym, ap, _∙_, subst}
-use native.Mathlib.Nat.{zero-add}
 use native.Mathlib.Omega.{arith}
 use lib.Dec.{eqb}
 use lib.ListN.{length, take}
 use borrow.Author.Tests.{not-false, eqb-true, ne-eqb, eq-eqb}
 use Rattle.rules.specs.Lists.{Every, isEmpty}
 use Rattle.rules.specs.Build.{Build, groupCount}
-use Rattle.rules.specs.Node.{Message, Group, Node, groupOf, withTimer, withRunning, withQueue, withGroup, withTimerFlags, bufferHolds, buffered, forced, timerRuns, isOf, line}
+use Rattle.rules.specs.Node.{Message, Group, Node, groupOf, withTimer, withQueue, withGroup, withTimerFlags, bufferHolds, buffered, forced, timerRuns, isOf, line}
 use Rattle.rules.specs.Paging.{runnerResident}
-use Rattle.rules.specs.Operation.{Operation, arrive, schedule, tick}
+use Rattle.rules.specs.Operation.{Operation, arrive, tick}
 use Rattle.rules.specs.Refusal.{refusal, queued}
 use Rattle.rules.specs.Settling.{Moved, mayStay, pass, settle, drain, upcall}
 use Rattle.rules.specs.Step.{Effect, valued, timerFlagged, revoke, timedOut, ticks, act, finish}
@@ -29,28 +28,27 @@ use Rattle.rules.proofs.Steps.PagingLaws.{runner-quiet}
 use Rattle.rules.proofs.Steps.SettlingLaws.{runs-queued, runs-empty, forced-same, settle-running, settle-flags, settle-keeps, settle-timer, settle-moved, pass-moves, drain-sound, drain-running, drain-queue}
 use Rattle.rules.proofs.Steps.LineLaws.{timer-timed, timer-rests, buffered-atomic}
 use Rattle.rules.proofs.Steps.TickLaws.{timed, leftOver, Ticked, idle, counting, timeout, ticked-by}
-use Rattle.rules.proofs.Steps.ActLaws.{scheduled-cases}
-use Rattle.rules.proofs.Steps.StepLaws.{act-sound, finish-queue, finish-timer}
+use Rattle.rules.proofs.Steps.StepLaws.{act-sound, finish-queue, finish-timer, OneAct}
 use Rattle.rules.proofs.Steps.QuietLaws.{staying-settle, rest-left, valid-quiet, counted-quiet}
 use Rattle.rules.proofs.Private.ViewLaws.{view, called-quiet}
 use Rattle.rules.proofs.Private.HeardLaws.{accepted-view}
 use Rattle.rules.proofs.Touches.PartLaws.{groupNumber, among, Kept, filled-inside, filling-inside, flags-kept, front-kept, inside-left, inside-right, touched-inside, touched-same, touched-then, when-inside}
-use Rattle.rules.proofs.Touches.TouchLaws.{Differs, Grouped, Rows, drain-touched, finished-touched, group-touched, grouped, moved-none, queue-touched, running-touched, timer-touched, upcall-touched}
+use Rattle.rules.proofs.Touches.TouchLaws.{Differs, Grouped, Rows, drain-touched, finished-touched, group-touched, grouped, moved-none, queue-touched, timer-touched, upcall-touched}
 use Rattle.rules.proofs.Touches.SectionRows.{quiet-left}
 
 -- What a group's private line keeps of its flags.
 
-module _ {b : Build} {n : Node} (v : Valid b n) (op : Operation) (taken : refusal b n op ≡ 0) (g : ℕ) (low : 1 ≤ g) (high : g ≤ groupCount) where
+module _ {b : Build} {n : Node} (v : Valid b n) (op : Operation) (one : OneAct op) (taken : refusal b n op ≡ 0) (g : ℕ) (low : 1 ≤ g) (high : g ≤ groupCount) where
   abbrev after : Group
   after = groupOf (finish b (act b n op) .node) g
 
   heard-atomic : after .atomic ≡ hear g (view g n) (told g op true) .line .atomic
   unfolding view
-  heard-atomic = ap (λ (p : PrivateLine). p .atomic) (accepted-view v op taken g low high)
+  heard-atomic = ap (λ (p : PrivateLine). p .atomic) (accepted-view v op one taken g low high)
 
   heard-pending : after .pending ≡ hear g (view g n) (told g op true) .line .pending
   unfolding view
-  heard-pending = ap (λ (p : PrivateLine). p .pending) (accepted-view v op taken g low high)
+  heard-pending = ap (λ (p : PrivateLine). p .pending) (accepted-view v op one taken g low high)
 
 -- T.
 
@@ -156,35 +154,8 @@ module _ {b : Build} {n : Node} (v : Valid b n) (k : ℕ) where
       go (timeout ticks′ e) =
           subst (Rows b n (tick k)) (sym e)
           (late-row ticks′
-          (λ g low high. subst (λ (x : Effect). groupOf (finish b x .node) g .atomic ≡ groupOf n g .atomic) e (heard-atomic v (tick k) taken g low high))
-          (λ g low high. subst (λ (x : Effect). groupOf (finish b x .node) g .pending ≡ groupOf n g .pending) e (heard-pending v (tick k) taken g low high)))
-
--- S.
-
-module _ {b : Build} {n : Node} (v : Valid b n) (h : ℕ) where
-  -- to another
-  switch-touched : Kept (row (running ∷ timer ∷ queue ∷ stores) (λ g. [])) (withTimer 0 (withRunning h n)) n
-  switch-touched =
-      touched-then (touched-inside refl (λ g. refl) (timer-touched 0 (withRunning h n))) (touched-inside refl (λ g. refl) (running-touched h n))
-
-  switch-row : eqb h (n .running) ≡ false → Rows b n (schedule h) (valued 0 (withTimer 0 (withRunning h n)))
-  unfolding rowOf finish valued withTimer withRunning
-  switch-row other =
-      let e = valued 0 (withTimer 0 (withRunning h n)) in
-      let s = settle b (e .node) .moved in
-      rw other
-      (finished-touched b e n (grouped v) (running ∷ timer ∷ queue ∷ stores) (λ g. []) (λ g. filling (isMoved g (0 + s) (n .queue))) refl refl (λ g. refl)
-      (λ g. filling-inside (isMoved g s (n .queue)) (isMoved g (0 + s) (n .queue)) (λ d. ap (λ (j : ℕ). isMoved g j (n .queue)) (zero-add s) ∙ d))
-      switch-touched)
-
-  -- to the one running
-  stay-row : eqb h (n .running) ≡ true → Rows b n (schedule h) (valued 0 n)
-  unfolding rowOf valued
-  stay-row same = rw same (touched-same (quiet-left (valued 0 n) (valid-quiet v)))
-
-  pub schedule-row : Rows b n (schedule h) (act b n (schedule h))
-  unfolding act
-  schedule-row = scheduled-cases (λ k. Rows b n (schedule h) (valued 0 k)) h n stay-row switch-row
+          (λ g low high. subst (λ (x : Effect). groupOf (finish b x .node) g .atomic ≡ groupOf n g .atomic) e (heard-atomic v (tick k) tt taken g low high))
+          (λ g low high. subst (λ (x : Effect). groupOf (finish b x .node) g .pending ≡ groupOf n g .pending) e (heard-pending v (tick k) tt taken g low high)))
 
 -- A.
 
@@ -237,7 +208,7 @@ module _ {b : Build} {n : Node} (v : Valid b n) (h : ℕ) (ws : List ℕ) (taken
   unfolding act told hear unheard view afterwards joined
   arrive-flags g low high busy =
       let same = go (eqb h g) refl in
-      (heard-atomic v (arrive h ws) taken g low high ∙ same .0, heard-pending v (arrive h ws) taken g low high ∙ same .1)
+      (heard-atomic v (arrive h ws) tt taken g low high ∙ same .0, heard-pending v (arrive h ws) tt taken g low high ∙ same .1)
     where
       p : PrivateLine
       p = joined g ws (view g n)

@@ -12,27 +12,28 @@ use borrow.Author.Tests.{eqb-true, ne-eqb}
 use Rattle.rules.specs.Lists.{Every, all}
 use Rattle.rules.specs.Build.{Build, groupCount}
 use Rattle.rules.specs.Node.{Group, Node, groupOf, withGroup, line, waiting, inBuffer, inQueue}
-use Rattle.rules.specs.Operation.{Request, poll, peek, dispose, beginAtomic, endAtomic, describe, launch, Operation, arrive, schedule, tick, user, unknown, Report, accepted, noTrap, timeoutTrap}
+use Rattle.rules.specs.Operation.{Request, poll, peek, dispose, beginAtomic, endAtomic, describe, launch, Operation, arrive, schedule, preempt, dispatch, tick, user, unknown, Report, accepted, noTrap, timeoutTrap}
 use Rattle.rules.specs.Refusal.{refusal}
 use Rattle.rules.specs.Settling.{settle, upcall}
-use Rattle.rules.specs.Step.{Effect, Stepped, valued, timerFlagged, timedOut, flagged, sectionBegun, sectionEnded, extending, serve, act, finish}
+use Rattle.rules.specs.Step.{Effect, Stepped, valued, timerFlagged, timedOut, flagged, sectionBegun, sectionEnded, extending, serve, act, finish, inARow, step}
 use Rattle.rules.specs.Valid.{Valid}
 use Rattle.rules.specs.Dumps.{Agree}
 use Rattle.rules.specs.Private.{PrivateLine, Heard, told, hear, Told, request, refuses}
-use Rattle.rules.specs.Touches.{GroupPart, running, timer, queue, atomic, pending, force, revoked, used, count, places, pages, descriptor, groupPart, Row, when, runs, isMoved, filling, requestRow, rowOf, ByName, Touches, Touched, NodePart, out, part, untouched, free, swap, entered, brought, GroupKind}
+use Rattle.rules.specs.Touches.{GroupPart, running, timer, queue, atomic, pending, force, revoked, used, count, places, pages, descriptor, groupPart, Row, when, runs, isMoved, filling, preemptRow, dispatchRow, requestRow, rowOf, ByName, Touches, Touched, NodePart, out, part, untouched, free, swap, entered, brought, GroupKind}
 use Rattle.rules.proofs.Steps.LineLaws.{stays, either}
 use Rattle.rules.proofs.Steps.TickLaws.{timed, Ticked, idle, counting, timeout, ticked-by}
-use Rattle.rules.proofs.Steps.ActLaws.{user-accepted}
-use Rattle.rules.proofs.Steps.StepLaws.{step-cases}
+use Rattle.rules.proofs.Steps.ActLaws.{user-accepted, dispatched}
+use Rattle.rules.proofs.Steps.StepLaws.{OneAct, step-accepted, step-cases, performed-answer, step-answer, step-law}
 use Rattle.rules.proofs.Steps.QuietLaws.{begun-quiet}
 use Rattle.rules.proofs.Private.ViewLaws.{view}
-use Rattle.rules.proofs.Private.HeardLaws.{accepted-agrees, accepted-view}
+use Rattle.rules.proofs.Private.HeardLaws.{heardAs, step-agrees}
 use Rattle.rules.proofs.Private.RequestLaws.{suc-zero}
 use Rattle.rules.proofs.Demands.DumpsLaws.{dumps}
 use Rattle.rules.proofs.Touches.PartLaws.{nodeNumber, groupNumber, among, Kept, inside-none, join-none, when-none, kept-touched}
 use Rattle.rules.proofs.Touches.TouchLaws.{Grouped, Rows, finish-touched, grouped}
 use Rattle.rules.proofs.Touches.SectionRows.{begin-row, begun-keeps, begun-leaves, describe-row, end-row, ended-force, ended-revoked, launch-row, peek-row, poll-row, quiet-left}
-use Rattle.rules.proofs.Touches.QueueRows.{arrive-row, late, late-queue, late-revoked, uncalled, schedule-row, tick-row}
+use Rattle.rules.proofs.Touches.QueueRows.{arrive-row, late, late-queue, late-revoked, tick-row}
+use Rattle.rules.proofs.Touches.SwitchRows.{preempt-row, dispatch-row, still-row, takes-row, switches-row}
 use Rattle.rules.proofs.Touches.DisposeRow.{dispose-row}
 use Rattle.rules.proofs.Private.FlagLaws.{heard-atomic, heard-pending, heard-called}
 
@@ -48,20 +49,45 @@ request-row {b} {n} v endAtomic taken = end-row v (user-accepted n endAtomic tak
 request-row {b} {n} v (describe w) taken = describe-row v w (user-accepted n (describe w) taken .0)
 request-row {b} {n} v (launch k) taken = launch-row v k (user-accepted n (launch k) taken .0)
 
-pub accepted-row : {b : Build} {n : Node} → Valid b n → (op : Operation) → refusal b n op ≡ 0 → Rows b n op (act b n op)
-accepted-row v (arrive h ws) taken = arrive-row v h ws taken
-accepted-row v (schedule h) taken = schedule-row v h
-accepted-row v (tick k) taken = tick-row v k taken
-accepted-row v (user q) taken = unfold act in request-row v q taken
-accepted-row v unknown taken = unfold refusal in suc-zero taken
+accepted-row : {b : Build} {n : Node} → Valid b n → (op : Operation) → OneAct op → refusal b n op ≡ 0 → Rows b n op (act b n op)
+accepted-row v (arrive h ws) one taken = arrive-row v h ws taken
+accepted-row v preempt one taken = preempt-row v
+accepted-row {n = n} v (dispatch h) one taken = unfold refusal in dispatch-row v h (dispatched n h taken .nobody)
+accepted-row v (schedule h) one taken = absurd one
+accepted-row v (tick k) one taken = tick-row v k taken
+accepted-row v (user q) one taken = unfold act in request-row v q taken
+accepted-row v unknown one taken = unfold refusal in suc-zero taken
+
+-- so every accepted step has its row
+step-row : {b : Build} {n : Node} → Valid b n → (op : Operation) → step b n op .report .answer ≡ accepted
+    → Kept (rowOf n op (step b n op .report)) (step b n op .node) n
+unfolding finish inARow
+step-row {b} v op =
+    step-law Goal
+    (record {
+      refuses = λ n v op r refuses yes′. suc-zero yes′;
+      acts = λ n v op one taken yes′. accepted-row v op one taken;
+      still = λ n v yes′. still-row n;
+      takes = λ n v runs′ took yes′. takes-row n runs′ _ (took yes′);
+      switches = λ n v g other some high took gave yes′. switches-row v g other (took refl) (gave refl);
+    })
+    v op
+  where
+    Goal : Node → Operation → Stepped → Type 0
+    Goal n op s = s .report .answer ≡ accepted → Kept (rowOf n op (s .report)) (s .node) n
 
 -- The table names these parts for few operations.
 
--- of the node: running, by S
-running-named : (n : Node) (op : Operation) (r : Report) → (among nodeNumber running (rowOf n op r .node) ≡ false) ⊎ ((h : ℕ) × (op ≡ schedule h))
+-- of the node: running, by O, I and S
+abbrev ByRunning : Operation → Type 0
+ByRunning op = (op ≡ preempt) ⊎ (((h : ℕ) × (op ≡ dispatch h)) ⊎ ((h : ℕ) × (op ≡ schedule h)))
+
+running-named : (n : Node) (op : Operation) (r : Report) → (among nodeNumber running (rowOf n op r .node) ≡ false) ⊎ ByRunning op
 unfolding rowOf requestRow
 running-named n (arrive h ws) r = inl (either (λ (t : Row). among nodeNumber running (t .node) ≡ false) (eqb (r .moved) 0) _ _ refl refl)
-running-named n (schedule h) r = inr (h, refl)
+running-named n preempt r = inr (inl refl)
+running-named n (dispatch h) r = inr (inr (inl (h, refl)))
+running-named n (schedule h) r = inr (inr (inr (h, refl)))
 running-named n (tick k) r = inl (either (λ (t : Row). among nodeNumber running (t .node) ≡ false) (eqb (r .trap) noTrap) _ _ refl refl)
 running-named n (user poll) r = inl refl
 running-named n (user (peek i)) r = inl refl
@@ -94,11 +120,17 @@ module _ (p : GroupPart) (unfilled : among groupNumber p (pages ∷ count ∷ pl
   unfolding rowOf
   arrive-none h ws = either Unnamed (eqb (r .moved) 0) _ _ (when-none p (atomic ∷ pending ∷ []) uncalled (eqb h g && runs n g)) (filling-none (eqb h g))
 
+  preempt-none : Unnamed (preemptRow n r)
+  preempt-none = either Unnamed (eqb (n .running) 0) _ _ refl (filling-none (isMoved g (r .moved) (n .queue)))
+
+  dispatch-none : (h : ℕ) → Unnamed (dispatchRow h)
+  dispatch-none h = join-none groupNumber p (pages ∷ []) (when (eqb h g) (atomic ∷ pending ∷ [])) (filling-none false) (when-none p (atomic ∷ pending ∷ []) uncalled (eqb h g))
+
   schedule-none : (h : ℕ) → Unnamed (rowOf n (schedule h) r)
   unfolding rowOf
   schedule-none h =
       either Unnamed (eqb h (n .running)) _ _ refl
-      (moving-none (isMoved g (r .moved) (n .queue)) (eqb h g) (atomic ∷ pending ∷ []) uncalled)
+      (join-none groupNumber p (preemptRow n r .group g) (dispatchRow h .group g) preempt-none (dispatch-none h))
 
   tick-none : (k : ℕ) → among groupNumber p (revoked ∷ []) ≡ false → Unnamed (rowOf n (tick k) r)
   unfolding rowOf
@@ -124,6 +156,8 @@ finish-kept b e all p unfilled uncalled g low high =
 
 special : Operation → List GroupPart
 special (arrive h ws) = []
+special preempt = []
+special (dispatch h) = []
 special (schedule h) = []
 special (tick k) = revoked ∷ []
 special (user poll) = []
@@ -139,6 +173,8 @@ module _ (p : GroupPart) (unfilled : among groupNumber p (pages ∷ count ∷ pl
   special-none : (n : Node) (op : Operation) (r : Report) (g : ℕ) → among groupNumber p (special op) ≡ false → among groupNumber p (rowOf n op r .group g) ≡ false
   unfolding rowOf requestRow special
   special-none n (arrive h ws) r g none = arrive-none p unfilled uncalled n r g h ws
+  special-none n preempt r g none = preempt-none p unfilled uncalled n r g
+  special-none n (dispatch h) r g none = dispatch-none p unfilled uncalled n r g h
   special-none n (schedule h) r g none = schedule-none p unfilled uncalled n r g h
   special-none n (tick k) r g none = tick-none p unfilled uncalled n r g k none
   special-none n (user poll) r g none = refl
@@ -153,6 +189,8 @@ module _ (p : GroupPart) (unfilled : among groupNumber p (pages ∷ count ∷ pl
 special-used : (op : Operation) → among groupNumber used (special op) ≡ true → op ≡ user dispose
 unfolding special
 special-used (arrive h ws) e = absurd (false≢true e)
+special-used preempt e = absurd (false≢true e)
+special-used (dispatch h) e = absurd (false≢true e)
 special-used (schedule h) e = absurd (false≢true e)
 special-used (tick k) e = absurd (false≢true e)
 special-used (user poll) e = absurd (false≢true e)
@@ -168,6 +206,8 @@ special-descriptor : (op : Operation) → among groupNumber descriptor (special 
     → ((w : ℕ) × (op ≡ user (describe w))) ⊎ ((d : ℕ) × (op ≡ user (launch d)))
 unfolding special
 special-descriptor (arrive h ws) e = absurd (false≢true e)
+special-descriptor preempt e = absurd (false≢true e)
+special-descriptor (dispatch h) e = absurd (false≢true e)
 special-descriptor (schedule h) e = absurd (false≢true e)
 special-descriptor (tick k) e = absurd (false≢true e)
 special-descriptor (user poll) e = absurd (false≢true e)
@@ -184,9 +224,15 @@ data ByForce : Operation → Type 0 where
   by-begin : (f : Bool) → ByForce (user (beginAtomic f))
   by-end : ByForce (user endAtomic)
 
+force-act : {op : Operation} → ByForce op → OneAct op
+force-act (by-begin f) = tt
+force-act by-end = tt
+
 special-force : (op : Operation) → among groupNumber force (special op) ≡ true → ByForce op
 unfolding special
 special-force (arrive h ws) e = absurd (false≢true e)
+special-force preempt e = absurd (false≢true e)
+special-force (dispatch h) e = absurd (false≢true e)
 special-force (schedule h) e = absurd (false≢true e)
 special-force (tick k) e = absurd (false≢true e)
 special-force (user poll) e = absurd (false≢true e)
@@ -203,9 +249,15 @@ data ByRevoked : Operation → Type 0 where
   by-tick : (k : ℕ) → ByRevoked (tick k)
   by-end : ByRevoked (user endAtomic)
 
+revoked-act : {op : Operation} → ByRevoked op → OneAct op
+revoked-act (by-tick k) = tt
+revoked-act by-end = tt
+
 special-revoked : (op : Operation) → among groupNumber revoked (special op) ≡ true → ByRevoked op
 unfolding special
 special-revoked (arrive h ws) e = absurd (false≢true e)
+special-revoked preempt e = absurd (false≢true e)
+special-revoked (dispatch h) e = absurd (false≢true e)
 special-revoked (schedule h) e = absurd (false≢true e)
 special-revoked (tick k) e = by-tick k
 special-revoked (user poll) e = absurd (false≢true e)
@@ -223,6 +275,8 @@ special-revoked unknown e = absurd (false≢true e)
 told-request : (g : ℕ) (op : Operation) (q : Request) → told g op true ≡ request q → op ≡ user q
 unfolding told
 told-request g (arrive h ws) q = either (λ (t : Told). t ≡ request q → arrive h ws ≡ user q) (true && eqb h g) _ _ (λ e. cc) (λ e. cc)
+told-request g preempt q = λ e. cc
+told-request g (dispatch h) q = λ e. cc
 told-request g (schedule h) q = λ e. cc
 told-request g (tick k) q = λ e. cc
 told-request g (user r) q = λ e. cc
@@ -230,7 +284,7 @@ told-request g unknown q = λ e. cc
 
 module _ {b : Build} {n : Node} (v : Valid b n) (op : Operation) (taken : refusal b n op ≡ 0) (g : ℕ) (low : 1 ≤ g) (high : g ≤ groupCount) where
   abbrev s : Stepped
-  s = finish b (act b n op)
+  s = step b n op
 
   abbrev r : Report
   r = s .report
@@ -241,16 +295,21 @@ module _ {b : Build} {n : Node} (v : Valid b n) (op : Operation) (taken : refusa
   abbrev after : Group
   after = groupOf (s .node) g
 
+  answered : r .answer ≡ accepted
+  answered = step-answer b n op ∙ taken
+
   touched : Kept (rowOf n op r) (s .node) n
-  touched = accepted-row v op taken
+  touched = step-row v op answered
 
   -- what the group's private line makes of the step
+  agrees : hear g (view g n) (told g op true) ≡ heardAs g n op r (s .node)
+  agrees = ap (λ (a : ℕ). hear g (view g n) (told g op (eqb a accepted))) (sym answered) ∙ step-agrees v op g low high
+
   heard : hear g (view g n) (told g op true) .line ≡ view g (s .node)
-  heard = sym (accepted-view v op taken g low high)
+  heard = ap (λ (h : Heard). h .line) agrees
 
   named : hear g (view g n) (told g op true) .upcall ≡ eqb (r .upcall) g
-  unfolding finish
-  named = ap (λ (h : Heard). h .upcall) (accepted-agrees v op taken g low high)
+  named = ap (λ (h : Heard). h .upcall) agrees
 
   atomic-turned-off : before .atomic ≡ true → after .atomic ≡ false → op ≡ user endAtomic
   unfolding view
@@ -303,7 +362,7 @@ module _ {b : Build} {n : Node} (v : Valid b n) where
       → groupPart p (groupOf (finish b (act b n (user endAtomic)) .node) g) ≡ groupPart p (groupOf n g)
   unfolding rowOf requestRow
   end-off p unfilled uncalled taken g low high other =
-      accepted-row v (user endAtomic) taken .group g low high p
+      accepted-row v (user endAtomic) tt taken .group g low high p
       (ap (λ (t : Bool). among groupNumber p (when t (atomic ∷ pending ∷ force ∷ revoked ∷ []))) (ne-eqb (n .running) g other))
 
   ended-queue : Every Grouped (sectionEnded n .queue)
@@ -341,7 +400,7 @@ module _ {b : Build} {n : Node} (v : Valid b n) where
           ap (λ (k : Node). groupOf k g .force) (begin-left f)
           ∙ subst (λ (x : ℕ). groupOf n x .force ≡ true → groupOf (sectionBegun f n) x .force ≡ true) mine (begun-keeps n (rw mine low) v f) on
       go (no other) =
-          accepted-row v (user (beginAtomic f)) taken .group g low high force
+          accepted-row v (user (beginAtomic f)) tt taken .group g low high force
           (ap (λ (t : Bool). among groupNumber force (when t (atomic ∷ force ∷ []))) (ne-eqb (n .running) g other))
           ∙ on
 
@@ -354,12 +413,12 @@ module _ {b : Build} {n : Node} (v : Valid b n) (k : ℕ) (taken : refusal b n (
   -- without a trap, or with another group running, revoked is as it was
   untrapped : ticked .report .trap ≡ noTrap → groupOf (ticked .node) g .revoked ≡ groupOf n g .revoked
   unfolding rowOf
-  untrapped none = accepted-row v (tick k) taken .group g low high revoked (rw none refl)
+  untrapped none = accepted-row v (tick k) tt taken .group g low high revoked (rw none refl)
 
   another : n .running ≢ g → groupOf (ticked .node) g .revoked ≡ groupOf n g .revoked
   unfolding rowOf
   another other =
-      accepted-row v (tick k) taken .group g low high revoked
+      accepted-row v (tick k) tt taken .group g low high revoked
       (either (λ (t : Row). among groupNumber revoked (t .group g) ≡ false) (eqb (ticked .report .trap) noTrap) _ _ refl
       (join-none groupNumber revoked (filling (isMoved g (ticked .report .moved) (n .queue))) (when (runs n g) (revoked ∷ []))
       (filling-none revoked refl refl n (ticked .report) g (isMoved g (ticked .report .moved) (n .queue)))
@@ -422,32 +481,44 @@ module _ {b : Build} {n : Node} (v : Valid b n) (g : ℕ) (low : 1 ≤ g) (high 
 -- The facts by name.
 
 named-facts : {b : Build} {n : Node} → Valid b n → (op : Operation) → refusal b n op ≡ 0 → (g : ℕ) → 1 ≤ g → g ≤ groupCount
-    → ByName n (finish b (act b n op) .node) op (finish b (act b n op) .report) g
+    → ByName n (step b n op .node) op (step b n op .report) g
 named-facts {b} {n} v op taken g low high =
     record {
-      running-by = λ other. switched other (running-named n op report);
+      running-by = λ other. handed other (running-named n op report);
       timer-left = λ h ws e. touches .node timer (subst (λ (o : Operation). among nodeNumber timer (rowOf n o report .node) ≡ false) (sym e) (timer-none n h ws report));
       used-by = λ other. special-used op (changed v op taken g low high used refl refl other);
       descriptor-by = λ other. special-descriptor op (changed v op taken g low high descriptor refl refl other);
-      force-on = λ off on. force-turned-on v g low high (special-force op (changed v op taken g low high force refl refl (off-on off on))) taken off on;
-      force-off = λ on off. force-turned-off v g low high (special-force op (changed v op taken g low high force refl refl (on-off on off))) taken on off;
-      revoked-on = λ off on. revoked-turned-on v g low high (special-revoked op (changed v op taken g low high revoked refl refl (off-on off on))) taken off on;
-      revoked-off = λ on off. revoked-turned-off v g low high (special-revoked op (changed v op taken g low high revoked refl refl (on-off on off))) taken on off;
+      force-on = λ off on.
+          let by = special-force op (changed v op taken g low high force refl refl (off-on off on)) in
+          force-turned-on v g low high by taken off (acted (force-act by) (λ G. G .force) ∙ on);
+      force-off = λ on off.
+          let by = special-force op (changed v op taken g low high force refl refl (on-off on off)) in
+          force-turned-off v g low high by taken on (acted (force-act by) (λ G. G .force) ∙ off);
+      revoked-on = λ off on.
+          let by = special-revoked op (changed v op taken g low high revoked refl refl (off-on off on)) in
+          let late = revoked-turned-on v g low high by taken off (acted (revoked-act by) (λ G. G .revoked) ∙ on) in
+          (late .0, ap (λ (s : Stepped). s .report .trap) (step-accepted b n op (revoked-act by) taken) ∙ late .1);
+      revoked-off = λ on off.
+          let by = special-revoked op (changed v op taken g low high revoked refl refl (on-off on off)) in
+          revoked-turned-off v g low high by taken on (acted (revoked-act by) (λ G. G .revoked) ∙ off);
       atomic-off = atomic-turned-off v op taken g low high;
       pending-off = pending-turned-off v op taken g low high;
       pending-on = pending-called v op taken g low high;
     }
   where
     report : Report
-    report = finish b (act b n op) .report
+    report = step b n op .report
 
-    touches : Kept (rowOf n op report) (finish b (act b n op) .node) n
-    touches = accepted-row v op taken
+    touches : Kept (rowOf n op report) (step b n op .node) n
+    touches = touched v op taken g low high
 
-    switched : finish b (act b n op) .node .running ≢ n .running
-        → (among nodeNumber running (rowOf n op report .node) ≡ false) ⊎ ((h : ℕ) × (op ≡ schedule h)) → (h : ℕ) × (op ≡ schedule h)
-    switched other (inl none) = absurd (other (touches .node running none))
-    switched other (inr e) = e
+    -- what one act and the rest leave of the group
+    acted : OneAct op → (f : Group → Bool) → f (groupOf (finish b (act b n op) .node) g) ≡ f (groupOf (step b n op .node) g)
+    acted one f = ap (λ (s : Stepped). f (groupOf (s .node) g)) (sym (step-accepted b n op one taken))
+
+    handed : step b n op .node .running ≢ n .running → (among nodeNumber running (rowOf n op report .node) ≡ false) ⊎ ByRunning op → ByRunning op
+    handed other (inl none) = absurd (other (touches .node running none))
+    handed other (inr e) = e
 
 -- Nothing touched.
 
@@ -488,10 +559,9 @@ module _ (n k : Node) (h : Touched untouched k n) where
 pub touches : Touches
 touches =
     record {
-      accepted-step = λ b n v op. step-cases b n op (λ s. s .report .answer ≡ accepted → Touched (rowOf n op (s .report)) (s .node) n)
-          (λ taken yes′. kept-touched (accepted-row v op taken)) (λ r refuses yes′. suc-zero yes′);
-      by-name = λ b n v op. step-cases b n op (λ s. s .report .answer ≡ accepted → (g : ℕ) → 1 ≤ g → g ≤ groupCount → ByName n (s .node) op (s .report) g)
-          (λ taken yes′. named-facts v op taken) (λ r refuses yes′. suc-zero yes′);
-      refused-step = λ b n op. step-cases b n op (λ s. s .report .answer ≢ accepted → s .node ≡ n) (λ taken no′. absurd (no′ (unfold finish in refl))) (λ r refuses no′. refl);
+      accepted-step = λ b n v op yes′. kept-touched (step-row v op yes′);
+      by-name = λ b n v op yes′. named-facts v op (sym (step-answer b n op) ∙ yes′);
+      refused-step = λ b n op. step-cases b n op (λ s. s .report .answer ≢ accepted → s .node ≡ n) (λ taken no′. absurd (no′ (performed-answer b n op)))
+          (λ r refuses no′. refl);
       parts-all = λ b n k v w h. dumps .same-node b k n w v (untouched-agrees n k h);
     }

@@ -1,11 +1,11 @@
--- "Who can cause a refusal": for each answer 2 to 15 the last that is accepted and the first that is refused, and which comes first.
+-- "Who can cause a refusal": for each answer 2 to 16 the last that is accepted and the first that is refused, and which comes first.
 -- Answer 1 is in MemoryCases. Assumes nothing.
 use mathlib.Core.List.{[], _∷_, _++_}
 use Rattle.rules.specs.Cases.Case.{_gives_, times, Lists, crowded, ListsFrom}
 
 -- the cases of each answer, in the paper's order
 pub record AnswerCasesHold : Type 0 where
-  -- "2: unknown operation or unreadable line. Next after 1, before all below.": before 3, 4, 7, 14 and 15
+  -- "2: unknown operation or unreadable line. Next after 1, before all below.": before 3, 4, 7, 14, 15 and 16
   pub unreadable : Lists
       ("C\n" gives "1,2,0,0,0,0\n"
       ∷ "X,1\n" gives "2,2,0,0,0,0\n"
@@ -15,6 +15,10 @@ pub record AnswerCasesHold : Type 0 where
       ∷ "S,9,1\n" gives "6,2,0,0,0,0\n"
       ∷ "S,x\n" gives "7,2,0,0,0,0\n"
       ∷ "T,0,0\n" gives "8,2,0,0,0,0\n"
+      ∷ "I,9,1\n" gives "9,2,0,0,0,0\n"
+      ∷ "I,x\n" gives "10,2,0,0,0,0\n"
+      ∷ "S,1\n" gives "11,0,0,0,0,0\n"
+      ∷ "I,1,1\n" gives "12,2,0,0,0,0\n"
       ∷ [])
   -- "3: group not 1 to 8."
   pub bad-group : Lists
@@ -137,12 +141,15 @@ pub record AnswerCasesHold : Type 0 where
       ∷ "P,1\n" gives "22,7,0,0,0,0\n"
       ∷ "L,0\n" gives "23,7,0,0,0,0\n"
       ∷ [])
-  -- A, S and T are refused by no number of the user's
+  -- A, S, O, I and T are refused by no number of the user's
   pub not-the-user : Lists
       ("A,1,7\n" gives "1,0,0,0,0,1\n"
       ∷ "T,1\n" gives "2,0,0,0,0,0\n"
       ∷ "S,0\n" gives "3,0,0,0,0,0\n"
-      ∷ "S,1\n" gives "4,0,0,0,1,0\n"
+      ∷ "O\n" gives "4,0,0,0,0,0\n"
+      ∷ "I,1\n" gives "5,0,0,0,1,0\n"
+      ∷ "O\n" gives "6,0,0,0,0,0\n"
+      ∷ "S,1\n" gives "7,0,0,0,0,0\n"
       ∷ [])
   -- "8: D or E with an empty line.", for any i; M has its value 0
   pub no-message : Lists
@@ -257,6 +264,19 @@ pub record AnswerCasesHold : Type 0 where
       ∷ "S,4294967295\n" gives "5,14,0,0,0,0\n"
       ∷ "S,0\n" gives "6,0,0,0,0,0\n"
       ∷ [])
+  -- I: "14 for a group outside 1 to 8", whoever runs: 0 too
+  pub bad-dispatch : Lists
+      ("I,0\n" gives "1,14,0,0,0,0\n"
+      ∷ "I,9\n" gives "2,14,0,0,0,0\n"
+      ∷ "I,4294967295\n" gives "3,14,0,0,0,0\n"
+      ∷ "I,8\n" gives "4,0,0,0,0,0\n"
+      ∷ "I,0\n" gives "5,14,0,0,0,0\n"
+      ∷ "I,9\n" gives "6,14,0,0,0,0\n"
+      ∷ "I,4294967295\n" gives "7,14,0,0,0,0\n"
+      ∷ "O\n" gives "8,0,0,0,0,0\n"
+      ∷ "I,0\n" gives "9,14,0,0,0,0\n"
+      ∷ "I,1\n" gives "10,0,0,0,0,0\n"
+      ∷ [])
   -- "15: T with 0 or above 65,535."
   pub bad-ticks : Lists
       ("T,0\n" gives "1,15,0,0,0,0\n"
@@ -264,4 +284,19 @@ pub record AnswerCasesHold : Type 0 where
       ∷ "T,65535\n" gives "3,0,0,0,0,0\n"
       ∷ "T,65536\n" gives "4,15,0,0,0,0\n"
       ∷ "T,4294967295\n" gives "5,15,0,0,0,0\n"
+      ∷ [])
+  -- "16 when a group already runs, after 14 for a group outside 1 to 8": the one running too; with nobody running I is accepted
+  pub already-runs : Lists
+      ("I,1\n" gives "1,0,0,0,0,0\n"
+      ∷ "I,1\n" gives "2,16,0,0,0,0\n"
+      ∷ "I,2\n" gives "3,16,0,0,0,0\n"
+      ∷ "I,8\n" gives "4,16,0,0,0,0\n"
+      ∷ "I,0\n" gives "5,14,0,0,0,0\n"
+      ∷ "I,9\n" gives "6,14,0,0,0,0\n"
+      ∷ "S,8\n" gives "7,0,0,0,0,0\n"
+      ∷ "I,1\n" gives "8,16,0,0,0,0\n"
+      ∷ "O\n" gives "9,0,0,0,0,0\n"
+      ∷ "I,1\n" gives "10,0,0,0,0,0\n"
+      ∷ "S,0\n" gives "11,0,0,0,0,0\n"
+      ∷ "I,8\n" gives "12,0,0,0,0,0\n"
       ∷ [])

@@ -106,7 +106,8 @@ pub record DisposeCases : Type 0 where
       ∷ "N\n" gives "10,0,0,0,0,0\n"
       ∷ "A,1,5\n" gives "11,0,0,0,1,0\n"
       ∷ [])
-  -- D takes the runner's first, and what stood behind it settles: one of another group moves, the next of the runner's stays
+  -- D takes the runner's first, and what stood behind it settles: one of another group moves, the next of the runner's stays, and all behind it:
+  -- "The pass ends at the first head that may stay."
   pub dispose-only-own : Lists
       ("S,1\n" gives "1,0,0,0,0,0\n"
       ∷ "A,1,7\n" gives "2,0,0,0,1,0\n"

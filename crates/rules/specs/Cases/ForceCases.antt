@@ -403,7 +403,7 @@ pub record RevokedCases : Type 0 where
       ∷ "A,1,8\n" gives "7,0,0,0,0,1\n"
       ∷ "N\n" gives "8,0,0,2,1,0\n"
       ∷ [])
-  -- while S settles: a queued message of the revoked group moves as it gets the processor, where K4's stays
+  -- a queued message of the revoked group has moved as it gets the processor, and its section goes on: no upcall
   pub schedule-revoked : Lists
       ("S,1\n" gives "1,0,0,0,0,0\n"
       ∷ "B,1\n" gives "2,0,0,0,0,0\n"

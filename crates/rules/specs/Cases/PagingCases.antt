@@ -86,12 +86,14 @@ pub record SendCases : Type 0 where
       (324 holds (32 ∷ 0 ∷ 0 ∷ [])
       ∷ 8004 holds (63 ∷ 32 ∷ 1 ∷ 0 ∷ [])
       ∷ [])
-  -- while S settles, the running group is the new one
-  pub new-runner-spared : LeavesFrom (packed 1 (5 ∷ [])) (bytes "S,3\nA,3,3\nS,2\n")
+  -- while S takes the processor nobody runs, and nobody's first page is spared: that of the new runner goes out for group 3's message, and comes in as
+  -- S gives the processor
+  pub new-runner-out-and-in : LeavesFrom (packed 1 (5 ∷ [])) (bytes "S,3\nA,3,3\nS,2\n")
       (212 holds (32 ∷ upFrom 2 30 ++ (0 ∷ []))
-      ∷ 324 holds (0 ∷ 0 ∷ [])
-      ∷ 436 holds (1 ∷ 0 ∷ [])
-      ∷ 8072 holds (0 ∷ upFrom 2 30 ++ (1 ∷ []))
+      ∷ 324 holds (1 ∷ 0 ∷ [])
+      ∷ 436 holds (0 ∷ 0 ∷ [])
+      ∷ 8004 holds (63 ∷ 32 ∷ 2 ∷ 1 ∷ [])
+      ∷ 8072 holds (upFrom 2 30 ++ (0 ∷ 1 ∷ []))
       ∷ [])
   -- at a timeout the queue's messages need pages too
   pub timeout-sends : LeavesFrom (packed 1 (5 ∷ [])) (bytes "S,3\nB\nA,3,3\nA,4,4\nA,3,2\nT,256\n")
@@ -208,14 +210,14 @@ pub record BringCases : Type 0 where
       ∷ 324 holds (32 ∷ 0 ∷ [])
       ∷ 8004 holds (63 ∷ 32 ∷ 2 ∷ 1 ∷ [])
       ∷ [])
-  -- "once settling is done": first group 3's message has frame 1, then group 2's page is exchanged into frame 2
+  -- "once settling is done": as S takes the processor group 3's message has frame 1, then, as S gives it, group 2's page is exchanged into frame 2
   pub after-settling : LeavesFrom (packed 1 (5 ∷ [])) (bytes "A,1,7\nS,3\nA,3,3\nS,2\n")
       (212 holds (33 ∷ 32 ∷ upFrom 3 29 ++ (0 ∷ 0 ∷ []))
       ∷ 324 holds (2 ∷ 0 ∷ [])
       ∷ 436 holds (1 ∷ 0 ∷ [])
       ∷ 8004 holds (62 ∷ 32 ∷ 3 ∷ 1 ∷ upFrom 34 62 ++ (0 ∷ 0 ∷ upFrom 3 29 ++ (0 ∷ 1 ∷ 2 ∷ [])))
       ∷ [])
-  -- "the page being written" is so no more: group 2's, written as S settled, goes for group 1's
+  -- "the page being written" is so no more: group 2's, written as S took the processor, goes for group 1's
   pub written-not-spared : Leaves (bytes "A,1,1\nA,5,5\nA,2,2\n" ++ (copies 233 "A,4,4\n" ++ bytes "S,3\nA,3,3\nA,2,9\nS,1\n"))
       (212 holds (2 ∷ 0 ∷ [])
       ∷ 312 holds (0 ∷ 2 ∷ 1 ∷ [])

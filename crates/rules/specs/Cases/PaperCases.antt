@@ -36,13 +36,14 @@ pub record CasesHold : Type 0 where
       ∷ times 16 3 "A,1,7\n" ",0,0,0,0,0\n"
       ++ ("A,1,7\n" gives "19,5,0,0,0,0\n"
       ∷ []))
-  -- K4: "upcall 2, moved 1; then D: trap 0."; "Emptying the whole queue on every S: K4 shows what stays."
+  -- K4: "upcall 2, moved 1; then D: trap 0.", and "Case K4 now has moved 2 on its `S,2` and trap 1 on its D". So S is not as it was: a switch
+  -- empties the whole queue, and "the misreading that 01 shows by K4 falls away"
   pub k4 : Lists
       ("S,1\n" gives "1,0,0,0,0,0\n"
       ∷ "A,1,7\n" gives "2,0,0,0,1,0\n"
       ∷ "A,2,5\n" gives "3,0,0,0,0,0\n"
-      ∷ "S,2\n" gives "4,0,0,0,2,1\n"
-      ∷ "D\n" gives "5,0,0,0,0,0\n"
+      ∷ "S,2\n" gives "4,0,0,0,2,2\n"
+      ∷ "D\n" gives "5,0,0,1,0,0\n"
       ∷ [])
   -- K5: "B B N A,1,7: upcall 1."
   pub k5 : Lists

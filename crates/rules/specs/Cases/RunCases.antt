@@ -1,4 +1,4 @@
--- What is counted of a run, and what a private line hears of it, in one run: demand 3 holds these against each other, so here each is told by itself.
+-- What is counted of a run, and what a private line hears of it, in two runs: demand 3 holds these against each other, so here each is told by itself.
 -- Assumes nothing.
 use Prim.Native.Nat.{ℕ}
 use mathlib.Core.Path.{_≡_}
@@ -8,7 +8,8 @@ use lib.ListN.{replicate}
 use Rattle.rules.specs.Build.{paper01}
 use Rattle.rules.specs.Text.{bytes}
 use Rattle.rules.specs.Script.{scriptLines}
-use Rattle.rules.specs.Private.{Answer}
+use Rattle.rules.specs.Operation.{Operation, schedule, preempt, dispatch}
+use Rattle.rules.specs.Private.{Answer, Told, processor, nothing, told}
 use Rattle.rules.specs.Run.{scriptLine, Event, run, arrivals, answersOf, upcallsOf, disposals, left, ticked, listen}
 
 -- what is seen of a run of 25 steps. Group 1 has the processor from the 5th to the 19th and from the 22nd on. Refused are the 1st, 4th and 9th with 15, 3
@@ -76,3 +77,44 @@ pub record RunCases : Type 0 where
               descriptor = [];
             };
       }
+
+-- what is seen of a run of 16 steps in which the processor is taken and given. Refused are the 4th, an I, with 16, the 7th, with nobody running, with 7,
+-- and the 13th, an I, with 14. Group 1 has the processor from the 1st to the 6th and from the 14th on, group 2 from the 8th to the 11th. The queue loses
+-- its two messages with the 6th, an O
+abbrev pub switching : List Event
+switching = run paper01 (map scriptLine (scriptLines (bytes "I,1\nA,1,7\nA,2,5\nI,2\nT,5\nO\nM\nI,2\nM\nD\nO\nO\nI,0\nI,1\nE,0\nD\n"))) .events
+
+-- O and I
+pub record SwitchedRunCases : Type 0 where
+  -- they bring no message, dispose of none, give no group an answer and are no ticks
+  pub switching-arrivals :
+      arrivals switching ≡ record { group = 1; words = 7 ∷ [] } ∷ record { group = 2; words = 5 ∷ [] } ∷ []
+  pub switching-disposals-first : disposals 1 switching ≡ 1
+  pub switching-disposals-second : disposals 2 switching ≡ 1
+  pub switching-answers-first : answersOf 1 switching ≡ answer 0 7 [] ∷ answer 0 0 [] ∷ []
+  pub switching-answers-second : answersOf 2 switching ≡ answer 0 1 [] ∷ answer 0 0 [] ∷ []
+  pub switching-ticks : ticked switching ≡ 5
+  -- what O moved has left the queue
+  pub switching-left : left switching ≡ 2
+  -- group 2's upcall comes with the 8th step, an I
+  pub switching-upcalls : upcallsOf 2 switching ≡ replicate 7 false ++ (true ∷ replicate 8 false)
+  -- the private line of group 2 over the same steps: it lost the processor with the 11th
+  pub switching-heard :
+      listen 2 switching
+      ≡ record {
+        answers = answer 0 1 [] ∷ answer 0 0 [] ∷ [];
+        upcalls = replicate 7 false ++ (true ∷ replicate 8 false);
+        line = record { has = false; atomic = true; pending = false; messages = []; descriptor = [] };
+      }
+
+-- what groups 1 and 2 are told of an operation that is accepted, and of the same where it is refused
+abbrev pub toldOf : Operation → List Told
+toldOf op = told 1 op true ∷ told 2 op true ∷ told 1 op false ∷ told 2 op false ∷ []
+
+-- "For the private line an accepted O is as an accepted `S,0`, an accepted `I,g` as an accepted `S,g`."
+pub record ToldCases : Type 0 where
+  -- "An accepted S: g has the processor exactly if S names g."; a refused one is nothing
+  pub told-switch : toldOf (schedule 1) ≡ processor true ∷ processor false ∷ nothing ∷ nothing ∷ []
+  pub told-switch-to-nobody : toldOf (schedule 0) ≡ processor false ∷ processor false ∷ nothing ∷ nothing ∷ []
+  pub told-taken : toldOf preempt ≡ processor false ∷ processor false ∷ nothing ∷ nothing ∷ []
+  pub told-given : toldOf (dispatch 1) ≡ processor true ∷ processor false ∷ nothing ∷ nothing ∷ []

@@ -34,9 +34,11 @@ pub record ScriptCasesHold : Type 0 where
       ∷ "N\n" gives "8,0,0,0,0,0\n"
       ∷ "P,1\n" gives "9,0,1,0,0,0\n"
       ∷ "L,0\n" gives "10,0,1,0,0,0,0,1,1\n"
-      ∷ "1,S\n" gives "11,2,0,0,0,0\n"
-      ∷ ",S,1\n" gives "12,2,0,0,0,0\n"
-      ∷ "7,1,A\n" gives "13,2,0,0,0,0\n"
+      ∷ "O\n" gives "11,0,0,0,0,0\n"
+      ∷ "I,1\n" gives "12,0,0,0,0,0\n"
+      ∷ "1,S\n" gives "13,2,0,0,0,0\n"
+      ∷ ",S,1\n" gives "14,2,0,0,0,0\n"
+      ∷ "7,1,A\n" gives "15,2,0,0,0,0\n"
       ∷ [])
   -- an operation is one capital letter: small ones, others, two, none
   pub one-capital : Lists
@@ -51,19 +53,23 @@ pub record ScriptCasesHold : Type 0 where
       ∷ "n\n" gives "9,2,0,0,0,0\n"
       ∷ "p,1\n" gives "10,2,0,0,0,0\n"
       ∷ "l,0\n" gives "11,2,0,0,0,0\n"
-      ∷ "C\n" gives "12,2,0,0,0,0\n"
-      ∷ "X,1\n" gives "13,2,0,0,0,0\n"
-      ∷ "AA,1,7\n" gives "14,2,0,0,0,0\n"
-      ∷ "SS,2\n" gives "15,2,0,0,0,0\n"
-      ∷ "MM\n" gives "16,2,0,0,0,0\n"
-      ∷ "S2\n" gives "17,2,0,0,0,0\n"
-      ∷ "1\n" gives "18,2,0,0,0,0\n"
-      ∷ ",\n" gives "19,2,0,0,0,0\n"
+      ∷ "o\n" gives "12,2,0,0,0,0\n"
+      ∷ "i,1\n" gives "13,2,0,0,0,0\n"
+      ∷ "C\n" gives "14,2,0,0,0,0\n"
+      ∷ "X,1\n" gives "15,2,0,0,0,0\n"
+      ∷ "AA,1,7\n" gives "16,2,0,0,0,0\n"
+      ∷ "SS,2\n" gives "17,2,0,0,0,0\n"
+      ∷ "MM\n" gives "18,2,0,0,0,0\n"
+      ∷ "OO\n" gives "19,2,0,0,0,0\n"
+      ∷ "OI,1\n" gives "20,2,0,0,0,0\n"
+      ∷ "S2\n" gives "21,2,0,0,0,0\n"
+      ∷ "1\n" gives "22,2,0,0,0,0\n"
+      ∷ ",\n" gives "23,2,0,0,0,0\n"
       ∷ [])
-  -- no byte but the ten letters begins a line that is read: alone, before one number, before two
-  pub other-letters : map (λ c. readLine (c ∷ [])) (bytesBut "ASTMEDBNPL") ≡ replicate 246 unknown
-  pub other-letters-one : map (λ c. readLine (c ∷ bytes ",1")) (bytesBut "ASTMEDBNPL") ≡ replicate 246 unknown
-  pub other-letters-two : map (λ c. readLine (c ∷ bytes ",1,7")) (bytesBut "ASTMEDBNPL") ≡ replicate 246 unknown
+  -- no byte but the twelve letters begins a line that is read: alone, before one number, before two
+  pub other-letters : map (λ c. readLine (c ∷ [])) (bytesBut "ASOITMEDBNPL") ≡ replicate 244 unknown
+  pub other-letters-one : map (λ c. readLine (c ∷ bytes ",1")) (bytesBut "ASOITMEDBNPL") ≡ replicate 244 unknown
+  pub other-letters-two : map (λ c. readLine (c ∷ bytes ",1,7")) (bytesBut "ASOITMEDBNPL") ≡ replicate 244 unknown
   -- "parted by commas": no other byte parts them
   pub commas : Lists
       ("S,1\n" gives "1,0,0,0,0,0\n"
@@ -212,7 +218,11 @@ pub record ScriptCasesHold : Type 0 where
       ∷ "E,\n" gives "9,2,0,0,0,0\n"
       ∷ "M,\n" gives "10,2,0,0,0,0\n"
       ∷ "D,\n" gives "11,2,0,0,0,0\n"
-      ∷ ",M\n" gives "12,2,0,0,0,0\n"
+      ∷ "O,\n" gives "12,2,0,0,0,0\n"
+      ∷ "I,\n" gives "13,2,0,0,0,0\n"
+      ∷ "I,2,\n" gives "14,2,0,0,0,0\n"
+      ∷ ",M\n" gives "15,2,0,0,0,0\n"
+      ∷ ",O\n" gives "16,2,0,0,0,0\n"
       ∷ [])
   -- a bad number anywhere in a line, behind the ninth word too
   pub bad-number : Lists
@@ -227,6 +237,7 @@ pub record ScriptCasesHold : Type 0 where
       ∷ "P,x\n" gives "9,2,0,0,0,0\n"
       ∷ "L,x\n" gives "10,2,0,0,0,0\n"
       ∷ "S,x\n" gives "11,2,0,0,0,0\n"
+      ∷ "I,x\n" gives "12,2,0,0,0,0\n"
       ∷ [])
   -- "a wrong count of fields": one too few
   pub missing-field : Lists
@@ -237,7 +248,8 @@ pub record ScriptCasesHold : Type 0 where
       ∷ "E\n" gives "5,2,0,0,0,0\n"
       ∷ "P\n" gives "6,2,0,0,0,0\n"
       ∷ "L\n" gives "7,2,0,0,0,0\n"
-      ∷ "M\n" gives "8,0,0,0,0,0\n"
+      ∷ "I\n" gives "8,2,0,0,0,0\n"
+      ∷ "M\n" gives "9,0,0,0,0,0\n"
       ∷ [])
   -- one too many
   pub spare-field : Lists
@@ -251,8 +263,10 @@ pub record ScriptCasesHold : Type 0 where
       ∷ "N,0\n" gives "8,2,0,0,0,0\n"
       ∷ "P,1,1\n" gives "9,2,0,0,0,0\n"
       ∷ "L,0,0\n" gives "10,2,0,0,0,0\n"
-      ∷ "L,0\n" gives "11,12,0,0,0,0\n"
-      ∷ "M\n" gives "12,0,0,0,0,0\n"
+      ∷ "O,1\n" gives "11,2,0,0,0,0\n"
+      ∷ "I,1,1\n" gives "12,2,0,0,0,0\n"
+      ∷ "L,0\n" gives "13,12,0,0,0,0\n"
+      ∷ "M\n" gives "14,0,0,0,0,0\n"
       ∷ [])
   -- "for A, any count of words is read": none is 4 and not 2, nine are 4, twenty are 4
   pub any-words : Lists
@@ -305,9 +319,11 @@ pub record ScriptCasesHold : Type 0 where
       ∷ "S,1\n" gives "7,0,0,0,0,0\n"
       ∷ "A,1,5\n" gives "8,0,0,0,1,0\n"
       ∷ "A,2,5,6\n" gives "9,0,0,0,0,0\n"
-      ∷ "S,2\n" gives "10,0,0,0,2,1\n"
-      ∷ "T,256\n" gives "11,0,0,3,0,1\n"
-      ∷ "M\n" gives "12,0,2,0,0,0\n"
+      ∷ "S,2\n" gives "10,0,0,0,2,2\n"
+      ∷ "D\n" gives "11,0,0,1,0,0\n"
+      ∷ "A,2,6,7\n" gives "12,0,0,0,0,0\n"
+      ∷ "T,256\n" gives "13,0,0,3,0,1\n"
+      ∷ "M\n" gives "14,0,2,0,0,0\n"
       ∷ [])
   -- "an accepted L adds node, group, words", a refused one nothing
   pub sent : Lists

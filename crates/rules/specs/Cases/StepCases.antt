@@ -7,15 +7,16 @@ use Rattle.rules.specs.Cases.Case.{_gives_, Lists, Stands}
 
 -- S, and settling
 pub record ScheduleCases : Type 0 where
-  -- "timer to 0", with messages still queued: the one of group 2 waits 256 ticks from S on
+  -- "timer to 0": what comes for the new runner waits 256 ticks, whatever was counted before S
   pub schedule-timer : Lists
       ("S,1\n" gives "1,0,0,0,0,0\n"
       ∷ "A,1,7\n" gives "2,0,0,0,1,0\n"
       ∷ "A,2,5\n" gives "3,0,0,0,0,0\n"
       ∷ "T,255\n" gives "4,0,0,0,0,0\n"
-      ∷ "S,2\n" gives "5,0,0,0,2,1\n"
-      ∷ "T,255\n" gives "6,0,0,0,0,0\n"
-      ∷ "T,1\n" gives "7,0,0,3,0,1\n"
+      ∷ "S,3\n" gives "5,0,0,0,0,2\n"
+      ∷ "A,3,6\n" gives "6,0,0,0,3,0\n"
+      ∷ "T,255\n" gives "7,0,0,0,0,0\n"
+      ∷ "T,1\n" gives "8,0,0,3,0,1\n"
       ∷ [])
   -- "To the one already running (or 0 to 0): changes nothing", the timer neither
   pub schedule-same : Lists
@@ -42,7 +43,7 @@ pub record ScheduleCases : Type 0 where
       ∷ "S,2\n" gives "12,0,0,0,2,0\n"
       ∷ "E,0\n" gives "13,0,5,0,0,0\n"
       ∷ [])
-  -- settling looks at the new runner: where it is buffered, its own queued messages move too, with all between them, in order
+  -- a switch moves all that is queued, in order: where the new runner is buffered, its own behind those that wait already
   pub schedule-buffered : Lists
       ("A,2,1\n" gives "1,0,0,0,0,1\n"
       ∷ "S,1\n" gives "2,0,0,0,0,0\n"
@@ -60,17 +61,17 @@ pub record ScheduleCases : Type 0 where
       ∷ "S,3\n" gives "14,0,0,0,3,0\n"
       ∷ "E,0\n" gives "15,0,9,0,0,0\n"
       ∷ [])
-  -- where it is direct, its first may stay, and all behind it
-  pub schedule-direct : Lists
+  -- and where it is direct: none of its own stays, nor what stood behind it
+  pub schedule-empties : Lists
       ("S,1\n" gives "1,0,0,0,0,0\n"
       ∷ "A,1,7\n" gives "2,0,0,0,1,0\n"
       ∷ "A,3,9\n" gives "3,0,0,0,0,0\n"
       ∷ "A,2,2\n" gives "4,0,0,0,0,0\n"
       ∷ "A,1,8\n" gives "5,0,0,0,0,0\n"
       ∷ "A,2,3\n" gives "6,0,0,0,0,0\n"
-      ∷ "S,2\n" gives "7,0,0,0,2,2\n"
-      ∷ "D\n" gives "8,0,0,0,0,1\n"
-      ∷ "D\n" gives "9,0,0,0,0,0\n"
+      ∷ "S,2\n" gives "7,0,0,0,2,5\n"
+      ∷ "D\n" gives "8,0,0,1,0,0\n"
+      ∷ "D\n" gives "9,0,0,1,0,0\n"
       ∷ "S,1\n" gives "10,0,0,0,0,0\n"
       ∷ "E,0\n" gives "11,0,7,0,0,0\n"
       ∷ "D\n" gives "12,0,0,1,0,0\n"

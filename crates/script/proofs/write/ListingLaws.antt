@@ -13,10 +13,10 @@ use borrow.Author.Tests.{eq-eqb, ne-eqb}
 use Rattle.rules.specs.Build.{Build, wordLimit}
 use Rattle.rules.specs.Lists.{pad}
 use Rattle.rules.specs.Node.{Node, groupOf, timerRuns, emptyGroup}
-use Rattle.rules.specs.Operation.{Request, poll, peek, dispose, beginAtomic, endAtomic, describe, launch, Operation, arrive, schedule, tick, user, unknown, Report}
+use Rattle.rules.specs.Operation.{Request, poll, peek, dispose, beginAtomic, endAtomic, describe, launch, Operation, arrive, schedule, preempt, dispatch, tick, user, unknown, Report}
 use Rattle.rules.specs.Refusal.{refusal, refuseRequest, refuseLaunch}
 use Rattle.rules.specs.Script.{newline, header, reportLine}
-use Rattle.rules.specs.Step.{Effect, valued, extending, launched, serve, act, finish, step, ticks, oneTick, timedOut, counted}
+use Rattle.rules.specs.Step.{Effect, valued, extending, launched, serve, act, finish, inARow, step, ticks, oneTick, timedOut, counted}
 use Rattle.rules.specs.Text.{decimal, row}
 use Rattle.rules.specs.Types.{sentOf, reportOf}
 use Rattle.rules.specs.Valid.{GoodGroup, Valid}
@@ -25,7 +25,7 @@ use Rattle.rules.specs.declared.Sent.{Sent as Sent·rt}
 use Rattle.rules.proofs.Steps.ActLaws.{user-accepted}
 use Rattle.rules.proofs.Steps.EveryLaws.{every-getD}
 use Rattle.rules.proofs.Steps.ListLaws.{take-pad}
-use Rattle.rules.proofs.Steps.StepLaws.{step-cases}
+use Rattle.rules.proofs.Steps.StepLaws.{step-law}
 use Rattle.script.specs.Written.{field, fields, sentNumbers, behindNumber, Listed, silent, sending}
 
 -- how long the header is
@@ -145,15 +145,26 @@ module _ {b : Build} {n : Node} (v : Valid b n) where
       few : length (groupOf n (n .running) .descriptor) ≤ wordLimit
       few = every-getD (GoodGroup b) (n .groups) (pred (n .running)) emptyGroup (v .groups-good) (omega (arith, v .running-bound, v .group-count)) .descriptor
 
-  -- an accepted operation
-  accepted-listed : (op : Operation) → refusal b n op ≡ 0 → Listed (finish b (act b n op) .report)
+  -- an operation that acts
+  acts-listed : (op : Operation) → refusal b n op ≡ 0 → Listed (finish b (act b n op) .report)
   unfolding act valued finish refusal
-  accepted-listed (arrive g ws) e = silent refl
-  accepted-listed (schedule g) e = silent refl
-  accepted-listed (tick k) e = silent (ticks-sent b k (valued 0 n))
-  accepted-listed (user r) e = let u = user-accepted n r e in served-listed r (u .0) (u .1)
-  accepted-listed unknown e = silent refl
+  acts-listed (arrive g ws) e = silent refl
+  acts-listed preempt e = silent refl
+  acts-listed (dispatch g) e = silent refl
+  acts-listed (schedule g) e = silent refl
+  acts-listed (tick k) e = silent (ticks-sent b k (valued 0 n))
+  acts-listed (user r) e = let u = user-accepted n r e in served-listed r (u .0) (u .1)
+  acts-listed unknown e = silent refl
 
-  -- what a step reports can be listed
-  pub step-listed : (op : Operation) → Listed (step b n op .report)
-  step-listed op = step-cases b n op (λ s. Listed (s .report)) (accepted-listed op) (λ r e. silent refl)
+-- what a step reports can be listed
+pub step-listed : {b : Build} {n : Node} → Valid b n → (op : Operation) → Listed (step b n op .report)
+unfolding act valued finish inARow
+step-listed {b} =
+    step-law (λ n op s. Listed (s .report))
+    (record {
+      refuses = λ n v op r e. silent refl;
+      acts = λ n v op one e. acts-listed v op e;
+      still = λ n v. silent refl;
+      takes = λ n v runs took. took;
+      switches = λ n v g other some high took gave. silent refl;
+    })

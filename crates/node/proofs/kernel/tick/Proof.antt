@@ -18,7 +18,7 @@ use Rattle.memory.proofs.PieceWrites.{timer-held}
 use Rattle.memory.proofs.WriteLaws.{wrote-as, wrote-set}
 use Rattle.node.specs.Steps.{late}
 use Rattle.node.proofs.kernel.KernelLaws.{late-sound, tick-accepted, tick-counted, tick-idle, tick-many, tick-none, tick-timeout, valid-ticking}
-use Rattle.node.proofs.StepMap.{acted-quiet, acted-refused, acted-unsettled}
+use Rattle.node.proofs.StepMap.{acted-quiet, acted-refused, acted-unsettled, one-act}
 use Rattle.node.proofs.kernel.tick.Statement.{statement}
 use Rattle.node.proofs.kernel.tick.Tie as tie
 
@@ -55,7 +55,7 @@ unfolding valued
 returns-3 c n r h v =
     let k = c .before .before .before .before .before .before .before .args .k in
     let rests = c .before .before .timer-runs .ensures n r h (valid-sound v) ∙ not-true _ (c .before .if3 .taken) in
-    acted-quiet (tick k) (valued 0 n) (tick-accepted n k (c .before .before .before .before .before .if1 .left) (c .before .before .before .before .if2 .left)) (tick-idle v k rests) (valid-quiet v) h (c .accepted .ensures)
+    acted-quiet (tick k) (valued 0 n) (one-act n (tick k) tt (tick-accepted n k (c .before .before .before .before .before .if1 .left) (c .before .before .before .before .if2 .left)) (tick-idle v k rests)) (valid-quiet v) h (c .accepted .ensures)
 
 slice-read-t : tie.Need-slice-read-t
 slice-read-t c = let l = long (c .before .before .before .before .before .before .before) in omega arith
@@ -82,8 +82,9 @@ returns-4 c n r h v =
     let l = holds-pieces h .long in
     let runs = c .before .before .before .before .timer-runs .ensures n r h (valid-sound v) ∙ not-false _ (c .before .before .before .if3 .left) in
     let e : word m timerAt + k ≡ n .timer + k = ap (λ (x : ℕ). x + k) t in
-    acted-quiet (tick k) (valued 0 (withTimer (n .timer + k) n)) (tick-accepted n k (c .before .before .before .before .before .before .before .if1 .left) (c .before .before .before .before .before .before .if2 .left))
-    (tick-counted v k runs (omega (arith, c .before .if4 .taken))) (counted-quiet v runs (n .timer + k))
+    acted-quiet (tick k) (valued 0 (withTimer (n .timer + k) n))
+    (one-act n (tick k) tt (tick-accepted n k (c .before .before .before .before .before .before .before .if1 .left) (c .before .before .before .before .before .before .if2 .left)) (tick-counted v k runs (omega (arith, c .before .if4 .taken))))
+    (counted-quiet v runs (n .timer + k))
     (timer-held h (n .timer + k) (wrote-as (wrote-set m timerAt (word m timerAt + k) (omega arith)) (ap (λ (x : ℕ). x ∷ []) e))) (c .accepted2 .ensures)
 
 timeout-requires : tie.Need-timeout-requires
@@ -104,7 +105,9 @@ returns-5 c n r h v =
     let runs = c .before .before .before .before .before .before .before .timer-runs .ensures n r h (valid-sound v) ∙ not-false _ (c .before .before .before .before .before .before .if3 .left) in
     let e : word m timerAt + k ≡ n .timer + k = ap (λ (x : ℕ). x + k) timer in
     let t = c .before .before .timeout .ensures n r h (valid-ticking v runs) in
-    acted-unsettled (tick k) (late (word m timerAt + k) n .node) timeoutTrap (length (n .queue)) (tick-accepted n k (c .before .before .before .before .before .before .before .before .before .before .if1 .left) (c .before .before .before .before .before .before .before .before .before .if2 .left)) (tick-timeout v k runs (omega (arith, c .before .before .before .before .if4 .left)) ∙ ap (λ (x : ℕ). late x n) (sym e)) (late-sound (valid-ticking v runs) (word m timerAt + k)) (v .queue-length) (t .holds) (t .told)
+    acted-unsettled (tick k) (late (word m timerAt + k) n .node) timeoutTrap (length (n .queue))
+    (one-act n (tick k) tt (tick-accepted n k (c .before .before .before .before .before .before .before .before .before .before .if1 .left) (c .before .before .before .before .before .before .before .before .before .if2 .left)) (tick-timeout v k runs (omega (arith, c .before .before .before .before .if4 .left)) ∙ ap (λ (x : ℕ). late x n) (sym e)))
+    (late-sound (valid-ticking v runs) (word m timerAt + k)) (v .queue-length) (t .holds) (t .told)
 
 pub tick-spec : {M : Type 1} → statement M
 tick-spec =

@@ -1,0 +1,5 @@
+pub mod Moments
+pub mod Why
+pub mod ByPlace
+pub mod Follow
+pub mod Told

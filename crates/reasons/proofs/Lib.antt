@@ -1,3 +1,5 @@
 pub mod Trail
 pub mod SettleTrail
 pub mod StepTrail
+pub mod RunTrail
+pub mod NamedLaws

@@ -3,3 +3,4 @@ pub mod SettleTrail
 pub mod StepTrail
 pub mod RunTrail
 pub mod NamedLaws
+pub mod ToldLaws

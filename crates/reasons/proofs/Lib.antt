@@ -4,3 +4,4 @@ pub mod StepTrail
 pub mod RunTrail
 pub mod NamedLaws
 pub mod ToldLaws
+pub mod CountLaws

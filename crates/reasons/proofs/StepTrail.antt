@@ -401,11 +401,11 @@ module _ {b : Build} {n : Node} (v : Valid b n) (g : ℕ) (ws : List ℕ) (accep
       go (y ∷ q) some = behind-others y q some
 
 -- a step's moments: none where it is refused
-moments-refused : (b : Build) (n : Node) (op : Operation) (r : ℕ) → refusal b n op ≡ suc r → stepMoments b n op ≡ []
+pub moments-refused : (b : Build) (n : Node) (op : Operation) (r : ℕ) → refusal b n op ≡ suc r → stepMoments b n op ≡ []
 unfolding stepMoments
 moments-refused b n op r e = rw (e, stepMoments)
 
-moments-performed : (b : Build) (n : Node) (op : Operation) → refusal b n op ≡ 0 → stepMoments b n op ≡ performedMoments b n op
+pub moments-performed : (b : Build) (n : Node) (op : Operation) → refusal b n op ≡ 0 → stepMoments b n op ≡ performedMoments b n op
 unfolding stepMoments
 moments-performed b n op e = rw (e, stepMoments)
 
@@ -461,24 +461,24 @@ leaving-none j k x y none =
     ∙ ap (λ (i : ℕ). leaving (j + 0) x y ++ leaving i 0 3) (sym rest)
 
 -- the moments of S, by whom it is to
-switch-still : (b : Build) (n : Node) → switchMoments b n (n .running) ≡ []
+pub switch-still : (b : Build) (n : Node) → switchMoments b n (n .running) ≡ []
 unfolding switchMoments
 switch-still b n = rw (eq-eqb (n .running) (n .running) refl, switchMoments)
 
-switch-takes : (b : Build) (n : Node) → n .running ≢ 0 → switchMoments b n 0 ≡ takeMoments b n
+pub switch-takes : (b : Build) (n : Node) → n .running ≢ 0 → switchMoments b n 0 ≡ takeMoments b n
 unfolding switchMoments
 switch-takes b n runs =
     let one : switchMoments b n 0 ≡ takeMoments b n ++ [] = rw (ne-eqb 0 (n .running) (λ e. runs (sym e)), switchMoments) in
     one ∙ append-nil (takeMoments b n)
 
-switch-two : (b : Build) (n : Node) (g : ℕ) → g ≢ n .running → g ≢ 0
+pub switch-two : (b : Build) (n : Node) (g : ℕ) → g ≢ n .running → g ≢ 0
     → switchMoments b n g ≡ takeMoments b n ++ oneActMoments b false (taken b n .node) (dispatch g)
 unfolding switchMoments
 switch-two b n g other some = rw (ne-eqb g (n .running) other, ne-eqb g 0 some, switchMoments)
 
 module _ {b : Build} {n : Node} (v : Valid b n) where
   -- S is accepted
-  schedule-moments : (g : ℕ) → g ≤ groupCount → stepMoments b n (schedule g) ≡ switchMoments b n g
+  pub schedule-moments : (g : ℕ) → g ≤ groupCount → stepMoments b n (schedule g) ≡ switchMoments b n g
   unfolding performedMoments refusal refuseSchedule
   schedule-moments g high = moments-performed b n (schedule g) (rw (le-ltb groupCount g high))
 
@@ -488,7 +488,7 @@ module _ {b : Build} {n : Node} (v : Valid b n) where
   still-trail = unmoved b n (schedule (n .running)) allZero refl (schedule-moments (n .running) (v .running-bound) ∙ switch-still b n)
 
   -- to nobody it is O
-  preempt-moments : stepMoments b n preempt ≡ takeMoments b n
+  pub preempt-moments : stepMoments b n preempt ≡ takeMoments b n
   unfolding performedMoments refusal
   preempt-moments = moments-performed b n preempt refl
 
@@ -499,27 +499,31 @@ module _ {b : Build} {n : Node} (v : Valid b n) where
       (preempt-moments ∙ sym (switch-takes b n runs) ∙ sym (schedule-moments 0 (omega arith))) took
 
   -- to another it is O and I, and I finds the queue empty
-  given-unmoved : (g : ℕ) → given b n g .report .moved ≡ 0
+  pub given-unmoved : (g : ℕ) → given b n g .report .moved ≡ 0
   unfolding finish act valued withRunning
   given-unmoved g = omega (arith, settle-moved b (withRunning g (taken b n .node)), ap length (taken-empty v))
 
-  given-moments : (g : ℕ) → g ≢ 0 → g ≤ groupCount → stepMoments b (taken b n .node) (dispatch g) ≡ oneActMoments b false (taken b n .node) (dispatch g)
+  pub given-moments : (g : ℕ) → g ≢ 0 → g ≤ groupCount → stepMoments b (taken b n .node) (dispatch g) ≡ oneActMoments b false (taken b n .node) (dispatch g)
   unfolding performedMoments finish
   given-moments g some high =
       moments-performed b (taken b n .node) (dispatch g)
       (sym (step-answer b (taken b n .node) (dispatch g)) ∙ ap (λ (s : Stepped). s .report .answer) (step-given b n g some high))
 
+  -- the moments of S to another are those of its two acts
+  pub switched-moments : (g : ℕ) → g ≢ n .running → g ≢ 0 → g ≤ groupCount
+      → stepMoments b n (schedule g) ≡ stepMoments b n preempt ++ stepMoments b (taken b n .node) (dispatch g)
+  switched-moments g other some high =
+      schedule-moments g high
+      ∙ switch-two b n g other some
+      ∙ ap (λ (ms : List Moment). takeMoments b n ++ ms) (sym (given-moments g some high))
+      ∙ ap (λ (ms : List Moment). ms ++ stepMoments b (taken b n .node) (dispatch g)) (sym preempt-moments)
+
   switches-trail : (g : ℕ) → g ≢ n .running → g ≢ 0 → g ≤ groupCount → StepTrail b n preempt (taken b n) → StepTrail b (taken b n .node) (dispatch g) (given b n g)
       → StepTrail b n (schedule g) (inARow (taken b n) (given b n g))
   unfolding inARow eventReasons leftBy disposedBy firstReason laterReason
   switches-trail g other some high took gave =
-      let moments : stepMoments b n preempt ++ stepMoments b (taken b n .node) (dispatch g) ≡ stepMoments b n (schedule g) =
-      ap (λ (ms : List Moment). ms ++ stepMoments b (taken b n .node) (dispatch g)) preempt-moments
-      ∙ ap (λ (ms : List Moment). takeMoments b n ++ ms) (given-moments g some high)
-      ∙ sym (switch-two b n g other some)
-      ∙ sym (schedule-moments g high) in
       subst₂ (λ (ms : List Moment) (rs : List ℕ). Trail (pending (n .queue)) ms rs (pending (given b n g .node .queue)))
-      moments (sym (leaving-none (taken b n .report .moved) (given b n g .report .moved) 7 3 (given-unmoved g)))
+      (sym (switched-moments g other some high)) (sym (leaving-none (taken b n .report .moved) (given b n g .report .moved) 7 3 (given-unmoved g)))
       (trail-then took gave)
 
 -- the trail of every step

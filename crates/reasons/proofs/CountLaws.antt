@@ -24,7 +24,7 @@ use Rattle.rules.proofs.Private.RequestLaws.{dispose-some, suc-zero}
 use Rattle.rules.proofs.Steps.ActLaws.{user-accepted}
 use Rattle.rules.proofs.Steps.LineLaws.{buffered-holds}
 use Rattle.rules.proofs.Steps.StepLaws.{OneAct, given, power-on-valid, step-law, step-valid, taken}
-use Rattle.reasons.specs.ByPlace.{eventReasons, leaving}
+use Rattle.reasons.specs.ByPlace.{eventReasons, firstReason, laterReason, leaving}
 use Rattle.reasons.specs.Moments.{Dated, Facts, Moment, facts, actMoments, disposeMoments, disposed, drainMoments, headed, joinMoments, joined, moved, nextHeaded, oneActMoments, passMoments, performedMoments, runMoments, stepMoments, takeMoments, tickMoments, ticksMoments}
 use Rattle.reasons.specs.Told.{Counted, count, isDisposed, isHeaded, isJoined, isMoved}
 use Rattle.reasons.specs.Why.{Heading}
@@ -230,6 +230,10 @@ unfolding leaving
 leaving-length zero x y = refl
 leaving-length (suc k) x y = ap suc (length-replicate k y)
 
+pub reasons-length : (e : Event) (n : Node) → length (eventReasons e n) ≡ leftBy e
+unfolding eventReasons
+reasons-length e n = leaving-length (leftBy e) (firstReason (e .operation) n) (laterReason (e .operation))
+
 -- the moments of a run, from step i on
 counted-dated : (f : Moment → ℕ) (i : ℕ) (ms : List Moment) (ds : List Dated)
     → count f (map (λ (m : Moment). record { line = i; moment = m }) ms ++ ds) ≡ counted f ms + count f ds
@@ -255,7 +259,7 @@ play-counts {b} {n} v i (x ∷ is) =
     let c = step-counts v op in
     let t = step-trail v op in
     let r = play-counts (step-valid v op) (suc i) is in
-    let gone : length (eventReasons (eventOf n op (step b n op)) k) ≡ leftBy (eventOf n op (step b n op)) = unfold eventReasons in leaving-length _ _ _ in
+    let gone : length (eventReasons (eventOf n op (step b n op)) k) ≡ leftBy (eventOf n op (step b n op)) = reasons-length (eventOf n op (step b n op)) k in
     let parts : leftBy (eventOf n op (step b n op)) ≡ step b n op .report .moved + disposedBy op (wasAccepted (eventOf n op (step b n op)) && eqb (step b n op .report .trap) noTrap) = unfold leftBy in refl in
     record {
       joined-count = omega (arith, more isJoined, c .joined-count, r .joined-count, length-append (arrived (eventOf n op (step b n op))) (arrivals (play b k is .events)));

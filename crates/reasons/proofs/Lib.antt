@@ -5,3 +5,5 @@ pub mod RunTrail
 pub mod NamedLaws
 pub mod ToldLaws
 pub mod CountLaws
+pub mod FollowLaws
+pub mod WhyLaws

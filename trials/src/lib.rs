@@ -8,9 +8,11 @@
 //! - [`memories`]: random memories, each with what it is asked.
 //! - [`comparison`]: one memory by the calls and by the judge.
 //! - [`table`]: what the memories have met.
+//! - [`why`]: why messages of random scripts were buffered, compared and counted.
 
 pub mod asked;
 pub mod calls;
 pub mod comparison;
 pub mod memories;
 pub mod table;
+pub mod why;

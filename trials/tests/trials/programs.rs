@@ -1,10 +1,11 @@
-//! `memories` and `calls` as they are called: arguments, output and exit codes.
+//! `memories`, `reasons` and `calls` as they are called: arguments, output and exit codes.
 
 use std::process::{Command, Output};
 
 fn run(program: &str, arguments: &str) -> Output {
     let path = match program {
         "memories" => env!("CARGO_BIN_EXE_memories"),
+        "reasons" => env!("CARGO_BIN_EXE_reasons"),
         _ => env!("CARGO_BIN_EXE_calls"),
     };
     let mut command = Command::new(path);
@@ -35,9 +36,27 @@ fn few_memories_need_not_meet_everything() {
 }
 
 #[test]
+fn reasons_prints_a_table() {
+    let output = run("reasons", "140 7");
+    assert!(output.status.success(), "{}", text(&output.stderr));
+    assert_eq!(text(&output.stderr), "reasons: 140 of 140\n");
+    let table = text(&output.stdout);
+    let asked = "21280 lines asked for, of 140 scripts:\n";
+    assert!(table.starts_with(asked), "{table}");
+    assert_eq!(table.lines().count(), 1 + 15);
+    assert!(
+        table.contains("\n    140 refusal 17 of line 0\n"),
+        "{table}"
+    );
+    assert_eq!(run("reasons", "140 7").stdout, output.stdout);
+    assert!(run("reasons", "1 1").status.success());
+}
+
+#[test]
 fn the_programs_tell_how_they_are_used() {
-    let wrong: [(&str, &[&str]); 2] = [
+    let wrong: [(&str, &[&str]); 3] = [
         ("memories", &["", "1", "x 1", "1 -1", "1 1 1"]),
+        ("reasons", &["", "1", "x 1", "1 -1", "1 1 1"]),
         ("calls", &["--what", "--script", "--script a b", "a"]),
     ];
     for (program, wrong) in wrong {

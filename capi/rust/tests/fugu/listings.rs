@@ -83,4 +83,5 @@ fn vectors() {
     play("vectors/order3");
     play("vectors/order4");
     play("vectors/order5");
+    play("vectors/order6");
 }

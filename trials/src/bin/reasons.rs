@@ -1,0 +1,58 @@
+//! Why messages of random scripts were buffered, asked line by line and held against the judge.
+
+use std::process::ExitCode;
+
+use judge::program::{arguments, failed, finish, met_all, misused, number, print};
+use trials::why::{table_of, Judged, Table};
+
+const NAME: &str = "reasons";
+const USAGE: &str = "\
+usage: bin/reasons COUNT SEED
+       bin/reasons --help
+
+Makes COUNT random scripts of 150 lines, of every flavour of bin/scripts in turn. Each line of each
+script, line 0 and the one past the last are asked why the message that came by them was buffered. The
+answer for that line alone is held against those that the judge finds in one run of the script: the
+reason and the line that it is named with, or the refusal.
+
+At the end there is a table of what was met: each reason, reason 3 by where the message was moved and
+reason 6 by whether it had been head, and each refusal, 17 by what was asked for. The exit status is 1 at
+the first difference, which is told with the call of bin/scripts that makes its script; and if COUNT is
+140 or more and some line of the table was met by none.";
+
+const PROGRESS: u64 = 1000;
+
+fn main() -> ExitCode {
+    let arguments = arguments();
+    let arguments: Vec<&str> = arguments.iter().map(String::as_str).collect();
+    match understand(&arguments) {
+        Ok(None) => finish(NAME, print(USAGE)),
+        Ok(Some((count, seed))) => match table_of(&Judged, count, seed, progress) {
+            Ok(table) => tell(&table),
+            Err(reason) => failed(NAME, &reason),
+        },
+        Err(reason) => misused(NAME, &reason, USAGE),
+    }
+}
+
+/// The count and the seed; none where help is asked for.
+fn understand(arguments: &[&str]) -> Result<Option<(u64, u64)>, String> {
+    match *arguments {
+        ["--help"] => Ok(None),
+        [count, seed] => Ok(Some((number(count)?, number(seed)?))),
+        _ => Err("wrong arguments".to_string()),
+    }
+}
+
+fn progress(number: u64, count: u64) {
+    if number % PROGRESS == 0 || number == count {
+        eprintln!("{NAME}: {number} of {count}");
+    }
+}
+
+fn tell(table: &Table) -> ExitCode {
+    if let Err(error) = print(&table.to_string()) {
+        return finish(NAME, Err(error));
+    }
+    met_all(NAME, &table.missing())
+}

@@ -7,3 +7,4 @@ pub mod ToldLaws
 pub mod CountLaws
 pub mod FollowLaws
 pub mod WhyLaws
+pub mod WhyCasesLaws

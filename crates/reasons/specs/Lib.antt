@@ -3,3 +3,4 @@ pub mod Why
 pub mod ByPlace
 pub mod Follow
 pub mod Told
+pub mod WhyCases

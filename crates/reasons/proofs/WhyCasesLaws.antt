@@ -38,12 +38,29 @@ why-cases =
 
 pub refusal-cases : RefusalCases
 unfolding tells
-refusal-cases = record { unread = refl; other-line = refl; no-line = refl; no-script = refl; no-newline = refl }
+refusal-cases =
+    record {
+      unread = refl;
+      other-line = refl;
+      no-line = refl;
+      no-script = refl;
+      no-newline = refl;
+    }
 
 pub moment-cases : MomentCases
 unfolding tells
-moment-cases = record { disposing = refl; taking = refl; timing-out = refl; nothing = refl }
+moment-cases =
+    record {
+      disposing = refl;
+      taking = refl;
+      timing-out = refl;
+      nothing = refl;
+    }
 
 pub line-cases : LineCases
 unfolding tells
-line-cases = record { every-reason = refl; none-accepted = refl }
+line-cases =
+    record {
+      every-reason = refl;
+      none-accepted = refl;
+    }

@@ -1,0 +1,2 @@
+// Why messages were buffered: a script followed line by line on lent memory, in portions of any size.
+pub mod seen;

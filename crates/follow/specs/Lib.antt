@@ -1,1 +1,3 @@
 pub mod Seen
+pub mod Portion
+pub mod One

@@ -76,12 +76,17 @@ First m op left reason = (ws : List ℕ) → 0 < left → reason ≡ firstReason
 unfoldable pub Later : Operation·rt → ℕ → Type 0
 Later op reason = (ws : List ℕ) → reason ≡ laterReason (operationOf op ws)
 
+-- more than a step's count of messages
+abbrev pub leftLimit : ℕ
+leftLimit = 4_294_967_296
+
 -- what is told of a line is what is seen of it; how many are queued is told of an accepted arrival alone
 pub record Sees (l : Line·rt) (s : Seen) : Type 0 where
   pub answer : l .answer ≡ s .answer
   pub arrival : l .arrival ≡ s .arrival
   pub queued : s .arrival ≡ true → l .queued ≡ s .queued
   pub reasons : s .reasons ≡ leaving (l .left) (l .first) (l .later)
+  pub few : l .left ≤ leftLimit
 
 -- memory of which it is known whether it is a node, and a line at a position
 pub record Steppable (m : List ℕ) (good : Bool) (s : List ℕ) (from : ℕ) (fields : List ℕ) : Type 0 where

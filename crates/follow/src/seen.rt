@@ -23,7 +23,7 @@ ghost use Rattle.rules.specs.Run.{arrivedBy};
 ghost use Rattle.rules.specs.Types.{operationOf};
 ghost use Rattle.reasons.specs.ByPlace.{ownReason};
 ghost use Rattle.script.specs.Read.{lineEnd, lineOf};
-ghost use Rattle.follow.specs.Seen.{Leaves, Arrival, ArrivalKnown, First, Later, Steppable, LineStepped};
+ghost use Rattle.follow.specs.Seen.{leftLimit, Leaves, Arrival, ArrivalKnown, First, Later, Steppable, LineStepped};
 
 // What is seen of a line: where the next one begins, its answer, whether it is an accepted arrival, how many are queued after it then, how many
 // leave the queue at it, and why the first of them and those behind it do.
@@ -62,7 +62,7 @@ fn disposed(answer: u32, trap: u32) -> u64
 
 // How many leave the queue: those moved, and one that is disposed of there.
 fn left_by(op: Operation, answer: u32, trap: u32, moved: u32) -> u64
-    ensures { λ n. ⌜ Leaves op (eqb answer 0 && eqb trap 0) moved n ⌝ }
+    ensures { λ n. ⌜ Leaves op (eqb answer 0 && eqb trap 0) moved n × (n ≤ leftLimit) ⌝ }
 {
     match op {
         Operation::Dispose => moved as u64 + disposed(answer, trap),

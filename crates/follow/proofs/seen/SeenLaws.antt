@@ -32,7 +32,7 @@ use Rattle.script.specs.Read.{LineRead, lineEnd, lineOf}
 use Rattle.script.specs.declared.read.Line.{Line as Read·rt}
 use Rattle.script.proofs.play.PlayLaws.{known-stays}
 use Rattle.script.proofs.read.LineEndLaws.{by-test}
-use Rattle.follow.specs.Seen.{Arrival, ArrivalKnown, First, Later, Leaves, LineStepped, Sees, SeenRuns, eventOn, seenMemory, seenOn, seenStep}
+use Rattle.follow.specs.Seen.{Arrival, ArrivalKnown, First, Later, Leaves, LineStepped, Sees, SeenRuns, eventOn, leftLimit, seenMemory, seenOn, seenStep}
 use Rattle.follow.specs.declared.seen.Line.{Line as Line·rt}
 
 -- Memory that is no node moves nothing and accepts nothing.
@@ -126,11 +126,11 @@ module _ (m : List ℕ) (op : Operation·rt) (ws : List ℕ) {m′ : List ℕ} {
     pub step-known-node : arrival ≡ true → isMemory m′ ≡ true
     step-known-node e = ap isMemory (a .left) ∙ arrived-node m (operationOf op ws) told-arrival e
 
-    pub step-sees : {left queued first later next : ℕ} → Leaves op (eqb (r .answer) 0 && eqb (r .trap) 0) (r .moved) left
+    pub step-sees : {left queued first later next : ℕ} → Leaves op (eqb (r .answer) 0 && eqb (r .trap) 0) (r .moved) left → left ≤ leftLimit
         → (arrival ≡ true → queued ≡ length (nodeAt m′ .queue)) → First m′ op left first → Later op later
         → Sees (record { next = next; answer = r .answer; arrival = arrival; queued = queued; left = left; first = first; later = later }) (seenStep m (operationOf op ws))
     unfolding seenStep seenOf eventReasons arrived wasAccepted First Later eventOn
-    step-sees {left} {first = first} {later = later} l q f b =
+    step-sees {left} {first = first} {later = later} l few q f b =
         let o = operationOf op ws in
         let n = nodeAt (stepMemory m o .memory) in
         let same : nodeAt m′ ≡ n = ap nodeAt (a .left) in
@@ -142,20 +142,21 @@ module _ (m : List ℕ) (op : Operation·rt) (ws : List ℕ) {m′ : List ℕ} {
           reasons =
               ap (λ (k : ℕ). leaving k (firstReason o n) (laterReason o)) (sym e) ∙ ap (leaving left (firstReason o n)) (sym (b ws))
               ∙ leaving-as left later (λ some. sym (f ws some ∙ ap (firstReason o) same));
+          few = few;
         }
 
     -- of a line that was read
     pub line-stepped : {l : List ℕ} {behind next : ℕ} → operationOf op ws ≡ readLine l → next ≡ behind
-        → {left queued first later : ℕ} → Leaves op (eqb (r .answer) 0 && eqb (r .trap) 0) (r .moved) left
+        → {left queued first later : ℕ} → Leaves op (eqb (r .answer) 0 && eqb (r .trap) 0) (r .moved) left → left ≤ leftLimit
         → (arrival ≡ true → queued ≡ length (nodeAt m′ .queue)) → First m′ op left first → Later op later
         → LineStepped m l behind m′ (record { next = next; answer = r .answer; arrival = arrival; queued = queued; left = left; first = first; later = later })
     unfolding seenOn
-    line-stepped {next = next} read e {left} {queued} {first} {later} l q f b =
+    line-stepped {next = next} read e {left} {queued} {first} {later} l few q f b =
         let told : Line·rt = record { next = next; answer = r .answer; arrival = arrival; queued = queued; left = left; first = first; later = later } in
         record {
           next = e;
           memory = a .left ∙ ap (λ (o : Operation). stepMemory m o .memory) read;
-          sees = subst (λ (o : Operation). Sees told (seenStep m o)) read (step-sees {next = next} l q f b);
+          sees = subst (λ (o : Operation). Sees told (seenStep m o)) read (step-sees {next = next} l few q f b);
         }
 
 -- From power-on on.

@@ -25,7 +25,7 @@ queued-after-requires : tie.Need-queued-after-requires
 queued-after-requires c κs = step-known-node _ _ _ (c .before .before .before .before .before .before .step-known .ensures) (c .before .before .is-arrival .ensures)
 
 first-reason-requires : tie.Need-first-reason-requires
-first-reason-requires c κs = step-known-arrival _ _ _ (c .before .before .before .before .before .before .before .before .step-known .ensures) _ (c .before .before .before .left-by .ensures)
+first-reason-requires c κs = step-known-arrival _ _ _ (c .before .before .before .before .before .before .before .before .step-known .ensures) _ (c .before .before .before .left-by .ensures .0)
 
 later-reason-requires : tie.Need-later-reason-requires
 later-reason-requires c κs = search needs
@@ -37,7 +37,7 @@ same-length-2 : tie.Need-same-length-2
 same-length-2 c = search needs
 
 returns : tie.Need-returns
-returns c = line-stepped _ _ _ (c .before .before .before .before .before .before .before .before .before .before .step-known .ensures) (c .before .before .before .before .before .before .is-arrival .ensures) (ap (operationOf (c .before .before .before .before .before .before .before .before .before .before .before .before .before .before .before .before .read-at .result .op)) (c .before .before .before .before .before .before .before .before .before .before .before .words-of .ensures) ∙ c .before .before .before .before .before .before .before .before .before .before .before .before .before .before .before .before .read-at .ensures .operation) (c .before .before .before .before .before .before .before .before .before .before .before .before .before .before .before .before .read-at .ensures .next) (c .before .before .before .before .before .left-by .ensures) (c .before .before .before .queued-after .ensures) (c .before .first-reason .ensures) (c .later-reason .ensures)
+returns c = line-stepped _ _ _ (c .before .before .before .before .before .before .before .before .before .before .step-known .ensures) (c .before .before .before .before .before .before .is-arrival .ensures) (ap (operationOf (c .before .before .before .before .before .before .before .before .before .before .before .before .before .before .before .before .read-at .result .op)) (c .before .before .before .before .before .before .before .before .before .before .before .words-of .ensures) ∙ c .before .before .before .before .before .before .before .before .before .before .before .before .before .before .before .before .read-at .ensures .operation) (c .before .before .before .before .before .before .before .before .before .before .before .before .before .before .before .before .read-at .ensures .next) (c .before .before .before .before .before .left-by .ensures .0) (c .before .before .before .before .before .left-by .ensures .1) (c .before .before .before .queued-after .ensures) (c .before .first-reason .ensures) (c .later-reason .ensures)
 
 pub step-line-spec : {M : Type 1} → statement M
 step-line-spec =

@@ -1,23 +1,28 @@
 -- Lines followed one after the other, and a portion. Assumes nothing.
 use Prim.Native.Nat.{ℕ, _+_, _≤_, _<_}
 use native.Mathlib.Omega.{arith}
-use mathlib.Core.Bool.{Bool}
+use mathlib.Core.Bool.{Bool, true, false, true≢false, not}
 use mathlib.Core.List.{List, [], _∷_, _++_, append-nil}
 use mathlib.Core.Path.{_≡_, refl, sym, ap, subst, _∙_}
 use lib.ListN.{length, take, drop}
-use lib.Seq.{take-all}
+use lib.Seq.{length-take-le, take-all}
+use borrow.Author.Tests.{not-false, not-true}
+use Rattle.rules.specs.Lists.{isEmpty}
 use Rattle.rules.specs.MemoryTest.{isMemory}
-use Rattle.reasons.specs.Follow.{Followed, Seen, followLine, followLines}
+use Rattle.rules.specs.Script.{newline}
+use Rattle.rules.specs.Text.{split}
+use Rattle.reasons.specs.Follow.{Followed, Seen, followLine, followLines, toldAt}
 use Rattle.script.specs.Feed.{Cut, keptLine, keptRoom, lastNumber}
-use Rattle.script.specs.Feeding.{afterLines, begun, linesBehind, whole}
+use Rattle.script.specs.Feeding.{afterLines, allButLast, begun, joinFirst, lastLine, linesBehind, restBehind, whole}
 use Rattle.script.specs.Read.{OneLine, fieldLimit, lineEnd, lineOf}
-use Rattle.script.specs.declared.feed.State.{State as Script·rt}
+use Rattle.script.proofs.feed.FedLaws.{kept-one}
 use Rattle.follow.specs.Seen.{LineStepped, Sees, seenMemory, seenOn}
 use Rattle.follow.specs.Portion.{Goes}
-use Rattle.follow.specs.One.{Followable, FollowedTo, LinesFollowed, PortionFollowed, followedOf}
+use Rattle.follow.specs.One.{Ended, Finished, Followable, FollowedTo, LinesFollowed, followedOf, toldOf}
 use Rattle.follow.specs.declared.one.Followed.{Followed as Followed·rt}
 use Rattle.follow.specs.declared.one.Lines.{Lines as Lines·rt}
 use Rattle.follow.specs.declared.one.State.{State as State·rt}
+use Rattle.follow.specs.declared.one.Told.{Told as Told·rt}
 use Rattle.follow.specs.declared.seen.Line.{Line as Line·rt}
 use Rattle.follow.proofs.one.PlaceLaws.{follow-append}
 use Rattle.follow.proofs.portion.PassedLaws.{Passed, begun-is-one, cut-whole, length-seen, more-lines, one-open, passed-more, passed-start, portion-kept, portion-lines, seen-last}
@@ -88,3 +93,88 @@ module _ {m b u : List ℕ} {lines w : ℕ} {f : Followed·rt} {m₁ kept : List
         kept = p .rest ∙ ap (λ (x : List ℕ). begun (b ++ x)) e;
         few = p .room;
       }
+
+-- A portion.
+
+module _ (m : List ℕ) (st : State·rt) {input : List ℕ} {last : ℕ} (n : ℕ) (few : st .script .lines + length input < lastNumber) (c : Cut input 0 last)
+    (begins : take n (st .script .kept) ≡ keptLine (st .script)) where
+  kept-one-line : OneLine (take n (st .script .kept))
+  unfolding keptLine
+  kept-one-line = kept-one (take keptRoom (take (st .script .count) (st .script .kept))) begins
+
+  pub portion-followable : {good : Bool} → good ≡ isMemory m → keptRoom < length (st .script .kept) → n ≤ keptRoom
+      → Followable m good (st .script .kept) n (take last input) (st .script .lines)
+  portion-followable known room short =
+      record {
+        known = sym known;
+        room = room;
+        few = short;
+        one = kept-one-line;
+        cut = cut-whole kept-one-line c;
+        numbers = let l = length-take-le last input (c .inside) in let i = c .inside in omega arith;
+      }
+
+  pub portion-followed : {m′ kept′ : List ℕ} {r : Lines·rt} → LinesFollowed m (take n (st .script .kept)) (take last input) (st .script .lines) (st .wanted) (st .followed) m′ kept′ r
+      → (kept : List ℕ) (count : ℕ) → take count kept ≡ take keptRoom (take (r .count) kept′ ++ drop last input)
+      → FollowedTo m st input m′ (record { script = record { lines = r .lines; kept = kept; count = count }; wanted = st .wanted; followed = r .followed })
+  portion-followed {r = r} q kept count k =
+      let b = take n (st .script .kept) in
+      let w : whole (b ++ take last input) ≡ linesBehind (keptLine (st .script)) input = portion-lines kept-one-line c ∙ ap (λ (x : List ℕ). linesBehind x input) begins in
+      record {
+        enough = λ h. record {
+          memory = q .memory ∙ ap (afterLines m) w;
+          counted = q .counted ∙ ap (λ (ls : List (List ℕ)). st .script .lines + length ls) w;
+          kept =
+              portion-kept kept-one-line c (r .lines) kept count (k ∙ ap (λ (x : List ℕ). take keptRoom (x ++ drop last input)) (q .kept))
+              ∙ ap (λ (x : List ℕ). take keptRoom (restBehind x input)) begins;
+          wanted = refl;
+          followed = q .followed ∙ ap (λ (ls : List (List ℕ)). followLines (st .wanted) (st .script .lines + 1) (followedOf (st .followed)) (seenMemory m ls)) w;
+        };
+        last-number = λ h. absurd (omega arith);
+      }
+
+-- The script's end.
+
+-- a line that has begun is the last
+ended-last : (b : List ℕ) → false ≡ isEmpty b → linesBehind b (newline ∷ []) ≡ lastLine b
+unfolding linesBehind joinFirst allButLast split lastLine
+ended-last [] e = absurd (true≢false (sym e))
+ended-last (x ∷ b) e = ap (λ (l : List ℕ). l ∷ []) (append-nil (x ∷ b))
+
+none-last : (b : List ℕ) → true ≡ isEmpty b → lastLine b ≡ []
+unfolding lastLine
+none-last [] e = refl
+none-last (x ∷ b) e = absurd (true≢false e)
+
+-- nothing is played any more
+pub ended-here : {m m′ : List ℕ} {st : State·rt} {t : Told·rt} → m′ ≡ m → toldOf t ≡ toldAt (st .script .lines) (followedOf (st .followed)) → Ended m st [] m′ t
+unfolding afterLines seenMemory followLines
+ended-here {st = st} same e = record { memory = same; told = e ∙ ap (λ (k : ℕ). toldAt k (followedOf (st .followed))) (omega arith) }
+
+pub finished-none : {m : List ℕ} {st : State·rt} {t : Told·rt} → false ≡ not (isEmpty (keptLine (st .script))) → toldOf t ≡ toldAt (st .script .lines) (followedOf (st .followed))
+    → Finished m st m t
+finished-none {m} {st} {t} none e =
+    record {
+      enough = λ h. subst (λ (ls : List (List ℕ)). Ended m st ls m t) (sym (none-last (keptLine (st .script)) (sym (not-false (isEmpty (keptLine (st .script))) (sym none))))) (ended-here refl e);
+      last-number = λ h. ended-here refl e;
+    }
+
+pub finished-begun : {m m′ : List ℕ} {st st′ : State·rt} {t : Told·rt} → true ≡ not (isEmpty (keptLine (st .script))) → FollowedTo m st (newline ∷ []) m′ st′
+    → toldOf t ≡ toldAt (st′ .script .lines) (followedOf (st′ .followed)) → Finished m st m′ t
+finished-begun {m} {m′} {st} {st′} {t} some g e =
+    let b = keptLine (st .script) in
+    let w = ended-last b (sym (not-true (isEmpty b) (sym some))) in
+    record {
+      enough = λ h.
+          let p = g .enough (omega arith) in
+          record {
+            memory = p .memory ∙ ap (afterLines m) w;
+            told =
+                e ∙ ap (λ (k : ℕ). toldAt k (followedOf (st′ .followed))) (p .counted)
+                ∙ ap (toldAt (st .script .lines + length (linesBehind b (newline ∷ [])))) (p .followed)
+                ∙ ap (λ (ls : List (List ℕ)). toldAt (st .script .lines + length ls) (followLines (st .wanted) (st .script .lines + 1) (followedOf (st .followed)) (seenMemory m ls))) w;
+          };
+      last-number = λ h.
+          let p = g .last-number (omega arith) in
+          ended-here (p .0) (e ∙ ap (λ (x : State·rt). toldAt (x .script .lines) (followedOf (x .followed))) (p .1));
+    }

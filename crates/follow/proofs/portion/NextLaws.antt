@@ -80,3 +80,8 @@ module _ {m : List ℕ} {good : Bool} {kept : List ℕ} {count : ℕ} {u : List 
         → LineStepped m (take count kept ++ lineOf (drop at u)) (lineEnd u at + 1) m′
         (record { next = end + 1; answer = t .answer; arrival = t .arrival; queued = t .queued; left = t .left; first = t .first; later = t .later })
     next-begun inside g = stepped-as (grown-reads inside) g (ap (λ (j : ℕ). j + 1) e)
+
+-- it ends behind its beginning
+pub next-forward : {m l : List ℕ} (u : List ℕ) (at : ℕ) {m′ : List ℕ} {t : Line·rt} → LineStepped m l (lineEnd u at + 1) m′ t → at < t .next
+unfolding lineEnd
+next-forward u at g = let e = g .next in omega arith

@@ -1,55 +1,60 @@
+-- `follow::one::follow_lines` meets its contract: at each turn the lines so far are stepped and followed, and the memory is still known to be a node or none. The
+-- measure is what is left of the lines. Assumes nothing.
+use Prim.Native.Nat.{_-_}
+use native.Mathlib.Omega.{arith}
+use mathlib.Core.Path.{_≡_, _∙_, refl}
+use lib.ListN.{length, take}
+use Rattle.script.specs.Read.{fieldLimit}
+use Rattle.follow.proofs.one.FollowLaws.{Going, going-end, going-more, going-next, going-start}
+use Rattle.follow.proofs.portion.NextLaws.{next-forward}
+use borrow.Author.Needs.{needs}
 use Rattle.follow.proofs.one.follow_lines.Statement.{statement}
 use Rattle.follow.proofs.one.follow_lines.Tie as tie
-use Rattle.follow.proofs.one.follow_lines.Reads as reads
-use Rattle.follow.proofs.one.follow_lines.Lts as lts
-use Rattle.follow.proofs.one.follow_line.Reads as follow-line-reads
-use Rattle.follow.proofs.portion.next.Reads as next-reads
+
+-- measure is what is left of the lines. Assumes nothing.
+
+-- measure is what is left of the lines. Assumes nothing.
+
+-- measure is what is left of the lines. Assumes nothing.
 
 abbrev Inv-loop : tie.InvT-loop
-Inv-loop memory₀ good kept₀ count whole lines wanted fields₀ at₀ r₀ memory kept fields at r = ?
+Inv-loop memory₀ good kept₀ count whole lines wanted fields₀ at₀ r₀ memory kept fields at r =
+    (length memory ≡ length memory₀)
+    × ((length kept ≡ length kept₀)
+    × ((length fields ≡ fieldLimit) × Going memory₀ (take count kept₀) whole lines wanted (r₀ .followed) memory kept at r))
 
 abbrev μ-loop : tie.MeasureT-loop
-μ-loop memory₀ good kept₀ count whole lines wanted fields₀ at₀ r₀ memory kept fields at r = ?
+μ-loop memory₀ good kept₀ count whole lines wanted fields₀ at₀ r₀ memory kept fields at r = length whole - at
 
--- src/one.rt:164:5
 loop-holds : tie.Need-loop-holds Inv-loop μ-loop
-loop-holds c = ?
+loop-holds c = (refl, (refl, (refl, going-start (c .before .before .before .args .wanted) (c .before .before .before .args .followed) (c .before .before .before .pre))))
 
--- src/one.rt:165:62
 slice-aggregate-next : tie.Need-slice-aggregate-next Inv-loop μ-loop
-slice-aggregate-next c = ?
+slice-aggregate-next c = search needs
 
--- src/one.rt:165:13
 next-requires : tie.Need-next-requires Inv-loop μ-loop
-next-requires c κs = ?
+next-requires c κs = let v = c .before .before .before .before .loop .inv in going-next (v .1 .1 .1) (c .before .before .before .before .before .before .before .before .pre .known) (let l = v .1 .0 in let r = c .before .before .before .before .before .before .before .before .pre .room in omega arith) (c .before .before .before .loop-test .taken) (let f = v .1 .1 .0 in omega arith)
 
--- src/one.rt:167:17
 add-i : tie.Need-add-i Inv-loop μ-loop
-add-i c = ?
+add-i c = let f = c .before .before .before .before .before .before .before .before .before .before .before .loop .inv .1 .1 .1 .passed .few in let t = c .before .before .before .before .before .before .before .before .before .before .loop-test .taken in let n = c .before .before .before .before .before .before .before .before .before .before .before .before .before .before .before .pre .numbers in omega arith
 
--- src/one.rt:172:23
 follow-line-requires : tie.Need-follow-line-requires Inv-loop μ-loop
-follow-line-requires c κs = ?
+follow-line-requires c κs = c .before .before .before .before .before .before .before .next .ensures .sees .few
 
--- src/one.rt:164:5
 loop-less : tie.Need-loop-less Inv-loop μ-loop
-loop-less c = ?
+loop-less c = let f = next-forward (c .before .before .before .before .before .before .before .before .before .before .before .before .before .before .before .before .before .args .whole .now) (c .before .before .before .before .before .before .before .before .before .before .before .before .before .loop .at) (c .before .before .before .before .before .before .before .before .next .ensures) in let t = c .before .before .before .before .before .before .before .before .before .before .before .before .loop-test .taken in omega arith
 
--- src/one.rt:164:5
 loop-again : tie.Need-loop-again Inv-loop μ-loop
-loop-again c = ?
+loop-again c = let v = c .before .before .before .before .before .before .before .before .before .before .before .before .before .loop .inv in (c .before .before .before .before .before .before .before .memory .given ∙ v .0, (c .before .before .before .before .before .kept .given ∙ v .1 .0, (c .before .before .before .fields2 .given, going-more (v .1 .1 .1) (c .before .before .before .before .before .before .before .before .before .before .before .before .loop-test .taken) (c .before .before .before .before .before .before .before .before .next .ensures) (c .follow-line .ensures))))
 
--- src/one.rt:144:1
 same-length : tie.Need-same-length Inv-loop μ-loop
-same-length c = ?
+same-length c = c .before .loop .inv .0
 
--- src/one.rt:144:1
 same-length-2 : tie.Need-same-length-2 Inv-loop μ-loop
-same-length-2 c = ?
+same-length-2 c = c .before .loop .inv .1 .0
 
--- src/one.rt:144:1
 returns : tie.Need-returns Inv-loop μ-loop
-returns c = ?
+returns c = going-end (c .before .loop .inv .1 .1 .1) (c .loop-test .left)
 
 pub follow-lines-spec : {M : Type 1} → statement M
 follow-lines-spec =

@@ -25,7 +25,7 @@ use Rattle.follow.specs.declared.one.State.{State as State·rt}
 use Rattle.follow.specs.declared.one.Told.{Told as Told·rt}
 use Rattle.follow.specs.declared.seen.Line.{Line as Line·rt}
 use Rattle.follow.proofs.one.PlaceLaws.{follow-append}
-use Rattle.follow.proofs.portion.PassedLaws.{Passed, begun-is-one, cut-whole, length-seen, more-lines, one-open, passed-more, passed-start, portion-kept, portion-lines, seen-last}
+use Rattle.follow.proofs.portion.PassedLaws.{Passed, begun-is-one, cut-whole, length-seen, more-lines, one-open, passed-more, passed-start, portion-kept, portion-lines, seen-append}
 
 -- lines of u, where b has begun, are followed up to a position
 pub record Going (m b u : List ℕ) (lines w : ℕ) (f : Followed·rt) (m′ kept : List ℕ) (at : ℕ) (r : Lines·rt) : Type 0 where
@@ -62,6 +62,7 @@ module _ {m b u : List ℕ} {lines w : ℕ} {f : Followed·rt} {m₁ kept : List
       → LineStepped m₁ (take (r .count) kept ++ lineOf (drop at u)) (lineEnd u at + 1) m₂ t
       → ((s : Seen) → Sees t s → followedOf f₂ ≡ followLine w (r .lines + 1) (followedOf (r .followed)) s)
       → Going m b u lines w f m₂ kept₂ (t .next) (record { lines = r .lines + 1; count = 0; followed = f₂ })
+  unfolding followLines seenMemory
   going-more inside {t = t} n d =
       let p = g .passed in
       let l = take (r .count) kept ++ lineOf (drop at u) in
@@ -76,8 +77,8 @@ module _ {m b u : List ℕ} {lines w : ℕ} {f : Followed·rt} {m₁ kept : List
             ∙ ap (λ (k : ℕ). followLine w k (followedOf (r .followed)) (seenOn m₁ l)) number
             ∙ ap (λ (x : Followed). followLine w (lines + 1 + length ss) x (seenOn m₁ l)) (g .followed)
             ∙ ap (λ (x : List ℕ). followLine w (lines + 1 + length ss) before (seenOn x l)) (p .memory)
-            ∙ sym (follow-append w (lines + 1) (followedOf f) ss (seenOn (afterLines m ls) l))
-            ∙ ap (followLines w (lines + 1) (followedOf f)) (sym (seen-last m ls l))
+            ∙ sym (follow-append w (lines + 1) (followedOf f) ss (seenOn (afterLines m ls) l ∷ []))
+            ∙ ap (followLines w (lines + 1) (followedOf f)) (sym (seen-append m ls (l ∷ [])))
             ∙ ap (λ (x : List (List ℕ)). followLines w (lines + 1) (followedOf f) (seenMemory m x)) (sym (more-lines p inside (t .next) (n .next) .0));
       }
 

@@ -53,11 +53,11 @@ module _ (i : ℕ) (t : Told) where
       behind-later (suc p) k b (omega arith) ∙ ap (λ (n : ℕ). record { place = n; told = t }) e
 
   -- there is none to follow
-  pub moved-none : (p k a b : ℕ) → p ≡ 0 → movedUp i t p (leaving k a b) ≡ record { place = p; told = t }
-  unfolding movedUp leaving
-  moved-none zero zero a b h = refl
-  moved-none zero (suc k) a b h = refl
-  moved-none (suc p) k a b h = absurd (omega arith)
+  pub moved-none : (p : ℕ) (rs : List ℕ) → p ≡ 0 → movedUp i t p rs ≡ record { place = p; told = t }
+  unfolding movedUp
+  moved-none zero [] h = refl
+  moved-none zero (r ∷ rs) h = refl
+  moved-none (suc p) rs h = absurd (omega arith)
 
   -- it is the first that leaves, or behind it
   pub moved-first : (p k a b : ℕ) → p ≡ 1 → p ≤ k → movedUp i t p (leaving k a b) ≡ record { place = 0; told = told a i }
@@ -119,10 +119,18 @@ told-queued last f n = rw (ne-eqb (f .place) 0 n)
 
 -- Lines one behind the other.
 
-pub follow-append : (w i : ℕ) (f : Followed) (ss : List Seen) (s : Seen) → followLines w i f (ss ++ (s ∷ [])) ≡ followLine w (i + length ss) (followLines w i f ss) s
+pub follow-append : (w i : ℕ) (f : Followed) (ss ts : List Seen) → followLines w i f (ss ++ ts) ≡ followLines w (i + length ss) (followLines w i f ss) ts
 unfolding followLines
-follow-append w i f [] s = let e : i ≡ i + 0 = omega arith in ap (λ (k : ℕ). followLine w k f s) e
-follow-append w i f (x ∷ ss) s =
+follow-append w i f [] ts = let e : i ≡ i + 0 = omega arith in ap (λ (k : ℕ). followLines w k f ts) e
+follow-append w i f (x ∷ ss) ts =
     let e : suc i + length ss ≡ i + suc (length ss) = omega arith in
-    follow-append w (suc i) (followLine w i f x) ss s
-    ∙ ap (λ (k : ℕ). followLine w k (followLines w (suc i) (followLine w i f x) ss) s) e
+    follow-append w (suc i) (followLine w i f x) ss ts
+    ∙ ap (λ (k : ℕ). followLines w k (followLines w (suc i) (followLine w i f x) ss) ts) e
+
+-- behind the line wanted nothing changes where there is none to follow
+pub follow-settled : (w i : ℕ) (f : Followed) (ss : List Seen) → w < i → f .place ≡ 0 → followLines w i f ss ≡ f
+unfolding followLines followLine
+follow-settled w i f [] h e = refl
+follow-settled w i f (s ∷ ss) h e =
+    let k : followLine w i f s ≡ f = rw (ne-eqb i w (λ q. omega arith)) (moved-none i (f .told) (f .place) (s .reasons) e) in
+    ap (λ (x : Followed). followLines w (suc i) x ss) k ∙ follow-settled w (suc i) f ss (omega arith) e

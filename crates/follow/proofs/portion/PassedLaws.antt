@@ -110,10 +110,10 @@ unfolding seenMemory
 length-seen m [] = refl
 length-seen m (l ∷ ls) = ap suc (length-seen (stepMemory m (readLine l) .memory) ls)
 
-pub seen-last : (m : List ℕ) (ls : List (List ℕ)) (l : List ℕ) → seenMemory m (ls ++ (l ∷ [])) ≡ seenMemory m ls ++ (seenOn (afterLines m ls) l ∷ [])
+pub seen-append : (m : List ℕ) (ks ls : List (List ℕ)) → seenMemory m (ks ++ ls) ≡ seenMemory m ks ++ seenMemory (afterLines m ks) ls
 unfolding seenMemory afterLines
-seen-last m [] l = refl
-seen-last m (k ∷ ls) l = ap (λ (ss : List Seen). seenOn m k ∷ ss) (seen-last (stepMemory m (readLine k) .memory) ls l)
+seen-append m [] ls = refl
+seen-append m (k ∷ ks) ls = ap (λ (ss : List Seen). seenOn m k ∷ ss) (seen-append (stepMemory m (readLine k) .memory) ks ls)
 
 -- The portion's end: behind its last newline no line is whole, and what stands there is kept behind what has begun.
 

@@ -1,6 +1,7 @@
 -- `follow::one::moved_up` meets its contract: a message moves up by as many as leave before it. Assumes nothing.
 use native.Mathlib.Omega.{arith}
 use mathlib.Core.Path.{ap, sym, _∙_}
+use Rattle.reasons.specs.ByPlace.{leaving}
 use Rattle.follow.specs.One.{followedOf, toldOf}
 use Rattle.follow.proofs.one.PlaceLaws.{moved-behind, moved-first, moved-later, moved-none}
 use borrow.Author.Needs.{needs}
@@ -14,7 +15,7 @@ returns : tie.Need-returns
 returns c = sym (moved-behind (c .before .before .before .before .args .i) (toldOf (c .before .before .before .before .args .f .told)) (c .before .before .before .before .args .f .place) (c .before .before .before .before .args .l .left) (c .before .before .before .before .args .l .first) (c .before .before .before .before .args .l .later) (c .before .if1 .taken))
 
 returns-2 : tie.Need-returns-2
-returns-2 c = sym (moved-none (c .before .before .before .before .args .i) (toldOf (c .before .before .before .before .args .f .told)) (c .before .before .before .before .args .f .place) (c .before .before .before .before .args .l .left) (c .before .before .before .before .args .l .first) (c .before .before .before .before .args .l .later) (c .if2 .taken))
+returns-2 c = sym (moved-none (c .before .before .before .before .args .i) (toldOf (c .before .before .before .before .args .f .told)) (c .before .before .before .before .args .f .place) (leaving (c .before .before .before .before .args .l .left) (c .before .before .before .before .args .l .first) (c .before .before .before .before .args .l .later)) (c .if2 .taken))
 
 left-in-requires : tie.Need-left-in-requires
 left-in-requires c κs = search needs

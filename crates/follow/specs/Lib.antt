@@ -1,0 +1,4 @@
+pub mod Seen
+pub mod Portion
+pub mod One
+pub mod Portions

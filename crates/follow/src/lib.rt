@@ -1,0 +1,4 @@
+// Why messages were buffered: a script followed line by line on lent memory, in portions of any size.
+pub mod one;
+pub mod portion;
+pub mod seen;

@@ -1,17 +1,16 @@
 -- How many moments of each kind a run has. Assumes nothing.
 use Prim.Native.Nat.{ℕ, zero, suc, _+_}
-use native.Mathlib.Nat.{add-zero, zero-add}
+use native.Mathlib.Nat.{zero-add}
 use native.Mathlib.Omega.{arith}
-use mathlib.Core.Path.{_≡_, refl, sym, ap, _∙_, subst}
-use mathlib.Core.Logic.{_≢_}
+use mathlib.Core.Path.{_≡_, refl, sym, ap, _∙_}
 use mathlib.Core.Bool.{Bool, true, false, cond, not, _&&_}
 use mathlib.Core.List.{List, [], _∷_, _++_, map}
 use lib.Dec.{eqb}
-use lib.ListN.{length, length-append, replicate, length-replicate}
+use lib.ListN.{length, length-append, length-replicate}
 use Rattle.rules.specs.Lists.{isEmpty, sum}
-use Rattle.rules.specs.Build.{Build, Sensible, groupCount}
-use Rattle.rules.specs.Node.{Message, Node, bufferHolds, buffered, line, powerOn, timerRuns}
-use Rattle.rules.specs.Operation.{Request, poll, peek, dispose, beginAtomic, endAtomic, describe, launch}
+use Rattle.rules.specs.Build.{Build, Sensible}
+use Rattle.rules.specs.Node.{Message, Node, bufferHolds, line, powerOn, timerRuns}
+use Rattle.rules.specs.Operation.{poll, peek, dispose, beginAtomic, endAtomic, describe, launch}
 use Rattle.rules.specs.Operation.{Operation, arrive, schedule, preempt, dispatch, tick, user, unknown, allZero, disposeExtend, noTrap, refused}
 use Rattle.rules.specs.Paging.{store}
 use Rattle.rules.specs.Refusal.{refusal, refuseRequest}
@@ -23,7 +22,7 @@ use Rattle.rules.proofs.Private.EventLaws.{arrived-none, disposed-none, eventOf
 use Rattle.rules.proofs.Private.RequestLaws.{dispose-some, suc-zero}
 use Rattle.rules.proofs.Steps.ActLaws.{user-accepted}
 use Rattle.rules.proofs.Steps.LineLaws.{buffered-holds}
-use Rattle.rules.proofs.Steps.StepLaws.{OneAct, given, power-on-valid, step-law, step-valid, taken}
+use Rattle.rules.proofs.Steps.StepLaws.{OneAct, power-on-valid, step-law, step-valid, taken}
 use Rattle.reasons.specs.ByPlace.{eventReasons, firstReason, laterReason, leaving}
 use Rattle.reasons.specs.Moments.{Dated, Facts, Moment, facts, actMoments, disposeMoments, disposed, drainMoments, headed, joinMoments, joined, moved, nextHeaded, oneActMoments, passMoments, performedMoments, runMoments, stepMoments, takeMoments, tickMoments, ticksMoments}
 use Rattle.reasons.specs.Told.{Counted, count, isDisposed, isHeaded, isJoined, isMoved}

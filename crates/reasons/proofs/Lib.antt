@@ -1,5 +1,8 @@
 pub mod Trail
 pub mod SettleTrail
+pub mod ActTrail
+pub mod DisposeTrail
+pub mod ArriveTrail
 pub mod StepTrail
 pub mod RunTrail
 pub mod NamedLaws

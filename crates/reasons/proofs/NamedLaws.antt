@@ -1,13 +1,13 @@
 -- The reason that is computed is the one that the rule names, and "never buffered" and "still queued" exclude every other. Assumes nothing.
-use Prim.Native.Nat.{ℕ, zero, suc, _+_, _≤_, _<_}
+use Prim.Native.Nat.{ℕ, zero, suc, _≤_, _<_}
 use native.Mathlib.Omega.{arith}
 use mathlib.Core.Path.{_≡_, refl, sym, ap, _∙_, subst}
 use mathlib.Core.Logic.{_≢_}
 use mathlib.Core.Bool.{Bool, true, false, true≢false, false≢true, cond, not}
-use mathlib.Core.List.{List, [], _∷_}
+use mathlib.Core.List.{List, _∷_}
 use lib.Dec.{eqb}
 use lib.ListN.{length}
-use borrow.Author.Tests.{eq-eqb, eqb-false, ne-eqb}
+use borrow.Author.Tests.{eqb-false, ne-eqb}
 use Rattle.reasons.specs.Moments.{Facts, Dated}
 use Rattle.reasons.specs.Why.{Because, disposed-of, group-revoked, not-running, older-waiting, processor-taken, still-queued, timed-out}
 use Rattle.reasons.specs.Why.{Departure, Heading, How, Leaving, MovedWith, Named, NamedLine, Nth, Told, byDisposal, byMove, headings, here, leavings, movedFor, tellMessage, there, told}

@@ -1,12 +1,11 @@
 -- The trails of settling, of a drain and of ticks. A pass that goes on while a direct group runs moves other groups' messages alone, each of which became
 -- head while that group ran; with nobody running it moves all, each but the first having become head then. Assumes nothing.
 use Prim.Native.Nat.{ℕ, zero, suc, _+_, _≤_}
-use native.Mathlib.Decide.{ℕ-discrete}
-use native.Mathlib.Nat.{add-zero, zero-add}
+use native.Mathlib.Nat.{add-zero}
 use native.Mathlib.Omega.{arith}
 use mathlib.Core.Path.{_≡_, refl, sym, ap, _∙_, subst, subst₂}
 use mathlib.Core.Logic.{_≢_}
-use mathlib.Core.Bool.{Bool, true, false, true≢false, cond, not, _&&_}
+use mathlib.Core.Bool.{Bool, true, false, true≢false, cond}
 use mathlib.Core.List.{List, [], _∷_, _++_}
 use lib.Dec.{eqb}
 use lib.ListN.{length, replicate}
@@ -15,12 +14,12 @@ use Rattle.rules.specs.Lists.{Every}
 use Rattle.rules.specs.Build.{Build}
 use Rattle.rules.specs.Node.{Message, Node, groupOf, withTimer, withQueue, withGroup, bufferHolds, buffered, timerRuns}
 use Rattle.rules.specs.Paging.{store}
-use Rattle.rules.specs.Settling.{Moved, oneMore, mayStay, pass, drain}
+use Rattle.rules.specs.Settling.{Moved, oneMore, mayStay, pass}
 use Rattle.rules.specs.Sound.{Sound}
 use Rattle.rules.specs.Step.{Effect, counted, oneTick, revoke, ticks, timedOut, timerFlagged}
 use Rattle.rules.specs.Valid.{GoodMessage}
 use Rattle.rules.proofs.Steps.LineLaws.{may-stay, neither, stays}
-use Rattle.rules.proofs.Steps.SettlingLaws.{drain-queue, pass-induct, store-running}
+use Rattle.rules.proofs.Steps.SettlingLaws.{drain-queue, store-running}
 use Rattle.rules.proofs.Steps.StoreLaws.{store-flags, store-other, store-sound}
 use Rattle.reasons.specs.Moments.{Moment, moved, drainMoments, facts, nextHeaded, passMoments, tickMoments, ticksMoments}
 use Rattle.reasons.specs.Why.{Heading, movedFor}

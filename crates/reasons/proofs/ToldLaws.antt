@@ -5,14 +5,12 @@ use native.Mathlib.Nat.{add-zero, zero-add}
 use native.Mathlib.Omega.{arith}
 use mathlib.Core.Path.{_≡_, refl, sym, ap, _∙_, subst}
 use mathlib.Core.Logic.{_≢_, _⊎_, inl, inr}
-use mathlib.Core.Bool.{Bool, true, false, cond}
 use mathlib.Core.List.{List, [], _∷_, _++_}
 use lib.Dec.{eqb}
 use lib.ListN.{length, length-append}
 use borrow.Author.Tests.{eq-eqb, ne-eqb}
-use Rattle.rules.specs.Lists.{isEmpty}
 use Rattle.rules.specs.Build.{paper01}
-use Rattle.rules.specs.Node.{Message, powerOn}
+use Rattle.rules.specs.Node.{Message}
 use Rattle.rules.specs.Operation.{accepted, unreadable}
 use Rattle.rules.specs.Run.{Event, arrived, arrivals, arrivedBy, run, wasAccepted}
 use Rattle.rules.specs.Script.{scriptLines}

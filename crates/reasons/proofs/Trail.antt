@@ -1,13 +1,13 @@
 -- A stretch of moments, read with what became head before it: each message becomes head before it leaves, and one at a time. Whatever is told of a run is
 -- told along its trail: the reasons, how many became head and left, and that what a rule names holds. Assumes nothing.
 use Prim.Native.Nat.{ℕ, zero, suc, _+_}
-use native.Mathlib.Nat.{add-zero, zero-add}
+use native.Mathlib.Nat.{zero-add}
 use native.Mathlib.Omega.{arith}
-use mathlib.Core.Path.{_≡_, refl, sym, ap, _∙_, subst}
-use mathlib.Core.Bool.{Bool, true}
-use mathlib.Core.List.{List, [], _∷_, _++_, map}
+use mathlib.Core.Path.{_≡_, sym, ap, _∙_}
+use mathlib.Core.Bool.{true}
+use mathlib.Core.List.{List, [], _∷_, _++_}
 use lib.Dec.{eqb}
-use lib.ListN.{length, replicate}
+use lib.ListN.{replicate}
 use Rattle.rules.specs.Node.{Message}
 use Rattle.reasons.specs.Moments.{Facts, Moment, joined, headed, disposed, moved, nextHeaded}
 use Rattle.reasons.specs.Why.{Heading, movedFor}

@@ -1,7 +1,7 @@
 -- Order 6, the statements. Assumes nothing.
-use Prim.Native.Nat.{ℕ, _+_, _<_}
+use Prim.Native.Nat.{ℕ, _+_}
 use mathlib.Core.Path.{_≡_}
-use mathlib.Core.Logic.{_↔_, _≢_}
+use mathlib.Core.Logic.{_≢_}
 use mathlib.Core.Bool.{cond}
 use mathlib.Core.List.{List, [], _∷_, _++_, map}
 use lib.ListN.{length}
@@ -11,7 +11,7 @@ use Rattle.rules.specs.Node.{Message, powerOn}
 use Rattle.rules.specs.Run.{Input, Event, run, arrived, arrivals, left}
 use Rattle.rules.specs.Script.{scriptLines}
 use Rattle.reasons.specs.Moments.{Moment, joined, headed, disposed, moved, Dated, runMoments}
-use Rattle.reasons.specs.Why.{Because, Named, NamedLine, Departure, headings, leavings, departures, Told, untold, stepsOf, momentsOf, why, whyAll}
+use Rattle.reasons.specs.Why.{Because, Named, NamedLine, headings, leavings, departures, Told, untold, stepsOf, momentsOf, why, whyAll}
 use Rattle.reasons.specs.ByPlace.{placeDepartures}
 use Rattle.reasons.specs.Follow.{Seen, seenRun, unfollowed, followLines, toldAt, tellLines, stillWaiting, tellQueued, tellingLines}
 

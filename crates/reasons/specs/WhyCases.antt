@@ -5,10 +5,8 @@ use Prim.Native.String.{String}
 use mathlib.Core.Path.{_≡_}
 use mathlib.Core.Bool.{true, false}
 use mathlib.Core.List.{List, [], _∷_, map}
-use Rattle.rules.specs.Build.{paper01}
-use Rattle.rules.specs.Lists.{upFrom}
 use Rattle.rules.specs.Text.{bytes}
-use Rattle.reasons.specs.Moments.{Moment, Dated, Facts, joined, headed, disposed, moved}
+use Rattle.reasons.specs.Moments.{Moment, Dated, joined, headed, disposed, moved}
 use Rattle.reasons.specs.Why.{Told, told, untold, momentsOf, why, whyAll}
 
 -- of each of these lines of a script

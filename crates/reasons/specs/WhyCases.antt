@@ -53,7 +53,7 @@ pub record RefusalCases : Type 0 where
   -- "then with 17 one that isn't an accepted arrival": another operation, and an arrival that is refused
   pub other-line : answers "S,1\nA,9,1\n" (1 ∷ 2 ∷ []) ≡ untold 17 ∷ untold 17 ∷ []
   -- "or isn't in the script": line 0, and the line behind the last, in an empty script too
-  pub no-line : answers "S,1\nA,1,7\n" (0 ∷ 3 ∷ 4 ∷ []) ≡ untold 17 ∷ untold 17 ∷ untold 17 ∷ []
+  pub no-line : answers "A,1,7\nA,1,8\n" (0 ∷ 3 ∷ 4 ∷ []) ≡ untold 17 ∷ untold 17 ∷ untold 17 ∷ []
   pub no-script : answers "" (0 ∷ 1 ∷ []) ≡ untold 17 ∷ untold 17 ∷ []
   -- a last line without its newline is one
   pub no-newline : answers "S,1\nA,1,7\nM" (2 ∷ 3 ∷ 4 ∷ []) ≡ told 2 3 ∷ untold 17 ∷ untold 17 ∷ []

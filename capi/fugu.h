@@ -10,9 +10,9 @@
  * Where no message waits, the page frames and swap pages of a node are 0: a message that is disposed of and a page that goes elsewhere leave
  * no word behind, and memory with a word left there is no node.
  *
- * What a call has to tell, a report, where the head message stands or how many pages went, it writes into a part that the caller lends beside
- * the memory, and returns how many words it wrote there. Where the part is too short it returns 0, and neither the memory nor the part has changed. Words of
- * the part behind those written stay as they were.
+ * What a call has to tell, a report, where the head message stands, how many pages went or why a message was buffered, it writes into a part
+ * that the caller lends beside the memory, and returns how many words it wrote there. Where the part is too short it returns 0, and neither the
+ * memory nor the part has changed. Words of the part behind those written stay as they were.
  *
  * What a caller owes: each pointer is not null, is aligned for its type, and has as many words or bytes behind it as the length after it says,
  * where a length may be 0; and what a call writes overlaps nothing else that it is handed.
@@ -34,7 +34,8 @@ enum {
     FUGU_SIZE = 8104,  /* the words of a node */
     FUGU_REPORT = 16,  /* the words of a report */
     FUGU_HEAD = 2,     /* the words that say where the head message stands */
-    FUGU_PAGING = 2    /* the words that say how many pages went to swap space and back */
+    FUGU_PAGING = 2,   /* the words that say how many pages went to swap space and back */
+    FUGU_WHY = 4       /* the words that say why a message was buffered */
 };
 
 /* Where each number stands in a report. Of a refused step all but the answer are 0. */
@@ -68,7 +69,26 @@ enum {
     FUGU_BAD_NODE = 13,
     FUGU_BAD_SCHEDULE = 14,
     FUGU_BAD_TICKS = 15,
-    FUGU_ALREADY_RUNS = 16
+    FUGU_ALREADY_RUNS = 16,
+    FUGU_NO_ARRIVAL = 17  /* of fugu_why alone */
+};
+
+/* Where each number stands in what fugu_why tells, behind the answer. Where it refuses they are 0. */
+enum {
+    FUGU_REASON = 1,
+    FUGU_LINE_LOW = 2,  /* the line that the reason is named with: its low 32 bits, */
+    FUGU_LINE_HIGH = 3  /* and its high ones */
+};
+
+/* The reasons, and the line that each is named with: the one that moved the message, where nothing else is said. */
+enum {
+    FUGU_DISPOSED_OF = 1,    /* never buffered, disposed of: the line that disposed of it */
+    FUGU_STILL_QUEUED = 2,   /* still in the hardware queue: the script's last */
+    FUGU_NOT_RUNNING = 3,    /* its group wasn't running when it became head */
+    FUGU_OLDER_WAITING = 4,  /* older messages of its group were waiting in the buffer */
+    FUGU_REVOKED = 5,        /* its group was revoked */
+    FUGU_TIMEOUT = 6,        /* timeout */
+    FUGU_PROCESSOR_TAKEN = 7 /* the processor was taken */
 };
 
 /* The words of a node: FUGU_SIZE. */
@@ -99,6 +119,13 @@ uint32_t fugu_head(const uint32_t *memory, size_t memory_length, uint32_t *FUGU_
 /* Pages that went to swap space and back: into the part go how many were sent out so far, and how many were brought in, an exchange being one
  * of each. A count stays at 4,294,967,295 once there. 0 and 0 where the memory is no node. */
 uint32_t fugu_paging(const uint32_t *memory, size_t memory_length, uint32_t *FUGU_LENT part, size_t part_length);
+
+/* Why the message that came by a line of a script was buffered, or where it went instead: into the part go 0, the reason, and the line that it is
+ * named with. Lines count from 1, and the last may lack its newline. A line that the listing answers with 2 is refused with 2, any other that is no
+ * accepted arrival, or not in the script, with 17. The memory, of at least FUGU_SIZE words, whatever stands in it, becomes a node, and the whole
+ * script is played on it: it is left as after the script, whatever is told. Shorter memory is refused with 1 first and left as it was. */
+uint32_t fugu_why(uint32_t *FUGU_LENT memory, size_t memory_length, const uint8_t *script, size_t script_length, uint32_t line,
+                  uint32_t *FUGU_LENT part, size_t part_length);
 
 #undef FUGU_LENT
 

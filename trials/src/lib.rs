@@ -1,4 +1,4 @@
-//! The proved calls held against the judge on random memories.
+//! The proved calls held against the judge on random memories and scripts.
 //!
 //! Neither knows the other: `fugu` is the interface to the proved library, `judge` the program that
 //! was written from the paper alone.

@@ -1,38 +1,46 @@
-//! Why messages of random scripts were buffered: every line of each script is asked for, the answers are
-//! held against the judge's, and what they are is counted.
+//! Why messages of random scripts were buffered: every line of each script is asked for, the answers of
+//! the proved call are held against the judge's, and what they are is counted.
 
 use std::fmt::{self, Display, Formatter};
 
+use fugu::{calls, SIZE, WHY};
 use judge::generator::FLAVOURS;
 use judge::random::Random;
-use judge::why::{answer, answers, Answer, Reason, Refused, Why};
+use judge::why::{answers, Answer, Reason, Refused, Why};
 
 /// The lines of a script: each is asked for by a run of all of them.
 const LINES: u64 = 150;
 /// So many scripts, ten of each flavour, are held to meet everything; half of it is enough for most seeds.
 const ENOUGH: u64 = 140;
 
-/// An answer in numbers: 0, the reason and its line; or the refusal and zeros.
-pub type Told = [u32; 3];
+/// An answer in words: 0, the reason, and the low and high bits of its line; or the refusal and zeros.
+pub type Told = [u32; WHY];
 
 /// What is asked why.
 pub trait Reasons {
     fn why(&self, script: &[u8], line: u32) -> Told;
 }
 
-/// The judge, asked for one line alone.
-pub struct Judged;
+/// The proved library, asked for one line alone.
+pub struct Proved;
 
-impl Reasons for Judged {
+impl Reasons for Proved {
     fn why(&self, script: &[u8], line: u32) -> Told {
-        told(answer(script, line.into()).expect("memory is read without error"))
+        let mut told = [0; WHY];
+        let written = calls::why(&mut vec![0; SIZE], script, line, &mut told);
+        assert_eq!(
+            written as usize, WHY,
+            "the memory and the part are long enough"
+        );
+        told
     }
 }
 
-fn told(answer: Answer) -> Told {
+/// The judge's answer in words.
+pub fn told(answer: Answer) -> Told {
     match answer {
-        Ok(Why { reason, line }) => [0, reason as u32, line as u32],
-        Err(refused) => [refused as u32, 0, 0],
+        Ok(Why { reason, line }) => [0, reason as u32, line as u32, (line >> 32) as u32],
+        Err(refused) => [refused as u32, 0, 0, 0],
     }
 }
 

@@ -42,6 +42,15 @@ mod raw {
             part: *mut u32,
             part_length: usize,
         ) -> u32;
+        pub fn fugu_why(
+            memory: *mut u32,
+            memory_length: usize,
+            script: *const u8,
+            script_length: usize,
+            line: u32,
+            part: *mut u32,
+            part_length: usize,
+        ) -> u32;
     }
 }
 
@@ -111,4 +120,21 @@ pub fn head(memory: &[u32], part: &mut [u32]) -> u32 {
 /// node.
 pub fn paging(memory: &[u32], part: &mut [u32]) -> u32 {
     unsafe { raw::fugu_paging(memory.as_ptr(), memory.len(), part.as_mut_ptr(), part.len()) }
+}
+
+/// Why the message that came by a line of a script was buffered: 0, the reason, and the low and high 32
+/// bits of the line that it is named with; or the refusal, 2 or 17, and zeros. The memory becomes a node,
+/// and the script is played on it; shorter memory is refused with 1 first, and left as it was.
+pub fn why(memory: &mut [u32], script: &[u8], line: u32, part: &mut [u32]) -> u32 {
+    unsafe {
+        raw::fugu_why(
+            memory.as_mut_ptr(),
+            memory.len(),
+            script.as_ptr(),
+            script.len(),
+            line,
+            part.as_mut_ptr(),
+            part.len(),
+        )
+    }
 }

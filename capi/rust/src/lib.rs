@@ -5,6 +5,7 @@
 //! - [`Node`]: memory, owned or lent, with the calls as methods.
 //! - [`Report`]: what a step reported; [`answer`] has its answers by name.
 //! - [`Paging`]: how many pages went to swap space and back.
+//! - [`why()`]: why a message of a script was buffered.
 //! - [`listing`]: a script played on a node, with its listing.
 //! - [`kept`]: memory kept in a file. With the script it makes the program `desk`.
 //!
@@ -24,9 +25,11 @@ pub mod kept;
 pub mod listing;
 mod node;
 mod report;
+mod why;
 
 pub use node::{Node, Paging};
 pub use report::{Report, Sent};
+pub use why::{why, Reason, Refused, Why};
 
 /// The words of a node.
 pub const SIZE: usize = 8104;
@@ -39,3 +42,6 @@ pub const HEAD: usize = 2;
 
 /// The words that say how many pages went to swap space and back.
 pub const PAGING: usize = 2;
+
+/// The words that say why a message was buffered.
+pub const WHY: usize = 4;

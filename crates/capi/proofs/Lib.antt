@@ -1,3 +1,4 @@
 pub mod ToldLaws
 pub mod NumberLaws
 pub mod HeadRange
+pub mod WhyLaws

@@ -6,6 +6,7 @@ pub mod paging;
 pub mod power;
 pub mod report;
 pub mod steps;
+pub mod why;
 
 use memory::map;
 use validate::is_node;

@@ -1,9 +1,9 @@
-//! Why messages of random scripts were buffered, asked line by line and held against the judge.
+//! Why messages of random scripts were buffered: the proved call, asked line by line, held against the judge.
 
 use std::process::ExitCode;
 
 use judge::program::{arguments, failed, finish, met_all, misused, number, print};
-use trials::why::{table_of, Judged, Table};
+use trials::why::{table_of, Proved, Table};
 
 const NAME: &str = "reasons";
 const USAGE: &str = "\
@@ -11,9 +11,9 @@ usage: bin/reasons COUNT SEED
        bin/reasons --help
 
 Makes COUNT random scripts of 150 lines, of every flavour of bin/scripts in turn. Each line of each
-script, line 0 and the one past the last are asked why the message that came by them was buffered. The
-answer for that line alone is held against those that the judge finds in one run of the script: the
-reason and the line that it is named with, or the refusal.
+script, line 0 and the one past the last are asked why the message that came by them was buffered. What
+the proved call tells of that line alone, playing the script anew, is held word for word against what the
+judge finds in one run of the script: the reason and the line that it is named with, or the refusal.
 
 At the end there is a table of what was met: each reason, reason 3 by where the message was moved and
 reason 6 by whether it had been head, and each refusal, 17 by what was asked for. The exit status is 1 at
@@ -27,7 +27,7 @@ fn main() -> ExitCode {
     let arguments: Vec<&str> = arguments.iter().map(String::as_str).collect();
     match understand(&arguments) {
         Ok(None) => finish(NAME, print(USAGE)),
-        Ok(Some((count, seed))) => match table_of(&Judged, count, seed, progress) {
+        Ok(Some((count, seed))) => match table_of(&Proved, count, seed, progress) {
             Ok(table) => tell(&table),
             Err(reason) => failed(NAME, &reason),
         },

@@ -2,7 +2,17 @@
 
 use std::collections::BTreeSet;
 
-use trials::why::{table_of, Judged, Reasons, Table, Told};
+use judge::why::answer;
+use trials::why::{table_of, told, Proved, Reasons, Table, Told};
+
+/// The judge, asked for one line alone.
+struct Judged;
+
+impl Reasons for Judged {
+    fn why(&self, script: &[u8], line: u32) -> Told {
+        told(answer(script, line.into()).expect("memory is read without error"))
+    }
+}
 
 /// The right answers, and what is done to them.
 struct Wrong<F>(F);
@@ -22,6 +32,7 @@ fn first_difference(reasons: &impl Reasons) -> Option<String> {
 
 #[test]
 fn the_right_answers_agree() {
+    assert_eq!(first_difference(&Proved), None);
     assert_eq!(first_difference(&Judged), None);
     assert_eq!(first_difference(&Wrong(|_, _: &mut Told| ())), None);
 }
@@ -59,8 +70,10 @@ fn a_wrong_answer_is_found() {
 #[test]
 fn a_wrong_line_is_found() {
     for reason in 1..=7 {
-        let later = Wrong(move |_, told: &mut Told| told[2] += u32::from(told[1] == reason));
-        assert!(first_difference(&later).is_some(), "{reason}");
+        for word in [2, 3] {
+            let later = Wrong(move |_, told: &mut Told| told[word] += u32::from(told[1] == reason));
+            assert!(first_difference(&later).is_some(), "{reason}, word {word}");
+        }
     }
 }
 
@@ -68,7 +81,7 @@ fn a_wrong_line_is_found() {
 fn a_difference_is_told_with_its_script_and_line() {
     let past = Wrong(|line, told: &mut Told| {
         if line == 151 {
-            *told = [2, 0, 0];
+            *told = [2, 0, 0, 0];
         }
     });
     let difference = first_difference(&past).expect("a difference");
@@ -76,7 +89,7 @@ fn a_difference_is_told_with_its_script_and_line() {
     assert!(script.starts_with("script 1, bin/scripts "), "{script}");
     assert_eq!(
         told,
-        "line 151: answer, reason, line: judge [17, 0, 0], library [2, 0, 0]"
+        "line 151: answer, reason, line: judge [17, 0, 0, 0], library [2, 0, 0, 0]"
     );
 }
 

@@ -8,3 +8,4 @@ mod memory;
 mod paging;
 mod parts;
 mod support;
+mod why;

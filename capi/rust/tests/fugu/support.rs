@@ -44,3 +44,12 @@ pub fn taken_apart(line: &[u8]) -> Option<(u8, Vec<u32>)> {
         .collect::<Option<_>>()?;
     Some((letter, numbers))
 }
+
+/// A script's lines: behind the last newline none begins.
+pub fn lines(script: &[u8]) -> Vec<&[u8]> {
+    let mut lines: Vec<_> = script.split(|&byte| byte == b'\n').collect();
+    if lines.last().is_some_and(|line| line.is_empty()) {
+        lines.pop();
+    }
+    lines
+}

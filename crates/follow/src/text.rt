@@ -28,7 +28,11 @@ fn put_reason(out: &mut [u8], at: usize, reason: u32) -> usize
         DISPOSED_OF => put_text(out, at, b"never buffered, disposed of"),
         STILL_QUEUED => put_text(out, at, b"still in the hardware queue"),
         NOT_RUNNING => put_text(out, at, b"its group wasn't running when it became head"),
-        OLDER_WAITING => put_text(out, at, b"older messages of its group were waiting in the buffer"),
+        OLDER_WAITING => put_text(
+            out,
+            at,
+            b"older messages of its group were waiting in the buffer",
+        ),
         REVOKED => put_text(out, at, b"its group was revoked"),
         TIMEOUT => put_text(out, at, b"timeout"),
         _ => put_text(out, at, b"the processor was taken"),
@@ -36,7 +40,7 @@ fn put_reason(out: &mut [u8], at: usize, reason: u32) -> usize
 }
 
 // A text, and a number behind it.
-fn put_named(out: &mut [u8], at: usize, text: &[u8], n: u64) -> usize
+pub fn put_named(out: &mut [u8], at: usize, text: &[u8], n: u64) -> usize
     requires { ⌜ at + length (now text) + places ≤ length (now out) ⌝ }
     ensures { λ end. ⌜ Appended (now (out .entry)) at (now (out .exit)) end (now (text .entry) ++ decimal n) × (end ≤ at + length (now (text .entry)) + places) ⌝ }
 {

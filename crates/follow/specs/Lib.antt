@@ -2,3 +2,5 @@ pub mod Seen
 pub mod Portion
 pub mod One
 pub mod Portions
+pub mod Text
+pub mod Waiting

@@ -2,3 +2,5 @@
 pub mod one;
 pub mod portion;
 pub mod seen;
+pub mod text;
+pub mod waiting;

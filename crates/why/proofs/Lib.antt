@@ -1,0 +1,5 @@
+pub mod AskedLaws
+pub mod ReadLaws
+pub mod ReachLaws
+pub mod TextLaws
+pub mod RunLaws

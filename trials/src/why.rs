@@ -173,17 +173,45 @@ pub fn table_of(
     Ok(table)
 }
 
+/// What is told of a line, where it is what the judge says, word for word.
+fn agreed(
+    reasons: &impl Reasons,
+    script: &[u8],
+    line: usize,
+    answer: Answer,
+) -> Result<Told, String> {
+    let (judged, told) = (told(answer), reasons.why(script, line as u32));
+    if told != judged {
+        return Err(format!(
+            "line {line}: answer, reason, line: judge {judged:?}, library {told:?}"
+        ));
+    }
+    Ok(told)
+}
+
+/// What is told of each line of a script, of line 0 and of the one past the last, as a `.why` file of
+/// `vectors/` has it; or the first difference.
+pub fn rows(reasons: &impl Reasons, script: &[u8]) -> Result<String, String> {
+    let answers = answers(script).into_iter().enumerate();
+    let rows = answers.map(|(line, answer)| {
+        let row = match agreed(reasons, script, line, answer)? {
+            [0, reason, low, high] => {
+                let at = u64::from(high) << 32 | u64::from(low);
+                format!("{line} reason {reason} line {at}")
+            }
+            [refusal, ..] => format!("{line} refused {refusal}"),
+        };
+        Ok(row)
+    });
+    Ok(rows.collect::<Result<Vec<String>, String>>()?.join("\n"))
+}
+
 impl Table {
     /// Asks for each line of a script, for line 0 and for the one past the last.
     pub fn add(&mut self, reasons: &impl Reasons, script: &[u8]) -> Result<(), String> {
         let judgement = Judgement::new(script);
         for (line, &answer) in judgement.answers.iter().enumerate() {
-            let (judged, told) = (told(answer), reasons.why(script, line as u32));
-            if told != judged {
-                return Err(format!(
-                    "line {line}: answer, reason, line: judge {judged:?}, library {told:?}"
-                ));
-            }
+            agreed(reasons, script, line, answer)?;
             let met = judgement.kind(line);
             let at = KINDS.iter().position(|(kind, _)| *kind == met);
             self.kinds[at.expect("all kinds")] += 1;

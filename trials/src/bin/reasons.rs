@@ -1,13 +1,15 @@
 //! Why messages of random scripts were buffered: the proved call, asked line by line, held against the judge.
 
+use std::fs;
 use std::process::ExitCode;
 
 use judge::program::{arguments, failed, finish, met_all, misused, number, print};
-use trials::why::{table_of, Proved, Table};
+use trials::why::{rows, table_of, Proved, Table};
 
 const NAME: &str = "reasons";
 const USAGE: &str = "\
 usage: bin/reasons COUNT SEED
+       bin/reasons --rows SCRIPT
        bin/reasons --help
 
 Makes COUNT random scripts of 150 lines, of every flavour of bin/scripts in turn. Each line of each
@@ -18,7 +20,10 @@ judge finds in one run of the script: the reason and the line that it is named w
 At the end there is a table of what was met: each reason, reason 3 by where the message was moved and
 reason 6 by whether it had been head, and each refusal, 17 by what was asked for. The exit status is 1 at
 the first difference, which is told with the call of bin/scripts that makes its script; and if COUNT is
-140 or more and some line of the table was met by none.";
+140 or more and some line of the table was met by none.
+
+With --rows the lines of one script are asked for, and what both tell is written: a row of vectors/order6
+for each.";
 
 const PROGRESS: u64 = 1000;
 
@@ -26,8 +31,12 @@ fn main() -> ExitCode {
     let arguments = arguments();
     let arguments: Vec<&str> = arguments.iter().map(String::as_str).collect();
     match understand(&arguments) {
-        Ok(None) => finish(NAME, print(USAGE)),
-        Ok(Some((count, seed))) => match table_of(&Proved, count, seed, progress) {
+        Ok(Asked::Help) => finish(NAME, print(USAGE)),
+        Ok(Asked::Rows(script)) => match rows_of(script) {
+            Ok(rows) => finish(NAME, print(&rows)),
+            Err(reason) => failed(NAME, &reason),
+        },
+        Ok(Asked::Table(count, seed)) => match table_of(&Proved, count, seed, progress) {
             Ok(table) => tell(&table),
             Err(reason) => failed(NAME, &reason),
         },
@@ -35,13 +44,25 @@ fn main() -> ExitCode {
     }
 }
 
-/// The count and the seed; none where help is asked for.
-fn understand(arguments: &[&str]) -> Result<Option<(u64, u64)>, String> {
+enum Asked<'a> {
+    Help,
+    Rows(&'a str),
+    /// The count and the seed.
+    Table(u64, u64),
+}
+
+fn understand<'a>(arguments: &[&'a str]) -> Result<Asked<'a>, String> {
     match *arguments {
-        ["--help"] => Ok(None),
-        [count, seed] => Ok(Some((number(count)?, number(seed)?))),
+        ["--help"] => Ok(Asked::Help),
+        ["--rows", script] => Ok(Asked::Rows(script)),
+        [count, seed] => Ok(Asked::Table(number(count)?, number(seed)?)),
         _ => Err("wrong arguments".to_string()),
     }
+}
+
+fn rows_of(path: &str) -> Result<String, String> {
+    let script = fs::read(path).map_err(|error| format!("{path}: {error}"))?;
+    rows(&Proved, &script).map_err(|difference| format!("{path}: {difference}"))
 }
 
 fn progress(number: u64, count: u64) {

@@ -53,10 +53,27 @@ fn reasons_prints_a_table() {
 }
 
 #[test]
+fn reasons_writes_the_rows_of_a_script() {
+    let script = std::env::temp_dir().join(format!("reasons-{}.script", std::process::id()));
+    std::fs::write(&script, "S,1\nA,1,7\n?\nD").expect("written");
+    let output = run("reasons", &format!("--rows {}", script.display()));
+    std::fs::remove_file(&script).expect("removed");
+    assert!(output.status.success(), "{}", text(&output.stderr));
+    assert_eq!(
+        text(&output.stdout),
+        "0 refused 17\n1 refused 17\n2 reason 1 line 4\n3 refused 2\n4 refused 17\n5 refused 17\n"
+    );
+    assert_eq!(run("reasons", "--rows /nowhere").status.code(), Some(1));
+}
+
+#[test]
 fn the_programs_tell_how_they_are_used() {
     let wrong: [(&str, &[&str]); 3] = [
         ("memories", &["", "1", "x 1", "1 -1", "1 1 1"]),
-        ("reasons", &["", "1", "x 1", "1 -1", "1 1 1"]),
+        (
+            "reasons",
+            &["", "1", "x 1", "1 -1", "1 1 1", "--rows", "--rows a b"],
+        ),
         ("calls", &["--what", "--script", "--script a b", "a"]),
     ];
     for (program, wrong) in wrong {

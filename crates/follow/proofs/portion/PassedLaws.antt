@@ -11,12 +11,13 @@ use Rattle.rules.specs.Script.{newline, readLine}
 use Rattle.reasons.specs.Follow.{Seen}
 use Rattle.script.specs.Feed.{Cut, keptLine, keptRoom}
 use Rattle.script.specs.Feeding.{afterLines, allButLast, begun, linesBehind, restBehind, whole}
-use Rattle.script.specs.Read.{OneLine, lineEnd, lineOf}
+use Rattle.script.specs.Read.{OneLine, fieldLimit, lineEnd, lineOf}
 use Rattle.script.proofs.OneLineLaws.{begun-one, ended-begun, one-append, one-begun, one-of, one-split, one-take, whole-one}
 use Rattle.script.proofs.PortionLaws.{after-append, joins}
 use Rattle.script.proofs.PortionsLaws.{begun-open, joined}
 use Rattle.script.proofs.play.CutLaws.{grown, part-front}
 use Rattle.script.proofs.play.PlayLaws.{known-stays}
+use Rattle.follow.specs.Portion.{Goes}
 use Rattle.follow.specs.Seen.{LineStepped, seenMemory, seenOn}
 use Rattle.follow.specs.declared.seen.Line.{Line as Line·rt}
 
@@ -58,6 +59,20 @@ passed-start m u lines {kept} {count} room one cut =
       few = omega arith;
     }
 
+-- the next line can be stepped
+pub passed-next : {m b u : List ℕ} {lines : ℕ} {m₁ kept : List ℕ} {count at i : ℕ} → Passed m b u lines m₁ kept count at i
+    → {good : Bool} {fields : List ℕ} → isMemory m ≡ good → keptRoom < length kept → at < length u → fieldLimit ≤ length fields → Goes m₁ good kept count u at fields
+passed-next {b = b} {u = u} {at = at} p known room inside many =
+    record {
+      known = p .known ∙ known;
+      room = room;
+      few = p .room;
+      one = subst OneLine (sym (p .rest)) (begun-is-one (b ++ take at u));
+      inside = inside;
+      lines = p .goes-on;
+      many = many;
+    }
+
 -- one line more
 module _ {m b u : List ℕ} {lines : ℕ} {m₁ kept : List ℕ} {count at i : ℕ} (p : Passed m b u lines m₁ kept count at i) (inside : at < length u) where
   more-bytes : (k : ℕ) → k ≡ lineEnd u at + 1 → take k u ≡ take at u ++ (lineOf (drop at u) ++ (newline ∷ []))
@@ -78,7 +93,7 @@ module _ {m b u : List ℕ} {lines : ℕ} {m₁ kept : List ℕ} {count at i : �
       let joint : begun x ++ (l ++ (newline ∷ [])) ≡ (begun x ++ l) ++ (newline ∷ []) = sym (append-assoc (begun x) l (newline ∷ [])) in
       let one = one-append (begun x) l (begun-is-one x) (one-of (drop at u)) in (
         ap whole grows ∙ j .lines ∙ ap (λ (y : List ℕ). whole x ++ whole y) joint ∙ ap (λ (ls : List (List ℕ)). whole x ++ ls) (whole-one (begun x ++ l) one)
-            ∙ ap (λ (y : List ℕ). whole x ++ ((y ++ l) ∷ [])) (sym (p .rest)),
+        ∙ ap (λ (y : List ℕ). whole x ++ ((y ++ l) ∷ [])) (sym (p .rest)),
         ap begun grows ∙ j .rest ∙ ap begun joint ∙ ended-begun (begun x ++ l) one,
       )
 

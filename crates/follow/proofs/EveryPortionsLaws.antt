@@ -1,10 +1,9 @@
 -- Whatever the portions, what is told of every message is what is told of the script. Assumes nothing.
-use Prim.Native.Nat.{ℕ, suc, _+_, _≤_, _<_}
+use Prim.Native.Nat.{ℕ, _+_}
 use native.Mathlib.Omega.{arith}
-use mathlib.Core.List.{List, [], _∷_, _++_, append-nil, append-assoc, map}
-use mathlib.Core.Path.{_≡_, refl, sym, ap, subst, _∙_}
+use mathlib.Core.List.{List, [], _∷_, _++_, append-nil, append-assoc}
+use mathlib.Core.Path.{_≡_, sym, ap, subst, _∙_}
 use lib.ListN.{length, take, length-append}
-use Rattle.rules.specs.Memory.{size}
 use Rattle.rules.specs.MemoryTest.{powerOnMemory}
 use Rattle.rules.specs.Script.{scriptLines}
 use Rattle.reasons.specs.Follow.{Seen, Telling, stillWaiting, tellLines, tellQueued, tellingLines}

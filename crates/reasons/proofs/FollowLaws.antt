@@ -327,7 +327,7 @@ arrival-told : (last : ℕ) (ds : List Departure) (k : ℕ) (e : Event) → isEm
 unfolding tellEvent arrived wasAccepted
 arrival-told last ds k e some =
     let two : e .report .answer ≢ unreadable = λ two.
-        true≢false (sym (ap isEmpty (ap (arrivedBy (e .operation)) (ne-eqb (e .report .answer) accepted (λ zero. omega arith)) ∙ arrived-none (e .operation))) ∙ some) in
+    true≢false (sym (ap isEmpty (ap (arrivedBy (e .operation)) (ne-eqb (e .report .answer) accepted (λ zero. omega arith)) ∙ arrived-none (e .operation))) ∙ some) in
     rw (ne-eqb (e .report .answer) unreadable two, some)
 
 -- where T tells of the lines from i on

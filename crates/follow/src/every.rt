@@ -121,7 +121,13 @@ fn tell_lines(
 }
 
 // What a portion came to whose lines were told, with what is kept behind them.
-fn portion_told(r: Lines, kept: [u8; KEPT_LINE], count: usize, waiting: [u64; PLACES], used: usize) -> Told
+fn portion_told(
+    r: Lines,
+    kept: [u8; KEPT_LINE],
+    count: usize,
+    waiting: [u64; PLACES],
+    used: usize,
+) -> Told
     ensures { λ t. ⌜ t ≡ portionTold r kept count waiting used ⌝ }
 {
     Told {

@@ -28,7 +28,11 @@ fn put_reason(out: &mut [u8], at: usize, reason: u32) -> usize
         DISPOSED_OF => put_text(out, at, b"never buffered, disposed of"),
         STILL_QUEUED => put_text(out, at, b"still in the hardware queue"),
         NOT_RUNNING => put_text(out, at, b"its group wasn't running when it became head"),
-        OLDER_WAITING => put_text(out, at, b"older messages of its group were waiting in the buffer"),
+        OLDER_WAITING => put_text(
+            out,
+            at,
+            b"older messages of its group were waiting in the buffer",
+        ),
         REVOKED => put_text(out, at, b"its group was revoked"),
         TIMEOUT => put_text(out, at, b"timeout"),
         _ => put_text(out, at, b"the processor was taken"),

@@ -88,7 +88,14 @@ pub fn put_left(out: &mut [u8], at: usize, waiting: &[u64], count: usize, i: u64
 }
 
 // Line i: its message joins, and of those that leave it is told why.
-pub fn tell_line(waiting: &mut [u64], count: usize, i: u64, l: Line, out: &mut [u8], at: usize) -> Waiting
+pub fn tell_line(
+    waiting: &mut [u64],
+    count: usize,
+    i: u64,
+    l: Line,
+    out: &mut [u8],
+    at: usize,
+) -> Waiting
     requires { ⌜ LineTellable (now waiting) count (now out) at ⌝ }
     ensures { λ r. ⌜ LineTold (now (waiting .entry)) count i l (now (out .entry)) at (now (waiting .exit)) (now (out .exit)) r ⌝ }
 {

@@ -4,7 +4,7 @@ use native.Mathlib.Omega.{arith}
 use mathlib.Core.Bool.{Bool}
 use mathlib.Core.List.{List, [], _∷_, _++_, append-nil, append-assoc}
 use mathlib.Core.Logic.{⊎-elim}
-use mathlib.Core.Path.{_≡_, refl, sym, ap, subst, _∙_}
+use mathlib.Core.Path.{_≡_, refl, sym, ap, _∙_}
 use lib.ListN.{length, take, drop, length-append}
 use lib.Seq.{length-take-le, take-all, take-take}
 use Rattle.rules.specs.Build.{paper01}
@@ -141,9 +141,11 @@ module _ {m b u : List ℕ} {lines : ℕ} {ws out m₁ kept waiting out₁ : Lis
 pub waiting-few : (st : State·rt) (n : ℕ) → length (st .waiting) ≡ paper01 .places → Fewer (st .count) (paper01 .places) n
     → (take n (st .waiting) ≡ waitingOf st) × (n ≤ paper01 .places)
 unfolding waitingOf
-waiting-few st n all f =
-    (⊎-elim (λ h. let a = f .leaving in take-all n (st .waiting) (omega arith) ∙ sym (take-all (st .count) (st .waiting) (let w = f .waiting in omega arith)))
-    (λ h. let e : n ≡ st .count = let w = f .waiting in omega arith in ap (λ (k : ℕ). take k (st .waiting)) e) (f .all), f .leaving)
+waiting-few st n all f = (
+  ⊎-elim (λ h. let a = f .leaving in take-all n (st .waiting) (omega arith) ∙ sym (take-all (st .count) (st .waiting) (let w = f .waiting in omega arith)))
+      (λ h. let e : n ≡ st .count = let w = f .waiting in omega arith in ap (λ (k : ℕ). take k (st .waiting)) e) (f .all),
+  f .leaving,
+)
 
 module _ (m : List ℕ) (st : State·rt) {input : List ℕ} {last : ℕ} (n : ℕ) (few : st .script .lines + length input < lastNumber) (c : Cut input 0 last)
     (begins : take n (st .script .kept) ≡ keptLine (st .script)) where

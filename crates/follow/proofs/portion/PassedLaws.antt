@@ -93,7 +93,7 @@ module _ {m b u : List ℕ} {lines : ℕ} {m₁ kept : List ℕ} {count at i : �
       let joint : begun x ++ (l ++ (newline ∷ [])) ≡ (begun x ++ l) ++ (newline ∷ []) = sym (append-assoc (begun x) l (newline ∷ [])) in
       let one = one-append (begun x) l (begun-is-one x) (one-of (drop at u)) in (
         ap whole grows ∙ j .lines ∙ ap (λ (y : List ℕ). whole x ++ whole y) joint ∙ ap (λ (ls : List (List ℕ)). whole x ++ ls) (whole-one (begun x ++ l) one)
-        ∙ ap (λ (y : List ℕ). whole x ++ ((y ++ l) ∷ [])) (sym (p .rest)),
+            ∙ ap (λ (y : List ℕ). whole x ++ ((y ++ l) ∷ [])) (sym (p .rest)),
         ap begun grows ∙ j .rest ∙ ap begun joint ∙ ended-begun (begun x ++ l) one,
       )
 

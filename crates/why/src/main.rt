@@ -23,7 +23,10 @@ ghost use Rattle.follow.specs.Text.{whyRoom};
 const ARGUMENT: usize = 10;
 
 fn usage() {
-    io::write_all(STDERR_FILENO, b"usage: why LINE < SCRIPT, or why --all < SCRIPT\n");
+    io::write_all(
+        STDERR_FILENO,
+        b"usage: why LINE < SCRIPT, or why --all < SCRIPT\n",
+    );
 }
 
 // The answer for one line: a refusal is told on standard error.

@@ -10,13 +10,13 @@ use lib.Dec.{leb}
 use lib.ListN.{length}
 use Rattle.rules.specs.Lists.{all, isEmpty}
 use Rattle.rules.specs.Script.{isNumber, number}
-use Rattle.rules.specs.Text.{isDigit}
+use Rattle.rules.specs.Text.{bytes, isDigit}
 use Rattle.script.specs.Read.{NumberRead, digitsOf}
 use Rattle.script.proofs.read.LineEndLaws.{by-test}
 use Rattle.script.specs.declared.read.Digits.{Digits as Digits·rt}
-use Rattle.why.specs.Asked.{askedIn, lineAsked}
+use Rattle.why.specs.Asked.{Asks, lineAsked}
 use Rattle.why.specs.declared.asked.Asked.{Asked as Asked·rt}
-use Rattle.why.specs.declared.asked.Asked.the-variants.{Line, Nothing}
+use Rattle.why.specs.declared.asked.Asked.the-variants.{All, Line, Nothing}
 
 -- the digits that a text begins with are no more than it has, and all of it where they are as many
 digits-few : (t : List ℕ) → length (digitsOf t) ≤ length t
@@ -54,8 +54,8 @@ number-else t e = rw (e, both-false (not (isEmpty t)) (leb (length t) 10))
 -- what was read of it
 module _ {t : List ℕ} {d : Digits·rt} (r : NumberRead t 0 d) where
   -- no number
-  pub asked-none : d .ok ≡ false → Nothing ≡ askedIn t
-  unfolding askedIn lineAsked
+  pub asked-none : d .ok ≡ false → Nothing ≡ lineAsked (number t)
+  unfolding lineAsked
   asked-none bad = go (decLt (length (digitsOf t)) (length t))
     where
       read-none : number (digitsOf t) ≡ none
@@ -67,14 +67,22 @@ module _ {t : List ℕ} {d : Digits·rt} (r : NumberRead t 0 d) where
 
   module _ (ok : d .ok ≡ true) where
     -- one, with something behind it
-    pub asked-more : d .next < length t → Nothing ≡ askedIn t
-    unfolding askedIn lineAsked
+    pub asked-more : d .next < length t → Nothing ≡ lineAsked (number t)
+    unfolding lineAsked
     asked-more more = let b = r .behind ok in ap lineAsked (sym (number-else t (digits-else t (omega arith))))
 
     -- all of it is one
-    pub asked-line : length t ≤ d .next → Line (d .value) ≡ askedIn t
-    unfolding askedIn lineAsked
+    pub asked-line : length t ≤ d .next → Line (d .value) ≡ lineAsked (number t)
+    unfolding lineAsked
     asked-line whole =
         let b = r .behind ok in
         let f = digits-few t in
         ap lineAsked (sym (ap number (sym (digits-whole t (omega arith))) ∙ sym (r .found) ∙ ap (λ (b : Bool). cond b (some (d .value)) none) ok))
+
+-- What is asked.
+
+pub asks-all : {t : List ℕ} → t ≡ bytes "--all" → Asks t All
+asks-all e = record { all = λ _. refl; line = λ other. absurd (other e) }
+
+pub asks-line : {t : List ℕ} {a : Asked·rt} → (t ≡ bytes "--all" → ⊥) → a ≡ lineAsked (number t) → Asks t a
+asks-line other e = record { all = λ same. absurd (other same); line = λ _. e }

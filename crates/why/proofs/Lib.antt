@@ -3,3 +3,4 @@ pub mod ReadLaws
 pub mod ReachLaws
 pub mod TextLaws
 pub mod RunLaws
+pub mod AllLaws

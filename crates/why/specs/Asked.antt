@@ -2,15 +2,18 @@
 use Prim.Native.Nat.{ℕ}
 use mathlib.Core.List.{List}
 use mathlib.Core.Option.{Option, none, some}
+use mathlib.Core.Path.{_≡_}
 use Rattle.rules.specs.Script.{number}
+use Rattle.rules.specs.Text.{bytes}
 use Rattle.why.specs.declared.asked.Asked.{Asked as Asked·rt}
-use Rattle.why.specs.declared.asked.Asked.the-variants.{Line, Nothing}
+use Rattle.why.specs.declared.asked.Asked.the-variants.{All, Line, Nothing}
 
 -- a line, where there is a number
 unfoldable pub lineAsked : Option ℕ → Asked·rt
 lineAsked none = Nothing
 lineAsked (some w) = Line w
 
--- a line by its number, written as the numbers of a script are
-unfoldable pub askedIn : List ℕ → Asked·rt
-askedIn text = lineAsked (number text)
+-- every accepted arrival, or a line by its number, written as the numbers of a script are
+pub record Asks (text : List ℕ) (a : Asked·rt) : Type 0 where
+  pub all : text ≡ bytes "--all" → a ≡ All
+  pub line : (text ≡ bytes "--all" → ⊥) → a ≡ lineAsked (number text)

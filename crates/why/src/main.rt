@@ -1,16 +1,19 @@
-// why: a script on standard input and a line of it as argument; on standard output why the message of that line was buffered. What is told comes
-// from `follow::one`, and its text from `follow::text`; here the script is only read and handed over, and the answer written.
+// why: a script on standard input and a line of it, or `--all`, as argument; on standard output why the message of that line was buffered, or every
+// accepted one. What is told comes from `follow`; here the script is only read and handed over, and the answer written.
+mod all;
 mod asked;
 mod one;
 mod reads;
+mod writes;
 
+use all::tell_all;
 use asked::Asked;
 use asked::asked_of;
 use libc::STDERR_FILENO;
-use libc::STDOUT_FILENO;
 use memory::map::SIZE;
 use one::answer;
 use reads::PORTION;
+use writes::put;
 ghost use Prim.Native.Nat.{_≤_};
 ghost use lib.ListN.{length};
 ghost use Rattle.rules.specs.Memory.{size};
@@ -20,14 +23,10 @@ ghost use Rattle.follow.specs.Text.{whyRoom};
 const ARGUMENT: usize = 10;
 
 fn usage() {
-    io::write_all(STDERR_FILENO, b"usage: why LINE < SCRIPT\n");
-}
-
-// Writes bytes of an answer, or says why not.
-fn put(bytes: &[u8]) {
-    if !io::write_all(STDOUT_FILENO, bytes) {
-        os::fail(b"why: standard output");
-    }
+    io::write_all(
+        STDERR_FILENO,
+        b"usage: why LINE < SCRIPT, or why --all < SCRIPT\n",
+    );
 }
 
 // The answer for one line: a refusal is told on standard error.
@@ -57,6 +56,9 @@ fn main() {
     }
     match asked_of(&text[..n]) {
         Asked::Line(wanted) => tell_one(&mut memory, wanted as u64, &mut input, &mut out),
+        Asked::All => {
+            tell_all(&mut memory, &mut input, &mut out);
+        }
         Asked::Nothing => usage(),
     }
 }

@@ -1,14 +1,14 @@
 // The answer for one line of a script: its message is followed until it has left, or to the script's end.
 use crate::reads::Got;
-use crate::reads::no_number;
 use crate::reads::read_some;
+use crate::writes::no_end;
+use crate::writes::no_number;
 use follow::one::State;
 use follow::one::Told;
 use follow::one::finish;
 use follow::one::follow;
 use follow::text::put_named;
 use follow::text::put_why;
-use libc::STDERR_FILENO;
 use memory::Node;
 use rules::Report;
 use script::write::put_text;
@@ -170,7 +170,7 @@ fn tell(memory: &mut [u32], run: Run) -> Known
         return tell_end(memory, state);
     }
     if !is_settled(state) {
-        io::write_all(STDERR_FILENO, b"why: the input does not end\n");
+        no_end();
         return untold(state);
     }
     let f = state.followed;

@@ -1,5 +1,4 @@
 // A script read in portions.
-use libc::STDERR_FILENO;
 use libc::STDIN_FILENO;
 ghost use mathlib.Core.Path.{_≡_};
 ghost use Prim.Native.Nat.{_≤_};
@@ -40,9 +39,4 @@ pub fn read_some(input: &mut [u8]) -> Got
 {
     let got = libc::read(STDIN_FILENO, input);
     counted(got, input)
-}
-
-// More lines than there are numbers for.
-pub fn no_number() {
-    io::write_all(STDERR_FILENO, b"why: out of line numbers\n");
 }

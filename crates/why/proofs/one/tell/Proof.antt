@@ -24,11 +24,8 @@ returns-2 c e = record { went-well = not-false _ (c .before .before .before .bef
 is-settled-requires : tie.Need-is-settled-requires
 is-settled-requires c κs = search needs
 
-slice-aggregate-write-all : tie.Need-slice-aggregate-write-all
-slice-aggregate-write-all c = search needs
-
-write-all-requires : tie.Need-write-all-requires
-write-all-requires c κs = search needs
+no-end-requires : tie.Need-no-end-requires
+no-end-requires c κs = search needs
 
 untold-requires-2 : tie.Need-untold-requires-2
 untold-requires-2 c κs = search needs
@@ -49,8 +46,7 @@ tell-spec =
     same-length
     returns-2
     is-settled-requires
-    slice-aggregate-write-all
-    write-all-requires
+    no-end-requires
     untold-requires-2
     returns-3
     returns-4)

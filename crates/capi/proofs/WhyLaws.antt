@@ -14,7 +14,6 @@ use Rattle.rules.specs.Operation.{Operation, notNode, refused}
 use Rattle.rules.specs.Script.{newline, scriptLines}
 use Rattle.rules.specs.declared.Report.{Report as Report·rt}
 use Rattle.reasons.specs.Why.{Told, untold, why}
-use Rattle.reasons.proofs.WhyLaws.{following}
 use Rattle.memory.specs.Answers.{Answers}
 use Rattle.memory.proofs.WriteLaws.{wrote-set, wrote-next}
 use Rattle.script.specs.Feed.{keptRoom, lastNumber}
@@ -79,7 +78,7 @@ module _ (m s : List ℕ) {w : ℕ} {st : State·rt} {m₁ : List ℕ} {st₁ : 
   unfolding Follows bytesOf lastMemory lastState
   script-why =
       let p : Portion = record { input = s; memory-after = m₁; state-after = st₁ } in
-      portions-told .told following m s w st (p ∷ []) m′ t
+      portions-told .told m s w st (p ∷ []) m′ t
       (record { long = long; new = new; follows = (f, (enough, tt)); read = append-nil s })
       (record { number = number; finishes = e })
 

@@ -9,6 +9,7 @@ use Rattle.rules.specs.Script.{scriptLines}
 use Rattle.reasons.specs.Follow.{Seen, Telling, stillWaiting, tellLines, tellQueued, tellingLines}
 use Rattle.reasons.specs.Told.{seenOfScript}
 use Rattle.reasons.specs.Why.{stepsOf}
+use Rattle.reasons.proofs.WhyLaws.{following}
 use Rattle.script.specs.Feed.{keptLine, keptRoom}
 use Rattle.script.specs.Feeding.{afterLines, begun, lastLine, linesBehind, restBehind, whole}
 use Rattle.script.proofs.PortionLaws.{after-append, begun-all, joins, lines-ended, whole-nil}
@@ -157,5 +158,5 @@ pub portions-all-told : PortionsAllTold
 portions-all-told =
     record {
       told = λ m s st ps out m′ out′ e q. script-told q;
-      answered = λ f m s st ps out m′ out′ e q. script-told q ∙ f .every s;
+      answered = λ m s st ps out m′ out′ e q. script-told q ∙ following .every s;
     }

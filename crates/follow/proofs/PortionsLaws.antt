@@ -12,6 +12,7 @@ use Rattle.rules.specs.Text.{split}
 use Rattle.reasons.specs.Follow.{Followed, Seen, followLines, toldAt, unfollowed}
 use Rattle.reasons.specs.Told.{seenOfScript}
 use Rattle.reasons.specs.Why.{Told, stepsOf}
+use Rattle.reasons.proofs.WhyLaws.{following}
 use Rattle.script.specs.Feed.{keptLine, keptRoom}
 use Rattle.script.specs.Feeding.{afterLines, allButLast, begun, joinFirst, lastLine, linesBehind, restBehind, whole}
 use Rattle.script.proofs.PortionLaws.{after-append, begun-all, joins, lines-ended, split-some, whole-nil}
@@ -219,6 +220,6 @@ portions-followed =
 pub portions-told : PortionsTold
 portions-told =
     record {
-      told = λ f m s w st ps m′ t q h. script-told q h ∙ f .one s w;
-      settled = λ f m s rest w st ps q d. script-settled rest q d ∙ f .one (s ++ rest) w;
+      told = λ m s w st ps m′ t q h. script-told q h ∙ following .one s w;
+      settled = λ m s rest w st ps q d. script-settled rest q d ∙ following .one (s ++ rest) w;
     }

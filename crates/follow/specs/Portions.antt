@@ -8,7 +8,7 @@ use Rattle.rules.specs.Memory.{size}
 use Rattle.rules.specs.MemoryTest.{powerOnMemory}
 use Rattle.rules.specs.Script.{scriptLines}
 use Rattle.reasons.specs.Follow.{followLines, toldAt, unfollowed}
-use Rattle.reasons.specs.Told.{Following, seenOfScript}
+use Rattle.reasons.specs.Told.{seenOfScript}
 use Rattle.reasons.specs.Why.{Told, why}
 use Rattle.script.specs.Feed.{keptLine, lastNumber}
 use Rattle.follow.specs.One.{Finished, FollowedTo, followedOf, toldOf}
@@ -78,9 +78,9 @@ pub record PortionsFollowed : Type 0 where
   pub settled : (m s rest : List ℕ) (w : ℕ) (st : State·rt) (ps : List Portion)
       → FollowsScript m w st ps s → Settled (lastState st ps) → toldOf (lastState st ps .followed .told) ≡ followed (s ++ rest) w
 
--- by `Following` it is why the message was buffered
+-- that is why the message was buffered
 pub record PortionsTold : Type 0 where
-  pub told : Following → (m s : List ℕ) (w : ℕ) (st : State·rt) (ps : List Portion) (m′ : List ℕ) (t : Told·rt)
+  pub told : (m s : List ℕ) (w : ℕ) (st : State·rt) (ps : List Portion) (m′ : List ℕ) (t : Told·rt)
       → FollowsScript m w st ps s → FinishesScript m st ps m′ t → toldOf t ≡ why s w
-  pub settled : Following → (m s rest : List ℕ) (w : ℕ) (st : State·rt) (ps : List Portion)
+  pub settled : (m s rest : List ℕ) (w : ℕ) (st : State·rt) (ps : List Portion)
       → FollowsScript m w st ps s → Settled (lastState st ps) → toldOf (lastState st ps .followed .told) ≡ why (s ++ rest) w

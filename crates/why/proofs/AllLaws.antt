@@ -13,7 +13,6 @@ use Rattle.rules.specs.Memory.{size}
 use Rattle.rules.specs.MemoryTest.{powerOnMemory, replaced}
 use Rattle.rules.specs.Node.{powerOn}
 use Rattle.rules.proofs.Map.RunMemory.{power-on-tested}
-use Rattle.reasons.proofs.WhyLaws.{following}
 use Rattle.script.specs.Feed.{keptLine, lastNumber}
 use Rattle.script.specs.Feeding.{linesBehind}
 use Rattle.script.specs.Play.{part}
@@ -194,7 +193,7 @@ run-all-told =
       written = λ m long a.
           let q = a .runs .reaches in
           let e = a .ends in
-          portions-all-told .answered following m (a .runs .script) (a .state) (q .calls) (a .out) (a .memory′) (a .out′) (e .end)
+          portions-all-told .answered m (a .runs .script) (a .state) (q .calls) (a .out) (a .memory′) (a .out′) (e .end)
           (record {
             long = long;
             none = a .none;

@@ -17,7 +17,6 @@ use Rattle.rules.specs.Run.{Event, arrived, run}
 use Rattle.rules.proofs.Map.RunMemory.{power-on-tested}
 use Rattle.reasons.specs.Follow.{unfollowed}
 use Rattle.reasons.specs.Why.{Departure, Told, tellEvent, tellLine, tellMessage, why}
-use Rattle.reasons.proofs.WhyLaws.{following}
 use Rattle.script.specs.Feed.{keptLine, lastNumber}
 use Rattle.follow.specs.One.{Finished, followedOf, toldOf}
 use Rattle.follow.specs.Portions.{FollowsScript, Settled, lastMemory, lastState}
@@ -68,7 +67,7 @@ module _ {m : List ℕ} {w : ℕ} {out′ : List ℕ} {r : Text·rt} (long : siz
       let t = a .tells .at-end e in
       let number : lastState (a .state) (q .calls) .script .lines + 1 < lastNumber =
       subst (λ (x : State·rt). x .script .lines + 1 < lastNumber) (sym (q .state)) (t .number) in
-      portions-told .told following m (a .runs .script) w (a .state) (q .calls) (a .memory′) (a .told) script-followed
+      portions-told .told m (a .runs .script) w (a .state) (q .calls) (a .memory′) (a .told) script-followed
       (record {
         number = number;
         finishes =
@@ -81,7 +80,7 @@ module _ {m : List ℕ} {w : ℕ} {out′ : List ℕ} {r : Text·rt} (long : siz
       let q = a .runs .reaches in
       let t = a .tells .before e in
       ap toldOf (t .1 ∙ ap (λ (x : State·rt). x .followed .told) (sym (q .state)))
-      ∙ portions-told .settled following m (a .runs .script) rest w (a .state) (q .calls) script-followed
+      ∙ portions-told .settled m (a .runs .script) rest w (a .state) (q .calls) script-followed
       (subst Settled (sym (q .state)) (settled-passes (a .run .state) (t .0)))
 
 -- `why` refuses with 2 or 17, or not at all

@@ -4,3 +4,4 @@ pub mod One
 pub mod Portions
 pub mod Text
 pub mod Waiting
+pub mod Every

@@ -63,7 +63,7 @@ fn reason_at(l: Line, k: usize) -> u32
 }
 
 // How many of those that wait leave.
-fn fewer(count: usize, left: u64) -> usize
+pub fn fewer(count: usize, left: u64) -> usize
     ensures { λ r. ⌜ r ≡ cond (ltb left count) left count ⌝ }
 {
     if left < count as u64 {
@@ -73,7 +73,7 @@ fn fewer(count: usize, left: u64) -> usize
 }
 
 // The lines of those that leave in line i.
-fn put_left(out: &mut [u8], at: usize, waiting: &[u64], count: usize, i: u64, l: Line) -> usize
+pub fn put_left(out: &mut [u8], at: usize, waiting: &[u64], count: usize, i: u64, l: Line) -> usize
     requires { ⌜ (at + linesRoom ≤ length (now out)) × ((count ≤ length (now waiting)) × (count ≤ paper01 .places)) ⌝ }
     ensures { λ end. ⌜ Appended (now (out .entry)) at (now (out .exit)) end (tellingLines (tellings i (take count (now (waiting .entry))) (leaving (l .left) (l .first) (l .later)))) × (end ≤ at + linesRoom) ⌝ }
 {

@@ -14,10 +14,9 @@ use Rattle.rules.specs.Text.{split}
 use Rattle.reasons.specs.Follow.{Followed, Seen, followLine, followLines, toldAt}
 use Rattle.script.specs.Feed.{Cut, keptLine, keptRoom, lastNumber}
 use Rattle.script.specs.Feeding.{afterLines, allButLast, begun, joinFirst, lastLine, linesBehind, restBehind, whole}
-use Rattle.script.specs.Read.{OneLine, fieldLimit, lineEnd, lineOf}
+use Rattle.script.specs.Read.{OneLine, lineEnd, lineOf}
 use Rattle.script.proofs.feed.FedLaws.{kept-one}
 use Rattle.follow.specs.Seen.{LineStepped, Sees, seenMemory, seenOn}
-use Rattle.follow.specs.Portion.{Goes}
 use Rattle.follow.specs.One.{Ended, Finished, Followable, FollowedTo, LinesFollowed, followedOf, toldOf}
 use Rattle.follow.specs.declared.one.Followed.{Followed as Followed·rt}
 use Rattle.follow.specs.declared.one.Lines.{Lines as Lines·rt}
@@ -25,7 +24,7 @@ use Rattle.follow.specs.declared.one.State.{State as State·rt}
 use Rattle.follow.specs.declared.one.Told.{Told as Told·rt}
 use Rattle.follow.specs.declared.seen.Line.{Line as Line·rt}
 use Rattle.follow.proofs.one.PlaceLaws.{follow-append}
-use Rattle.follow.proofs.portion.PassedLaws.{Passed, begun-is-one, cut-whole, length-seen, more-lines, one-open, passed-more, passed-start, portion-kept, portion-lines, seen-append}
+use Rattle.follow.proofs.portion.PassedLaws.{Passed, cut-whole, length-seen, more-lines, one-open, passed-more, passed-start, portion-kept, portion-lines, seen-append}
 
 -- lines of u, where b has begun, are followed up to a position
 pub record Going (m b u : List ℕ) (lines w : ℕ) (f : Followed·rt) (m′ kept : List ℕ) (at : ℕ) (r : Lines·rt) : Type 0 where
@@ -42,22 +41,7 @@ going-start {m} {kept = kept} {count = count} {u = u} {lines = lines} w f h =
     record { passed = passed-start m u lines (h .few) (h .one) (h .cut); followed = rw none }
 
 module _ {m b u : List ℕ} {lines w : ℕ} {f : Followed·rt} {m₁ kept : List ℕ} {at : ℕ} {r : Lines·rt} (g : Going m b u lines w f m₁ kept at r) where
-  -- the next line can be stepped
-  pub going-next : {good : Bool} {fields : List ℕ} → isMemory m ≡ good → keptRoom < length kept → at < length u → fieldLimit ≤ length fields
-      → Goes m₁ good kept (r .count) u at fields
-  going-next known room inside many =
-      let p = g .passed in
-      record {
-        known = p .known ∙ known;
-        room = room;
-        few = p .room;
-        one = subst OneLine (sym (p .rest)) (begun-is-one (b ++ take at u));
-        inside = inside;
-        lines = p .goes-on;
-        many = many;
-      }
-
-  -- and is followed
+  -- the next line is followed
   pub going-more : at < length u → {m₂ kept₂ : List ℕ} {t : Line·rt} {f₂ : Followed·rt}
       → LineStepped m₁ (take (r .count) kept ++ lineOf (drop at u)) (lineEnd u at + 1) m₂ t
       → ((s : Seen) → Sees t s → followedOf f₂ ≡ followLine w (r .lines + 1) (followedOf (r .followed)) s)

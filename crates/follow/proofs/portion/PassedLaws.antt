@@ -11,12 +11,13 @@ use Rattle.rules.specs.Script.{newline, readLine}
 use Rattle.reasons.specs.Follow.{Seen}
 use Rattle.script.specs.Feed.{Cut, keptLine, keptRoom}
 use Rattle.script.specs.Feeding.{afterLines, allButLast, begun, linesBehind, restBehind, whole}
-use Rattle.script.specs.Read.{OneLine, lineEnd, lineOf}
+use Rattle.script.specs.Read.{OneLine, fieldLimit, lineEnd, lineOf}
 use Rattle.script.proofs.OneLineLaws.{begun-one, ended-begun, one-append, one-begun, one-of, one-split, one-take, whole-one}
 use Rattle.script.proofs.PortionLaws.{after-append, joins}
 use Rattle.script.proofs.PortionsLaws.{begun-open, joined}
 use Rattle.script.proofs.play.CutLaws.{grown, part-front}
 use Rattle.script.proofs.play.PlayLaws.{known-stays}
+use Rattle.follow.specs.Portion.{Goes}
 use Rattle.follow.specs.Seen.{LineStepped, seenMemory, seenOn}
 use Rattle.follow.specs.declared.seen.Line.{Line as Line·rt}
 
@@ -56,6 +57,20 @@ passed-start m u lines {kept} {count} room one cut =
       memory = rw w;
       counted = rw w (omega arith);
       few = omega arith;
+    }
+
+-- the next line can be stepped
+pub passed-next : {m b u : List ℕ} {lines : ℕ} {m₁ kept : List ℕ} {count at i : ℕ} → Passed m b u lines m₁ kept count at i
+    → {good : Bool} {fields : List ℕ} → isMemory m ≡ good → keptRoom < length kept → at < length u → fieldLimit ≤ length fields → Goes m₁ good kept count u at fields
+passed-next {b = b} {u = u} {at = at} p known room inside many =
+    record {
+      known = p .known ∙ known;
+      room = room;
+      few = p .room;
+      one = subst OneLine (sym (p .rest)) (begun-is-one (b ++ take at u));
+      inside = inside;
+      lines = p .goes-on;
+      many = many;
     }
 
 -- one line more

@@ -13,6 +13,8 @@ use Rattle.follow.proofs.one.follow.Tie as tie
 
 -- nothing.
 
+-- nothing.
+
 sub-if1 : tie.Need-sub-if1
 sub-if1 c = search needs
 

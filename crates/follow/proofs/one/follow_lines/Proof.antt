@@ -5,11 +5,14 @@ use native.Mathlib.Omega.{arith}
 use mathlib.Core.Path.{_≡_, _∙_, refl}
 use lib.ListN.{length, take}
 use Rattle.script.specs.Read.{fieldLimit}
-use Rattle.follow.proofs.one.FollowLaws.{Going, going-end, going-more, going-next, going-start}
+use Rattle.follow.proofs.one.FollowLaws.{Going, going-end, going-more, going-start}
+use Rattle.follow.proofs.portion.PassedLaws.{passed-next}
 use Rattle.follow.proofs.portion.NextLaws.{next-forward}
 use borrow.Author.Needs.{needs}
 use Rattle.follow.proofs.one.follow_lines.Statement.{statement}
 use Rattle.follow.proofs.one.follow_lines.Tie as tie
+
+-- measure is what is left of the lines. Assumes nothing.
 
 -- measure is what is left of the lines. Assumes nothing.
 
@@ -33,7 +36,7 @@ slice-aggregate-next : tie.Need-slice-aggregate-next Inv-loop μ-loop
 slice-aggregate-next c = search needs
 
 next-requires : tie.Need-next-requires Inv-loop μ-loop
-next-requires c κs = let v = c .before .before .before .before .loop .inv in going-next (v .1 .1 .1) (c .before .before .before .before .before .before .before .before .pre .known) (let l = v .1 .0 in let r = c .before .before .before .before .before .before .before .before .pre .room in omega arith) (c .before .before .before .loop-test .taken) (let f = v .1 .1 .0 in omega arith)
+next-requires c κs = let v = c .before .before .before .before .loop .inv in passed-next (v .1 .1 .1 .passed) (c .before .before .before .before .before .before .before .before .pre .known) (let l = v .1 .0 in let r = c .before .before .before .before .before .before .before .before .pre .room in omega arith) (c .before .before .before .loop-test .taken) (let f = v .1 .1 .0 in omega arith)
 
 add-i : tie.Need-add-i Inv-loop μ-loop
 add-i c = let f = c .before .before .before .before .before .before .before .before .before .before .before .loop .inv .1 .1 .1 .passed .few in let t = c .before .before .before .before .before .before .before .before .before .before .loop-test .taken in let n = c .before .before .before .before .before .before .before .before .before .before .before .before .before .before .before .pre .numbers in omega arith

@@ -1,0 +1,2 @@
+-- The laws of every message followed.
+pub mod EveryLaws

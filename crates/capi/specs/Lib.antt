@@ -1,2 +1,4 @@
 pub mod Told
 pub mod Why
+pub mod Carried
+pub mod Tell

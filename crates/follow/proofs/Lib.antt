@@ -1,1 +1,2 @@
 pub mod PortionsLaws
+pub mod EveryPortionsLaws

@@ -2,7 +2,7 @@
 use Prim.Native.Nat.{ℕ, zero, suc, _+_, _≤_, _<_}
 use native.Mathlib.Omega.{arith}
 use mathlib.Core.List.{List, [], _∷_, _++_, append-nil, append-assoc}
-use mathlib.Core.Path.{_≡_, refl, sym, ap, subst, _∙_}
+use mathlib.Core.Path.{_≡_, refl, sym, ap, _∙_}
 use lib.ListN.{length, take, length-append}
 use Rattle.rules.specs.Memory.{size}
 use Rattle.rules.specs.MemoryTest.{stepMemory, powerOnMemory}
@@ -13,12 +13,12 @@ use Rattle.reasons.specs.Follow.{Followed, Seen, followLines, toldAt, unfollowe
 use Rattle.reasons.specs.Told.{seenOfScript}
 use Rattle.reasons.specs.Why.{Told, stepsOf}
 use Rattle.script.specs.Feed.{keptLine, keptRoom}
-use Rattle.script.specs.Feeding.{afterLines, allButLast, begun, joinFirst, lastLine, lastPart, linesBehind, restBehind, whole}
-use Rattle.script.proofs.PortionLaws.{after-append, begun-all, begun-nil, joins, lines-ended, split-some, whole-nil}
+use Rattle.script.specs.Feeding.{afterLines, allButLast, begun, joinFirst, lastLine, linesBehind, restBehind, whole}
+use Rattle.script.proofs.PortionLaws.{after-append, begun-all, joins, lines-ended, split-some, whole-nil}
 use Rattle.script.proofs.PortionsLaws.{begun-open, joined, serves}
 use Rattle.script.proofs.feed.BegunLaws.{kept-reads}
 use Rattle.follow.specs.Seen.{seenMemory, seenOn, seenStep}
-use Rattle.follow.specs.One.{Ended, PortionFollowed, followedOf, toldOf}
+use Rattle.follow.specs.One.{PortionFollowed, followedOf, toldOf}
 use Rattle.follow.specs.Portions.{FinishesScript, Follows, FollowsScript, Portion, PortionsFollowed, PortionsTold, Settled, bytesOf, followed, lastMemory, lastState}
 use Rattle.follow.specs.declared.one.State.{State as State·rt}
 use Rattle.follow.specs.declared.one.Told.{Told as Told·rt}

@@ -1,18 +1,19 @@
 -- What following every message promises. Assumes nothing.
-use Prim.Native.Nat.{ℕ, _+_, _≤_, _<_}
+use Prim.Native.Nat.{ℕ, _+_, _*_, _≤_, _<_}
 use mathlib.Core.Bool.{Bool}
 use mathlib.Core.List.{List, [], _++_}
 use mathlib.Core.Path.{_≡_}
 use lib.ListN.{length, take}
 use Rattle.rules.specs.Build.{paper01}
 use Rattle.rules.specs.MemoryTest.{isMemory}
-use Rattle.reasons.specs.Follow.{stillWaiting, tellLines, tellingLines}
+use Rattle.reasons.specs.Follow.{stillWaiting, tellLines, tellQueued, tellingLines}
 use Rattle.script.specs.Feed.{keptLine, keptRoom, lastNumber}
-use Rattle.script.specs.Feeding.{afterLines, begun, linesBehind, restBehind, whole}
+use Rattle.script.specs.Feeding.{afterLines, begun, lastLine, linesBehind, restBehind, whole}
 use Rattle.script.specs.Read.{OneLine}
 use Rattle.script.specs.Written.{Appended}
 use Rattle.follow.specs.Seen.{seenMemory}
 use Rattle.follow.specs.Waiting.{linesRoom}
+use Rattle.follow.specs.declared.every.End.{End as End·rt}
 use Rattle.follow.specs.declared.every.Lines.{Lines as Lines·rt}
 use Rattle.follow.specs.declared.every.State.{State as State·rt}
 use Rattle.follow.specs.declared.every.Told.{Told as Told·rt}
@@ -52,6 +53,8 @@ pub record LinesTold (m b u : List ℕ) (lines : ℕ) (ws out m′ kept′ waiti
   pub short : r .kept ≤ keptRoom
   pub waits : take (r .count) waiting′ ≡ stillWaiting (lines + 1) ws (seenMemory m (whole (b ++ take (r .used) u)))
   pub told : Appended out 0 out′ (r .end) (tellingLines (tellLines (lines + 1) ws (seenMemory m (whole (b ++ take (r .used) u)))))
+  pub at-most : r .end ≤ linesRoom * length (whole (b ++ take (r .used) u))
+  pub stopped : r .stop ≡ 1 → r .used < length u
   pub all-used : r .stop ≡ 0 → r .used ≡ length u
   pub no-room : r .stop ≡ 1 → length out < r .end + linesRoom
   pub stops : r .stop ≤ 1
@@ -66,6 +69,8 @@ pub record PortionTold (m : List ℕ) (st : State·rt) (input out m′ out′ : 
       ≡ stillWaiting (st .script .lines + 1) (waitingOf st) (seenMemory m (linesBehind (keptLine (st .script)) (take (t .used) input)))
   pub told : Appended out 0 out′ (t .written)
       (tellingLines (tellLines (st .script .lines + 1) (waitingOf st) (seenMemory m (linesBehind (keptLine (st .script)) (take (t .used) input)))))
+  pub at-most : t .written ≤ linesRoom * length (linesBehind (keptLine (st .script)) (take (t .used) input))
+  pub stopped : t .stop ≡ 1 → t .used < length input
   pub all-used : t .stop ≡ 0 → t .used ≡ length input
   pub no-room : t .stop ≡ 1 → length out < t .written + linesRoom
   pub stops : t .stop ≤ 1
@@ -75,3 +80,21 @@ pub record ToldTo (m : List ℕ) (st : State·rt) (input out m′ out′ : List 
   pub enough : st .script .lines + length input < lastNumber → PortionTold m st input out m′ out′ t
   pub last-number : lastNumber ≤ st .script .lines + length input
       → (m′ ≡ m) × ((out′ ≡ out) × (t ≡ record { state = st; used = 0; written = 0; stop = 2 }))
+
+-- the script's end, with these last lines: they are stepped and told, and of those that still wait it is told so
+pub record EndTold (m : List ℕ) (st : State·rt) (ls : List (List ℕ)) (out m′ out′ : List ℕ) (e : End·rt) : Type 0 where
+  pub memory : m′ ≡ afterLines m ls
+  pub told : Appended out 0 out′ (e .written)
+      (tellingLines
+      (tellLines (st .script .lines + 1) (waitingOf st) (seenMemory m ls)
+      ++ tellQueued (st .script .lines + length ls) (stillWaiting (st .script .lines + 1) (waitingOf st) (seenMemory m ls))))
+  pub stop : e .stop ≡ 0
+
+-- for any state and memory: a line that has begun is the last. Where the output has no room for twice as many messages as the queue has places, nothing
+-- is done; and where no line number is left for a line that has begun
+pub record FinishedTo (m : List ℕ) (st : State·rt) (out m′ out′ : List ℕ) (e : End·rt) : Type 0 where
+  pub enough : 2 * linesRoom ≤ length out → st .script .lines + 1 < lastNumber → EndTold m st (lastLine (keptLine (st .script))) out m′ out′ e
+  pub none-begun : 2 * linesRoom ≤ length out → keptLine (st .script) ≡ [] → EndTold m st [] out m′ out′ e
+  pub last-number : 2 * linesRoom ≤ length out → (keptLine (st .script) ≡ [] → ⊥) → lastNumber ≤ st .script .lines + 1
+      → (m′ ≡ m) × ((out′ ≡ out) × (e ≡ record { written = 0; stop = 2 }))
+  pub no-room : length out < 2 * linesRoom → (m′ ≡ m) × ((out′ ≡ out) × (e ≡ record { written = 0; stop = 1 }))

@@ -5,3 +5,4 @@ pub mod Portions
 pub mod Text
 pub mod Waiting
 pub mod Every
+pub mod EveryPortions

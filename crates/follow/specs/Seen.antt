@@ -3,7 +3,7 @@ use Prim.Native.Nat.{ℕ, _+_, _≤_, _<_}
 use mathlib.Core.Bool.{Bool, true}
 use mathlib.Core.List.{List, [], _∷_, map}
 use mathlib.Core.Path.{_≡_}
-use lib.ListN.{length, drop}
+use lib.ListN.{length}
 use Rattle.rules.specs.Build.{paper01, groupCount}
 use Rattle.rules.specs.Memory.{nodeAt, runningAt, size, word}
 use Rattle.rules.specs.MemoryTest.{isMemory, powerOnMemory, stepMemory}
@@ -16,7 +16,7 @@ use Rattle.rules.specs.declared.Operation.{Operation as Operation·rt}
 use Rattle.rules.specs.declared.Operation.the-variants.{Arrive, Schedule, Preempt, Dispatch, Tick, Poll, Peek, Dispose, BeginAtomic, EndAtomic, Describe, Launch, Unknown}
 use Rattle.reasons.specs.ByPlace.{firstReason, laterReason, leaving}
 use Rattle.reasons.specs.Follow.{Seen, seenOf, seenRun}
-use Rattle.script.specs.Read.{fieldLimit, lineEnd, lineOf}
+use Rattle.script.specs.Read.{fieldLimit}
 use Rattle.follow.specs.declared.seen.Line.{Line as Line·rt}
 
 -- what is seen of a step on memory

@@ -1,5 +1,5 @@
 -- What telling of the messages that leave in a line promises. Assumes nothing.
-use Prim.Native.Nat.{ℕ, _+_, _*_, _≤_}
+use Prim.Native.Nat.{ℕ, _+_, _≤_}
 use mathlib.Core.List.{List}
 use mathlib.Core.Path.{_≡_}
 use lib.ListN.{length, take}
@@ -7,7 +7,6 @@ use Rattle.rules.specs.Build.{paper01}
 use Rattle.reasons.specs.Follow.{Seen, tellingLines, tellings, waitingAfter, waitingWith}
 use Rattle.script.specs.Written.{Appended}
 use Rattle.follow.specs.Seen.{Sees}
-use Rattle.follow.specs.Text.{whyRoom}
 use Rattle.follow.specs.declared.seen.Line.{Line as Line·rt}
 use Rattle.follow.specs.declared.waiting.Waiting.{Waiting as Waiting·rt}
 

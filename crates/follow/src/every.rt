@@ -19,9 +19,13 @@ use script::read::FIELDS;
 use validate::is_node;
 ghost use mathlib.Core.Path.{_≡_};
 ghost use mathlib.Core.List.{[]};
-ghost use lib.ListN.{take};
+ghost use Prim.Native.Nat.{_+_, _≤_};
+ghost use lib.ListN.{length, take};
+ghost use Rattle.reasons.specs.Follow.{tellQueued, tellingLines};
 ghost use Rattle.script.specs.Feed.{keptLine};
-ghost use Rattle.follow.specs.Every.{waitingOf, portionTold, Tellable, LinesTold, ToldTo};
+ghost use Rattle.follow.specs.Every.{waitingOf, portionTold, Tellable, LinesTold, ToldTo, FinishedTo};
+ghost use Rattle.follow.specs.Waiting.{linesRoom};
+ghost use Rattle.script.specs.Written.{Appended};
 
 // The room for the lines of as many messages as the queue has places.
 pub const LINES_ROOM: usize = PLACES * WHY_ROOM;
@@ -37,6 +41,12 @@ pub struct State {
 pub struct Told {
     pub state: State,
     pub used: usize,
+    pub written: usize,
+    pub stop: u32,
+}
+
+// What the script's end came to: how many bytes of the output were written, and why it stopped.
+pub struct End {
     pub written: usize,
     pub stop: u32,
 }
@@ -111,7 +121,13 @@ fn tell_lines(
 }
 
 // What a portion came to whose lines were told, with what is kept behind them.
-fn portion_told(r: Lines, kept: [u8; KEPT_LINE], count: usize, waiting: [u64; PLACES], used: usize) -> Told
+fn portion_told(
+    r: Lines,
+    kept: [u8; KEPT_LINE],
+    count: usize,
+    waiting: [u64; PLACES],
+    used: usize,
+) -> Told
     ensures { λ t. ⌜ t ≡ portionTold r kept count waiting used ⌝ }
 {
     Told {
@@ -168,4 +184,52 @@ pub fn tell(memory: &mut [u32], state: State, input: &[u8], out: &mut [u8]) -> T
     }
     let grown = keep(&mut kept, r.kept, &input[last..]);
     portion_told(r, kept, grown, waiting, input.len())
+}
+
+// Of those that wait it is told that they are still queued.
+fn put_queued(state: State, out: &mut [u8], at: usize) -> End
+    requires { ⌜ at + linesRoom ≤ length (now out) ⌝ }
+    ensures { λ e. ⌜ Appended (now (out .entry)) at (now (out .exit)) (e .written) (tellingLines (tellQueued (state .script .lines) (waitingOf state))) × (e .stop ≡ 0) ⌝ }
+{
+    let script = state.script;
+    let waiting = state.waiting;
+    let count = fewer(state.count, PLACES as u64);
+    let queued = Line {
+        next: 0,
+        answer: 0,
+        arrival: false,
+        queued: 0,
+        left: PLACES as u64,
+        first: STILL_QUEUED,
+        later: STILL_QUEUED,
+    };
+    End {
+        written: put_left(out, at, &waiting, count, script.lines, queued),
+        stop: ALL_USED,
+    }
+}
+
+// The script's end: a line that has begun is its last, as if it had its newline, and of the messages that are still queued it is told so.
+pub fn finish(memory: &mut [u32], state: State, out: &mut [u8]) -> End
+    ensures { λ e. ⌜ FinishedTo (now (memory .entry)) state (now (out .entry)) (now (memory .exit)) (now (out .exit)) e ⌝ }
+{
+    if out.len() < 2 * LINES_ROOM {
+        return End {
+            written: 0,
+            stop: NO_ROOM,
+        };
+    }
+    let script = state.script;
+    if script.begun() {
+        let t = tell(memory, state, b"\n", out);
+        if t.stop != ALL_USED {
+            return End {
+                written: 0,
+                stop: t.stop,
+            };
+        }
+        let after = t.state;
+        return put_queued(after, out, t.written);
+    }
+    put_queued(state, out, 0)
 }

@@ -1,11 +1,11 @@
 -- Lines told one after the other, and a portion. Assumes nothing.
-use Prim.Native.Nat.{ℕ, suc, _+_, _≤_, _<_}
+use Prim.Native.Nat.{ℕ, suc, _+_, _*_, _≤_, _<_}
 use native.Mathlib.Omega.{arith}
 use mathlib.Core.Bool.{Bool}
 use mathlib.Core.List.{List, [], _∷_, _++_, append-nil, append-assoc}
 use mathlib.Core.Logic.{⊎-elim}
-use mathlib.Core.Path.{_≡_, refl, sym, ap, subst, _∙_}
-use lib.ListN.{length, take, drop}
+use mathlib.Core.Path.{_≡_, refl, sym, ap, _∙_}
+use lib.ListN.{length, take, drop, length-append}
 use lib.Seq.{length-take-le, take-all, take-take}
 use Rattle.rules.specs.Build.{paper01}
 use Rattle.rules.specs.MemoryTest.{isMemory}
@@ -55,6 +55,7 @@ pub record Telling-lines (m b u : List ℕ) (lines : ℕ) (ws out m′ kept wait
   pub few : r .count ≤ paper01 .places
   pub told : Appended out 0 out′ (r .end) (tellingLines (tellLines (lines + 1) ws (seenMemory m (whole (b ++ take (r .used) u)))))
   pub within : r .end ≤ length out′
+  pub at-most : r .end ≤ linesRoom * length (whole (b ++ take (r .used) u))
 
 -- none yet
 pub telling-start : {m : List ℕ} {good : Bool} {kept : List ℕ} {begins : ℕ} {u : List ℕ} {lines : ℕ} {waiting : List ℕ} {count : ℕ} (out : List ℕ)
@@ -71,6 +72,7 @@ telling-start {m} {kept = kept} {begins = begins} {u = u} {lines = lines} out h 
       few = h .few;
       told = rw none (appended-none out 0);
       within = omega arith;
+      at-most = omega arith;
     }
 
 module _ {m b u : List ℕ} {lines : ℕ} {ws out m₁ kept waiting out₁ : List ℕ} {r : Lines·rt} (g : Telling-lines m b u lines ws out m₁ kept waiting out₁ r) where
@@ -110,12 +112,13 @@ module _ {m b u : List ℕ} {lines : ℕ} {ws out m₁ kept waiting out₁ : Lis
         told = appended-as (appended-then (g .told) (appended-as (d .told (seenOn m₁ l) (n .sees)) named))
             (sym (lines-append (tellLines (lines + 1) ws ss) (tellLines i before (s ∷ []))) ∙ ap tellingLines (sym (tell-append (lines + 1) ws ss (s ∷ [])) ∙ ap (tellLines (lines + 1) ws) all));
         within = let a = d .at-most in omega arith;
+        at-most = let a = d .at-most in let f = g .at-most in let k = ap length (more-lines p inside (t .next) (n .next) .0) ∙ length-append ls (l ∷ []) in omega arith;
       }
 
   -- how far they are, and why it stopped
-  pub telling-end : (stop : ℕ) → length out₁ ≡ length out → (stop ≡ 0 → r .used ≡ length u) → (stop ≡ 1 → length out₁ < r .end + linesRoom) → stop ≤ 1
+  pub telling-end : (stop : ℕ) → length out₁ ≡ length out → (stop ≡ 0 → r .used ≡ length u) → (stop ≡ 1 → length out₁ < r .end + linesRoom) → (stop ≡ 1 → r .used < length u) → stop ≤ 1
       → LinesTold m b u lines ws out m₁ kept waiting out₁ (record { used = r .used; lines = r .lines; kept = r .kept; count = r .count; end = r .end; stop = stop })
-  telling-end stop same all room stops =
+  telling-end stop same all room before stops =
       let p = g .passed in
       record {
         inside = p .inside;
@@ -125,6 +128,8 @@ module _ {m b u : List ℕ} {lines : ℕ} {ws out m₁ kept waiting out₁ : Lis
         short = p .room;
         waits = g .waits;
         told = g .told;
+        at-most = g .at-most;
+        stopped = before;
         all-used = all;
         no-room = λ e. let f = room e in omega arith;
         stops = stops;
@@ -136,9 +141,11 @@ module _ {m b u : List ℕ} {lines : ℕ} {ws out m₁ kept waiting out₁ : Lis
 pub waiting-few : (st : State·rt) (n : ℕ) → length (st .waiting) ≡ paper01 .places → Fewer (st .count) (paper01 .places) n
     → (take n (st .waiting) ≡ waitingOf st) × (n ≤ paper01 .places)
 unfolding waitingOf
-waiting-few st n all f =
-    (⊎-elim (λ h. let a = f .leaving in take-all n (st .waiting) (omega arith) ∙ sym (take-all (st .count) (st .waiting) (let w = f .waiting in omega arith)))
-    (λ h. let e : n ≡ st .count = let w = f .waiting in omega arith in ap (λ (k : ℕ). take k (st .waiting)) e) (f .all), f .leaving)
+waiting-few st n all f = (
+  ⊎-elim (λ h. let a = f .leaving in take-all n (st .waiting) (omega arith) ∙ sym (take-all (st .count) (st .waiting) (let w = f .waiting in omega arith)))
+      (λ h. let e : n ≡ st .count = let w = f .waiting in omega arith in ap (λ (k : ℕ). take k (st .waiting)) e) (f .all),
+  f .leaving,
+)
 
 module _ (m : List ℕ) (st : State·rt) {input : List ℕ} {last : ℕ} (n : ℕ) (few : st .script .lines + length input < lastNumber) (c : Cut input 0 last)
     (begins : take n (st .script .kept) ≡ keptLine (st .script)) where
@@ -166,10 +173,10 @@ module _ (m : List ℕ) (st : State·rt) {input : List ℕ} {last : ℕ} (n : �
     told-portion : (used count : ℕ) (kept : List ℕ) → used ≤ length input
         → whole (take n (st .script .kept) ++ take (r .used) (take last input)) ≡ linesBehind (keptLine (st .script)) (take used input)
         → keptLine (record { lines = r .lines; kept = kept; count = count }) ≡ take keptRoom (restBehind (keptLine (st .script)) (take used input))
-        → (r .stop ≡ 0 → used ≡ length input)
+        → (r .stop ≡ 0 → used ≡ length input) → (r .stop ≡ 1 → used < length input)
         → ToldTo m st input out m′ out′ (portionTold r kept count waiting′ used)
     unfolding waitingOf
-    told-portion used count kept inside w rest all =
+    told-portion used count kept inside w rest all before =
         record {
           enough = λ h. record {
             inside = inside;
@@ -182,6 +189,8 @@ module _ (m : List ℕ) (st : State·rt) {input : List ℕ} {last : ℕ} (n : �
             told = appended-as (q .told)
                 (ap (λ (ls : List (List ℕ)). tellingLines (tellLines (st .script .lines + 1) (take k (st .waiting)) (seenMemory m ls))) w
                 ∙ ap (λ (x : List ℕ). tellingLines (tellLines (st .script .lines + 1) x (seenMemory m (linesBehind (keptLine (st .script)) (take used input))))) waits);
+            at-most = let a = q .at-most in let k = ap length w in omega arith;
+            stopped = before;
             all-used = all;
             no-room = q .no-room;
             stops = q .stops;
@@ -203,7 +212,7 @@ module _ (m : List ℕ) (st : State·rt) {input : List ℕ} {last : ℕ} (n : �
         (ap (λ (x : List ℕ). whole (b ++ x)) u ∙ j .lines ∙ ap (λ (x : List ℕ). linesBehind x (take (r .used) input)) begins)
         (ap (λ (x : List ℕ). lineOf (take keptRoom x)) (q .kept) ∙ one-take keptRoom y (begun-is-one (b ++ take (r .used) (take last input)))
         ∙ ap (take keptRoom) (ap (λ (x : List ℕ). begun (b ++ x)) u ∙ j .rest ∙ ap (λ (x : List ℕ). restBehind x (take (r .used) input)) begins))
-        (λ e. absurd (stopped e))
+        (λ e. absurd (stopped e)) (λ e. let f = q .stopped e in let h = c .inside in omega arith)
 
     -- all was used
     pub told-used : r .stop ≡ 0 → (kept : List ℕ) (count : ℕ) → take count kept ≡ take keptRoom (take (r .kept) kept′ ++ drop last input)
@@ -216,4 +225,4 @@ module _ (m : List ℕ) (st : State·rt) {input : List ℕ} {last : ℕ} (n : �
         (ap (λ (x : List ℕ). whole (b ++ x)) u ∙ portion-lines kept-one-line c ∙ ap (λ (x : List ℕ). linesBehind x input) begins ∙ ap (linesBehind (keptLine (st .script))) (sym all))
         (portion-kept kept-one-line c (r .lines) kept count (grown ∙ ap (λ (x : List ℕ). take keptRoom (x ++ drop last input)) (q .kept ∙ ap (λ (x : List ℕ). begun (b ++ x)) u))
         ∙ ap (λ (x : List ℕ). take keptRoom (restBehind x input)) begins ∙ ap (λ (x : List ℕ). take keptRoom (restBehind (keptLine (st .script)) x)) (sym all))
-        (λ e. refl)
+        (λ e. refl) (λ e. omega arith)

@@ -121,12 +121,12 @@ module _ (m : List ℕ) (st : State·rt) {input : List ℕ} {last : ℕ} (n : �
 -- The script's end.
 
 -- a line that has begun is the last
-ended-last : (b : List ℕ) → false ≡ isEmpty b → linesBehind b (newline ∷ []) ≡ lastLine b
+pub ended-last : (b : List ℕ) → false ≡ isEmpty b → linesBehind b (newline ∷ []) ≡ lastLine b
 unfolding linesBehind joinFirst allButLast split lastLine
 ended-last [] e = absurd (true≢false (sym e))
 ended-last (x ∷ b) e = ap (λ (l : List ℕ). l ∷ []) (append-nil (x ∷ b))
 
-none-last : (b : List ℕ) → true ≡ isEmpty b → lastLine b ≡ []
+pub none-last : (b : List ℕ) → true ≡ isEmpty b → lastLine b ≡ []
 unfolding lastLine
 none-last [] e = refl
 none-last (x ∷ b) e = absurd (true≢false e)

@@ -1,11 +1,9 @@
 -- A message's place in the queue, line after line. Assumes nothing.
 use Prim.Native.Nat.{ℕ, zero, suc, _+_, _-_, _≤_, _<_}
 use native.Mathlib.Omega.{arith}
-use native.Mathlib.Numerals.{add-one}
-use mathlib.Core.Bool.{Bool, true, false}
+use mathlib.Core.Bool.{true, false}
 use mathlib.Core.List.{List, [], _∷_, _++_}
-use mathlib.Core.Path.{_≡_, refl, sym, ap, subst, _∙_}
-use lib.Dec.{eqb}
+use mathlib.Core.Path.{_≡_, refl, sym, ap, _∙_}
 use lib.ListN.{length, replicate, length-replicate}
 use borrow.Author.Tests.{eq-eqb, ne-eqb}
 use Rattle.rules.specs.Operation.{unreadable}
@@ -13,8 +11,6 @@ use Rattle.reasons.specs.ByPlace.{leaving}
 use Rattle.reasons.specs.Follow.{Followed, Seen, followLine, followLines, movedUp, pickedUp, toldAt}
 use Rattle.reasons.specs.Why.{Told, told, untold}
 use Rattle.follow.specs.Seen.{Sees}
-use Rattle.follow.specs.One.{followedOf, toldOf}
-use Rattle.follow.specs.declared.one.Followed.{Followed as Followed·rt}
 use Rattle.follow.specs.declared.seen.Line.{Line as Line·rt}
 
 -- as many leave as said

@@ -1,7 +1,7 @@
 -- The next line of a portion: where it stands, or from what is kept. Assumes nothing.
 use Prim.Native.Nat.{ℕ, suc, _+_, _-_, _≤_, _<_}
 use native.Mathlib.Omega.{arith}
-use mathlib.Core.Bool.{Bool, true, false}
+use mathlib.Core.Bool.{Bool}
 use mathlib.Core.List.{List, [], _∷_, _++_}
 use mathlib.Core.Path.{_≡_, refl, sym, ap, subst, _∙_}
 use lib.Dec.{eqb}
@@ -10,7 +10,6 @@ use lib.Seq.{set-split}
 use Rattle.rules.specs.MemoryTest.{stepMemory}
 use Rattle.rules.specs.Operation.{Operation}
 use Rattle.rules.specs.Script.{newline, readLine}
-use Rattle.reasons.specs.Follow.{Seen}
 use Rattle.script.specs.Feed.{keptRoom}
 use Rattle.script.specs.Read.{OneLine, lineEnd, lineOf}
 use Rattle.script.proofs.OneLineLaws.{line-front, line-newline, line-other, one-append, one-of, one-take}

@@ -1,15 +1,12 @@
 -- The words of a node that are read after an arrival: who runs, how many are queued, and how many a group's buffer holds. Assumes nothing.
-use Prim.Native.Nat.{ℕ, zero, suc, pred, _+_, _*_, _-_, _≤_, _<_}
+use Prim.Native.Nat.{ℕ, zero, suc, _+_, _*_, _-_, _≤_, _<_}
 use native.Mathlib.Omega.{arith}
-use mathlib.Core.Bool.{Bool, true, false}
 use mathlib.Core.List.{List}
 use mathlib.Core.Path.{_≡_, refl, sym, ap, _∙_}
-use lib.Dec.{eqb, ltb}
 use lib.ListN.{length, getD}
 use borrow.Author.Tests.{eq-eqb, ne-eqb, lt-ltb, le-ltb}
 use Rattle.rules.specs.Build.{groupCount}
-use Rattle.rules.specs.Memory.{word, messagesAt, groupAt, groupsFrom, groupAddress, groupStride, groupsAt, bufferAt, nodeAt, queueAt, queueStride, queuedAt, countOffset, runningAt, size}
-use Rattle.rules.specs.MemoryTest.{isMemory}
+use Rattle.rules.specs.Memory.{word, messagesAt, groupAt, groupsFrom, groupAddress, groupStride, groupsAt, bufferAt, nodeAt, queueAt, queueStride, queuedAt, countOffset, size}
 use Rattle.rules.specs.Node.{Group, emptyGroup, groupOf}
 use Rattle.rules.proofs.Map.MapLaws.{test-size}
 use Rattle.memory.specs.Writes.{InGroup}

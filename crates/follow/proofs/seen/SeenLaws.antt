@@ -1,23 +1,23 @@
 -- A line stepped: what is told of it is what is seen of its step. Assumes nothing.
 use Prim.Native.Nat.{ℕ, zero, suc, _+_, _-_, _≤_, _<_}
 use native.Mathlib.Omega.{arith}
-use mathlib.Core.Bool.{Bool, true, false, true≢false, cond, not, _&&_, _||_}
+use mathlib.Core.Bool.{Bool, true, false, true≢false, not, _&&_}
 use mathlib.Core.List.{List, [], _∷_, _++_, map}
 use mathlib.Core.Path.{_≡_, refl, sym, ap, subst, _∙_}
 use lib.Dec.{eqb, ltb}
-use lib.ListN.{length, take, drop}
+use lib.ListN.{length, drop}
 use borrow.Author.Tests.{eqb-true, eqb-false, ltb-false, le-leb}
 use Rattle.rules.specs.Build.{paper01, groupCount}
 use Rattle.rules.specs.Lists.{isEmpty}
 use Rattle.rules.specs.Memory.{nodeAt, runningAt, size, word, words}
-use Rattle.rules.specs.MemoryTest.{MemoryStep, isMemory, powerOnMemory, replaced, stepMemory}
+use Rattle.rules.specs.MemoryTest.{MemoryStep, isMemory, replaced, stepMemory}
 use Rattle.rules.specs.Node.{Message, Node, powerOn}
 use Rattle.rules.specs.Operation.{Operation, arrive, preempt, dispatch, schedule, tick, user, unknown, badGroup, notNode, refused}
 use Rattle.rules.specs.Refusal.{refusal, refuseArrive}
-use Rattle.rules.specs.Run.{Event, arrived, arrivedBy, asked, disposedBy, leftBy, scriptLine, wasAccepted}
+use Rattle.rules.specs.Run.{arrived, arrivedBy, asked, disposedBy, leftBy, scriptLine, wasAccepted}
 use Rattle.rules.specs.Script.{readLine}
 use Rattle.rules.specs.Step.{Stepped, step}
-use Rattle.rules.specs.Types.{operationOf, reportOf}
+use Rattle.rules.specs.Types.{operationOf}
 use Rattle.rules.specs.Valid.{Valid}
 use Rattle.rules.specs.declared.Operation.{Operation as Operation·rt}
 use Rattle.rules.specs.declared.Operation.the-variants.{Arrive, Schedule, Preempt, Dispatch, Tick, Poll, Peek, Dispose, BeginAtomic, EndAtomic, Describe, Launch, Unknown}
@@ -28,8 +28,6 @@ use Rattle.rules.proofs.Steps.StepLaws.{power-on-valid, step-refused, step-vali
 use Rattle.memory.specs.Answers.{Answers}
 use Rattle.reasons.specs.ByPlace.{eventReasons, firstReason, laterReason, leaving}
 use Rattle.reasons.specs.Follow.{Seen, seenOf, seenRun}
-use Rattle.script.specs.Read.{LineRead, lineEnd, lineOf}
-use Rattle.script.specs.declared.read.Line.{Line as Read·rt}
 use Rattle.script.proofs.play.PlayLaws.{known-stays}
 use Rattle.script.proofs.read.LineEndLaws.{by-test}
 use Rattle.follow.specs.Seen.{Arrival, ArrivalKnown, First, Later, Leaves, LineStepped, Sees, SeenRuns, eventOn, leftLimit, seenMemory, seenOn, seenStep}

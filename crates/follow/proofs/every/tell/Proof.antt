@@ -13,6 +13,10 @@ use borrow.Author.Needs.{needs}
 use Rattle.follow.proofs.every.tell.Statement.{statement}
 use Rattle.follow.proofs.every.tell.Tie as tie
 
+-- cut is kept. Assumes nothing.
+
+-- cut is kept. Assumes nothing.
+
 sub-if1 : tie.Need-sub-if1
 sub-if1 c = search needs
 

@@ -14,6 +14,10 @@ use Rattle.follow.proofs.every.tell_lines.Tie as tie
 
 -- measure is what is left of the lines. Assumes nothing.
 
+-- measure is what is left of the lines. Assumes nothing.
+
+-- measure is what is left of the lines. Assumes nothing.
+
 abbrev Inv-loop : tie.InvT-loop
 Inv-loop memory₀ good kept₀ begun whole lines waiting₀ count out₀ fields₀ r₀ memory kept waiting out fields r =
     (length memory ≡ length memory₀)
@@ -63,7 +67,7 @@ same-length-4 : tie.Need-same-length-4 Inv-loop μ-loop
 same-length-4 c = c .before .before .loop .inv .1 .1 .1 .0
 
 returns : tie.Need-returns Inv-loop μ-loop
-returns c = let v = c .before .before .loop .inv in let g = v .1 .1 .1 .1 .1 .1 in let z = v .1 .1 .1 .1 .1 .0 in telling-end g (c .before .before .loop .r .stop) (v .1 .1 .1 .0) (λ e. let i = g .passed .inside in let f = c .if1 .left in omega arith) (λ e. omega arith) (omega arith)
+returns c = let v = c .before .before .loop .inv in let g = v .1 .1 .1 .1 .1 .1 in let z = v .1 .1 .1 .1 .1 .0 in telling-end g (c .before .before .loop .r .stop) (v .1 .1 .1 .0) (λ e. let i = g .passed .inside in let f = c .if1 .left in omega arith) (λ e. omega arith) (λ e. omega arith) (omega arith)
 
 same-length-5 : tie.Need-same-length-5 Inv-loop μ-loop
 same-length-5 c = c .before .before .before .before .loop .inv .0
@@ -78,7 +82,7 @@ same-length-8 : tie.Need-same-length-8 Inv-loop μ-loop
 same-length-8 c = c .before .before .before .before .loop .inv .1 .1 .1 .0
 
 returns-2 : tie.Need-returns-2 Inv-loop μ-loop
-returns-2 c = let v = c .before .before .before .before .loop .inv in let g = v .1 .1 .1 .1 .1 .1 in telling-end g 1 (v .1 .1 .1 .0) (λ e. omega arith) (λ e. let w = g .within in let t = c .if2 .taken in omega arith) (omega arith)
+returns-2 c = let v = c .before .before .before .before .loop .inv in let g = v .1 .1 .1 .1 .1 .1 in telling-end g 1 (v .1 .1 .1 .0) (λ e. omega arith) (λ e. let w = g .within in let t = c .if2 .taken in omega arith) (λ e. c .before .before .if1 .taken) (omega arith)
 
 pub tell-lines-spec : {M : Type 1} → statement M
 tell-lines-spec =

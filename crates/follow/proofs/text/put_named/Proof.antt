@@ -1,6 +1,5 @@
 -- `follow::text::put_named` meets its contract: a number of 64 bits has at most twenty digits. Assumes nothing.
 use native.Mathlib.Omega.{arith}
-use lib.ListN.{length}
 use Rattle.script.proofs.write.AppendedLaws.{appended-then}
 use Rattle.script.proofs.write.DecimalLaws.{decimal-length}
 use borrow.Author.Needs.{needs}

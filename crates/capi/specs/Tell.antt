@@ -17,9 +17,9 @@ endRoom = 2
 
 -- so many words and bytes hold a state, and so many a part of this count
 pub record Lent (words bytes part count : ℕ) : Type 0 where
-  pub words : stateRoom ≤ words
-  pub bytes : lineRoom ≤ bytes
-  pub part : count ≤ part
+  pub state : stateRoom ≤ words
+  pub line : lineRoom ≤ bytes
+  pub room : count ≤ part
 
 -- what a portion came to, by the words and bytes of the state behind it and by the part: why it stopped, how many bytes were written, and how many used
 unfoldable pub portionOf : List ℕ → List ℕ → List ℕ → Told·rt
@@ -43,7 +43,7 @@ pub record Unchanged (m w b out p m′ w′ b′ out′ p′ : List ℕ) (count 
   pub memory : m′ ≡ m
   pub words : w′ ≡ w
   pub bytes : b′ ≡ b
-  pub out : out′ ≡ out
+  pub output : out′ ≡ out
   pub part : p′ ≡ p
   pub nothing : count ≡ 0
 

@@ -5,7 +5,6 @@ use reasons::NO_ARRIVAL;
 use reasons::STILL_QUEUED;
 use rules::Report;
 use script::feed;
-use script::feed::KEPT_LINE;
 use script::feed::behind_last;
 use script::feed::keep;
 use script::feed::kept_count;

@@ -33,20 +33,20 @@ fn lent(words: usize, bytes: usize, part: usize, count: u32) -> bool
 #[no_mangle]
 pub extern "C" fn fugu_tell(
     memory: &mut [u32],
-    words: &mut [u64],
-    bytes: &mut [u8],
+    state: &mut [u64],
+    kept: &mut [u8],
     input: &[u8],
     out: &mut [u8],
     part: &mut [u64],
 ) -> u32
-    ensures { λ n. ⌜ TellsPortion (now (memory .entry)) (now (words .entry)) (now (bytes .entry)) (now (input .entry)) (now (out .entry)) (now (part .entry)) (now (memory .exit)) (now (words .exit)) (now (bytes .exit)) (now (out .exit)) (now (part .exit)) n ⌝ }
+    ensures { λ n. ⌜ TellsPortion (now (memory .entry)) (now (state .entry)) (now (kept .entry)) (now (input .entry)) (now (out .entry)) (now (part .entry)) (now (memory .exit)) (now (state .exit)) (now (kept .exit)) (now (out .exit)) (now (part .exit)) n ⌝ }
 {
-    if !lent(words.len(), bytes.len(), part.len(), PORTION) {
+    if !lent(state.len(), kept.len(), part.len(), PORTION) {
         return 0;
     }
-    let t = tell(memory, load(words, bytes), input, out);
+    let t = tell(memory, load(state, kept), input, out);
     let after = t.state;
-    save(words, bytes, after);
+    save(state, kept, after);
     part[0] = t.stop as u64;
     part[1] = t.written as u64;
     part[2] = t.used as u64;
@@ -57,17 +57,17 @@ pub extern "C" fn fugu_tell(
 #[no_mangle]
 pub extern "C" fn fugu_tell_end(
     memory: &mut [u32],
-    words: &[u64],
-    bytes: &[u8],
+    state: &[u64],
+    kept: &[u8],
     out: &mut [u8],
     part: &mut [u64],
 ) -> u32
-    ensures { λ n. ⌜ TellsEnd (now (memory .entry)) (now (words .entry)) (now (bytes .entry)) (now (out .entry)) (now (part .entry)) (now (memory .exit)) (now (out .exit)) (now (part .exit)) n ⌝ }
+    ensures { λ n. ⌜ TellsEnd (now (memory .entry)) (now (state .entry)) (now (kept .entry)) (now (out .entry)) (now (part .entry)) (now (memory .exit)) (now (out .exit)) (now (part .exit)) n ⌝ }
 {
-    if !lent(words.len(), bytes.len(), part.len(), END) {
+    if !lent(state.len(), kept.len(), part.len(), END) {
         return 0;
     }
-    let e = finish(memory, load(words, bytes), out);
+    let e = finish(memory, load(state, kept), out);
     part[0] = e.stop as u64;
     part[1] = e.written as u64;
     END

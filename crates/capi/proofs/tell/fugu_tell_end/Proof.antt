@@ -13,7 +13,7 @@ lent-requires c κs = search needs
 returns : tie.Need-returns
 returns c =
     let start = c .before .before .before .before .before .before .before in
-    end-nothing (start .args .memory .now) (start .args .words .now) (start .args .bytes .now) (start .args .out .now) (start .args .part .now)
+    end-nothing (start .args .memory .now) (start .args .state .now) (start .args .kept .now) (start .args .out .now) (start .args .part .now)
     (c .before .lent .ensures .1 (not-true _ (c .if1 .taken)))
 
 load-requires : tie.Need-load-requires

@@ -4,3 +4,4 @@ pub mod HeadRange
 pub mod WhyLaws
 pub mod CarriedLaws
 pub mod TellLaws
+pub mod TellPortionsLaws

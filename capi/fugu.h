@@ -12,7 +12,8 @@
  *
  * What a call has to tell, a report, where the head message stands, how many pages went or why a message was buffered, it writes into a part
  * that the caller lends beside the memory, and returns how many words it wrote there. Where the part is too short it returns 0, and neither the
- * memory nor the part has changed. Words of the part behind those written stay as they were.
+ * memory nor the part has changed. Words of the part behind those written stay as they were. fugu_tell and fugu_tell_end, which tell of every
+ * message of a script, have more lent to them: of each it holds that what is too short has 0 returned with nothing changed at all.
  *
  * What a caller owes: each pointer is not null, is aligned for its type, and has as many words or bytes behind it as the length after it says,
  * where a length may be 0; and what a call writes overlaps nothing else that it is handed.
@@ -36,6 +37,30 @@ enum {
     FUGU_HEAD = 2,     /* the words that say where the head message stands */
     FUGU_PAGING = 2,   /* the words that say how many pages went to swap space and back */
     FUGU_WHY = 4       /* the words that say why a message was buffered */
+};
+
+/* To tell of every message: what is lent beside the memory. */
+enum {
+    FUGU_TELL_STATE = 19,  /* the 64-bit words that are carried from portion to portion, */
+    FUGU_TELL_KEPT = 130,  /* and the bytes: a line that has begun */
+    FUGU_TELL_LINE = 2240, /* the bytes of output that a line of the script takes, at most: those of 16 messages, 140 each */
+    FUGU_TELL_OUT = 4480,  /* and those that the script's end takes */
+    FUGU_TELL = 3,         /* the 64-bit words that say what a portion came to */
+    FUGU_TELL_END = 2      /* and those that say what the script's end came to, the first two of them */
+};
+
+/* Where each number stands in these words. */
+enum {
+    FUGU_STOP = 0,    /* why it stopped */
+    FUGU_WRITTEN = 1, /* how many bytes of the output were written */
+    FUGU_USED = 2     /* how many bytes of the portion were used */
+};
+
+/* Why it stopped. */
+enum {
+    FUGU_ALL_USED = 0,   /* nothing is left of the portion */
+    FUGU_NO_ROOM = 1,    /* the output has no room for one more line of the script, or for its end */
+    FUGU_LAST_NUMBER = 2 /* fewer line numbers are left, of 64 bits, than the portion has bytes: nothing of it was used */
 };
 
 /* Where each number stands in a report. Of a refused step all but the answer are 0. */
@@ -126,6 +151,27 @@ uint32_t fugu_paging(const uint32_t *memory, size_t memory_length, uint32_t *FUG
  * script is played on it: it is left as after the script, whatever is told. Shorter memory is refused with 1 first and left as it was. */
 uint32_t fugu_why(uint32_t *FUGU_LENT memory, size_t memory_length, const uint8_t *script, size_t script_length, uint32_t line,
                   uint32_t *FUGU_LENT part, size_t part_length);
+
+/* Why every message of a script was buffered, or where it went instead, in one pass over portions of any size. The caller powers the memory on,
+ * lends a state and a kept line of zeros, which are those of a script of which nothing has been read, and hands the same ones to each call.
+ *
+ * The next portion: the lines that it completes are stepped on the memory, and for each message that leaves the hardware queue by them a line of
+ * text goes into the output, from its beginning on: the line by which it came, its reason and the line that this is named with, in numbers and in
+ * words, as in "line 3: reason 3 at line 4: its group wasn't running when it became head". Messages leave in the order in which they came. Where it
+ * stopped with FUGU_NO_ROOM, the rest of the portion, from the count used on, is for the next call; an output of FUGU_TELL_LINE bytes has room for
+ * one more line of the script at least. What stands in the output behind the count written says nothing.
+ *
+ * The state is, in order: how many lines were read, how many bytes of the kept line have begun, how many messages wait in the hardware queue, and the
+ * numbers of the 16 lines by which they came. It may be copied, kept and handed on as words, as the memory may; it may also be anything, and a count
+ * that is too large is taken for the room that there is. */
+uint32_t fugu_tell(uint32_t *FUGU_LENT memory, size_t memory_length, uint64_t *FUGU_LENT state, size_t state_length, uint8_t *FUGU_LENT kept,
+                   size_t kept_length, const uint8_t *input, size_t input_length, uint8_t *FUGU_LENT out, size_t out_length,
+                   uint64_t *FUGU_LENT part, size_t part_length);
+
+/* The script's end: a line that has begun is its last, as if it had its newline, and for each message that is still in the hardware queue a line of
+ * text says so. An output of fewer than FUGU_TELL_OUT bytes has no room for it, and nothing is done. The state stays as it was. */
+uint32_t fugu_tell_end(uint32_t *FUGU_LENT memory, size_t memory_length, const uint64_t *state, size_t state_length, const uint8_t *kept,
+                       size_t kept_length, uint8_t *FUGU_LENT out, size_t out_length, uint64_t *FUGU_LENT part, size_t part_length);
 
 #undef FUGU_LENT
 

@@ -1,5 +1,8 @@
 //! What the tests share.
 
+use std::fs;
+use std::path::{Path, PathBuf};
+
 use fugu::{Node, Report, SIZE};
 
 /// A node at power-on.
@@ -52,4 +55,16 @@ pub fn lines(script: &[u8]) -> Vec<&[u8]> {
         lines.pop();
     }
     lines
+}
+
+/// The scripts of order 6, each with its `.why` beside it.
+pub fn scripts() -> Vec<PathBuf> {
+    let folder = Path::new(env!("CARGO_MANIFEST_DIR")).join("../../vectors/order6");
+    let entries = fs::read_dir(folder).expect("a folder");
+    let paths = entries.map(|entry| entry.expect("an entry").path());
+    let scripts: Vec<_> = paths
+        .filter(|path| path.extension().is_some_and(|end| end == "script"))
+        .collect();
+    assert_eq!(scripts.len(), 33);
+    scripts
 }

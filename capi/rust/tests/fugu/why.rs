@@ -2,26 +2,13 @@
 //! memory and parts that are too short.
 
 use std::fs;
-use std::path::{Path, PathBuf};
 
 use fugu::{answer, calls, why, Reason, Refused, Why, SIZE, WHY};
 
-use crate::support::{lines, started};
+use crate::support::{lines, scripts, started};
 
 /// What stands in a part before a call.
 const BEFORE: u32 = 0xdead_beef;
-
-/// The scripts of order 6, each with its `.why` beside it.
-fn scripts() -> Vec<PathBuf> {
-    let folder = Path::new(env!("CARGO_MANIFEST_DIR")).join("../../vectors/order6");
-    let entries = fs::read_dir(folder).expect("a folder");
-    let paths = entries.map(|entry| entry.expect("an entry").path());
-    let scripts: Vec<_> = paths
-        .filter(|path| path.extension().is_some_and(|end| end == "script"))
-        .collect();
-    assert_eq!(scripts.len(), 33);
-    scripts
-}
 
 /// The memory after a script, and behind a node's words so many of 9.
 fn played(script: &[u8], behind: usize) -> Vec<u32> {

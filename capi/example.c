@@ -89,6 +89,26 @@ static void why(const char *script, uint32_t number) {
     }
 }
 
+/* Every reason of a script in one pass: it is fed in portions of ten bytes, to the same memory, state and kept line. */
+static void tell(const char *script) {
+    uint64_t state[FUGU_TELL_STATE] = {0};
+    uint8_t kept[FUGU_TELL_KEPT] = {0};
+    uint8_t out[FUGU_TELL_OUT];
+    uint64_t told[FUGU_TELL];
+    uint32_t report[FUGU_REPORT];
+    size_t length = strlen(script);
+
+    fugu_power_on(memory, FUGU_SIZE, report, FUGU_REPORT);
+    for (size_t at = 0; at < length; at += told[FUGU_USED]) {
+        size_t count = length - at < 10 ? length - at : 10;
+        fugu_tell(memory, FUGU_SIZE, state, FUGU_TELL_STATE, kept, FUGU_TELL_KEPT, (const uint8_t *)script + at, count, out, FUGU_TELL_OUT, told,
+                  FUGU_TELL);
+        fwrite(out, 1, told[FUGU_WRITTEN], stdout);
+    }
+    fugu_tell_end(memory, FUGU_SIZE, state, FUGU_TELL_STATE, kept, FUGU_TELL_KEPT, out, FUGU_TELL_OUT, told, FUGU_TELL);
+    fwrite(out, 1, told[FUGU_WRITTEN], stdout);
+}
+
 int main(void) {
     const char *script = "S,1\nA,1,7\nA,2,5\nD\nA,1,8\nO\n";
     uint32_t report[FUGU_REPORT];
@@ -143,6 +163,7 @@ int main(void) {
     why(script, 3);
     why(script, 5);
     why(script, 6);
+    tell(script);
 
     fugu_power_on(memory, FUGU_SIZE - 1, report, FUGU_REPORT);
     print_report("one word less", report);

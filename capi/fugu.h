@@ -12,8 +12,8 @@
  *
  * What a call has to tell, a report, where the head message stands, how many pages went or why a message was buffered, it writes into a part
  * that the caller lends beside the memory, and returns how many words it wrote there. Where the part is too short it returns 0, and neither the
- * memory nor the part has changed. Words of the part behind those written stay as they were. fugu_tell and fugu_tell_end, which tell of every
- * message of a script, have more lent to them: of each it holds that what is too short has 0 returned with nothing changed at all.
+ * memory nor the part has changed. Words of the part behind those written stay as they were. To fugu_tell and fugu_tell_end, which tell of every
+ * message of a script, a state and a kept line are lent too: where one of these is too short it is the same, 0 and nothing at all has changed.
  *
  * What a caller owes: each pointer is not null, is aligned for its type, and has as many words or bytes behind it as the length after it says,
  * where a length may be 0; and what a call writes overlaps nothing else that it is handed.

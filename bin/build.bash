@@ -36,6 +36,18 @@ prove() {
     fi
 }
 
+# play PROGRAM ARGUMENT..: runs a program in Rattle and ends with its status. It has none of its own but where a signal ends it: where it says on
+# standard error that it failed, that is passed on and the status is 1.
+play() {
+    local status=0 message
+    { message=$("$@" 2>&1 >&3 3>&-) || status=$?; } 3>&1
+    if [[ -n $message ]]; then
+        printf '%s\n' "$message" >&2
+        status=1
+    fi
+    exit "$status"
+}
+
 # run FOLDER PROGRAM ARGUMENT..: becomes a program in Rust, built first where a source is newer. The stamp gets the time before the build, so
 # that a source changed meanwhile is newer.
 run() {

@@ -1,5 +1,5 @@
 /* A node from C: power-on, steps by letter and by line, the head message, the place that it leaves, a timer that is forced, the processor taken
- * and given, pages sent out and brought in, and what is refused.
+ * and given, pages sent out and brought in, why messages of a script were buffered, and what is refused.
  *
  *     rt staticlib capi
  *     cc -std=c11 -Icapi capi/example.c target/staticlib/libcapi.a -o example && ./example
@@ -80,7 +80,37 @@ static void fill_frames(void) {
     print_head();
 }
 
+/* A script is played on the memory anew for each line that is asked for. */
+static void why(const char *script, uint32_t number) {
+    uint32_t told[FUGU_WHY];
+    if (fugu_why(memory, FUGU_SIZE, (const uint8_t *)script, strlen(script), number, told, FUGU_WHY) == FUGU_WHY) {
+        uint64_t named = (uint64_t)told[FUGU_LINE_HIGH] << 32 | told[FUGU_LINE_LOW];
+        printf("why line %u: answer %u, reason %u at line %llu\n", number, told[FUGU_ANSWER], told[FUGU_REASON], (unsigned long long)named);
+    }
+}
+
+/* Every reason of a script in one pass: it is fed in portions of ten bytes, to the same memory, state and kept line. */
+static void tell(const char *script) {
+    uint64_t state[FUGU_TELL_STATE] = {0};
+    uint8_t kept[FUGU_TELL_KEPT] = {0};
+    uint8_t out[FUGU_TELL_OUT];
+    uint64_t told[FUGU_TELL];
+    uint32_t report[FUGU_REPORT];
+    size_t length = strlen(script);
+
+    fugu_power_on(memory, FUGU_SIZE, report, FUGU_REPORT);
+    for (size_t at = 0; at < length; at += told[FUGU_USED]) {
+        size_t count = length - at < 10 ? length - at : 10;
+        fugu_tell(memory, FUGU_SIZE, state, FUGU_TELL_STATE, kept, FUGU_TELL_KEPT, (const uint8_t *)script + at, count, out, FUGU_TELL_OUT, told,
+                  FUGU_TELL);
+        fwrite(out, 1, told[FUGU_WRITTEN], stdout);
+    }
+    fugu_tell_end(memory, FUGU_SIZE, state, FUGU_TELL_STATE, kept, FUGU_TELL_KEPT, out, FUGU_TELL_OUT, told, FUGU_TELL);
+    fwrite(out, 1, told[FUGU_WRITTEN], stdout);
+}
+
 int main(void) {
+    const char *script = "S,1\nA,1,7\nA,2,5\nD\nA,1,8\nO\n";
     uint32_t report[FUGU_REPORT];
     const uint32_t group[] = {1};
     const uint32_t message[] = {1, 7, 8, 9};
@@ -128,6 +158,12 @@ int main(void) {
     step("S, no number", 'S', group, 0);
     step("Q", 'Q', group, 0);
     line("S, 1");
+
+    why(script, 2);
+    why(script, 3);
+    why(script, 5);
+    why(script, 6);
+    tell(script);
 
     fugu_power_on(memory, FUGU_SIZE - 1, report, FUGU_REPORT);
     print_report("one word less", report);

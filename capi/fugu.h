@@ -10,9 +10,10 @@
  * Where no message waits, the page frames and swap pages of a node are 0: a message that is disposed of and a page that goes elsewhere leave
  * no word behind, and memory with a word left there is no node.
  *
- * What a call has to tell, a report, where the head message stands or how many pages went, it writes into a part that the caller lends beside
- * the memory, and returns how many words it wrote there. Where the part is too short it returns 0, and neither the memory nor the part has changed. Words of
- * the part behind those written stay as they were.
+ * What a call has to tell, a report, where the head message stands, how many pages went or why a message was buffered, it writes into a part
+ * that the caller lends beside the memory, and returns how many words it wrote there. Where the part is too short it returns 0, and neither the
+ * memory nor the part has changed. Words of the part behind those written stay as they were. To fugu_tell and fugu_tell_end, which tell of every
+ * message of a script, a state and a kept line are lent too: where one of these is too short it is the same, 0 and nothing at all has changed.
  *
  * What a caller owes: each pointer is not null, is aligned for its type, and has as many words or bytes behind it as the length after it says,
  * where a length may be 0; and what a call writes overlaps nothing else that it is handed.
@@ -34,7 +35,32 @@ enum {
     FUGU_SIZE = 8104,  /* the words of a node */
     FUGU_REPORT = 16,  /* the words of a report */
     FUGU_HEAD = 2,     /* the words that say where the head message stands */
-    FUGU_PAGING = 2    /* the words that say how many pages went to swap space and back */
+    FUGU_PAGING = 2,   /* the words that say how many pages went to swap space and back */
+    FUGU_WHY = 4       /* the words that say why a message was buffered */
+};
+
+/* To tell of every message: what is lent beside the memory. */
+enum {
+    FUGU_TELL_STATE = 19,  /* the 64-bit words that are carried from portion to portion, */
+    FUGU_TELL_KEPT = 130,  /* and the bytes: a line that has begun */
+    FUGU_TELL_LINE = 2240, /* the bytes of output that a line of the script takes, at most: those of 16 messages, 140 each */
+    FUGU_TELL_OUT = 4480,  /* and those that the script's end takes */
+    FUGU_TELL = 3,         /* the 64-bit words that say what a portion came to */
+    FUGU_TELL_END = 2      /* and those that say what the script's end came to, the first two of them */
+};
+
+/* Where each number stands in these words. */
+enum {
+    FUGU_STOP = 0,    /* why it stopped */
+    FUGU_WRITTEN = 1, /* how many bytes of the output were written */
+    FUGU_USED = 2     /* how many bytes of the portion were used */
+};
+
+/* Why it stopped. */
+enum {
+    FUGU_ALL_USED = 0,   /* nothing is left of the portion */
+    FUGU_NO_ROOM = 1,    /* the output has no room for one more line of the script, or for its end */
+    FUGU_LAST_NUMBER = 2 /* fewer line numbers are left, of 64 bits, than the portion has bytes: nothing of it was used */
 };
 
 /* Where each number stands in a report. Of a refused step all but the answer are 0. */
@@ -68,7 +94,26 @@ enum {
     FUGU_BAD_NODE = 13,
     FUGU_BAD_SCHEDULE = 14,
     FUGU_BAD_TICKS = 15,
-    FUGU_ALREADY_RUNS = 16
+    FUGU_ALREADY_RUNS = 16,
+    FUGU_NO_ARRIVAL = 17  /* of fugu_why alone */
+};
+
+/* Where each number stands in what fugu_why tells, behind the answer. Where it refuses they are 0. */
+enum {
+    FUGU_REASON = 1,
+    FUGU_LINE_LOW = 2,  /* the line that the reason is named with: its low 32 bits, */
+    FUGU_LINE_HIGH = 3  /* and its high ones */
+};
+
+/* The reasons, and the line that each is named with: the one that moved the message, where nothing else is said. */
+enum {
+    FUGU_DISPOSED_OF = 1,    /* never buffered, disposed of: the line that disposed of it */
+    FUGU_STILL_QUEUED = 2,   /* still in the hardware queue: the script's last */
+    FUGU_NOT_RUNNING = 3,    /* its group wasn't running when it became head */
+    FUGU_OLDER_WAITING = 4,  /* older messages of its group were waiting in the buffer */
+    FUGU_REVOKED = 5,        /* its group was revoked */
+    FUGU_TIMEOUT = 6,        /* timeout */
+    FUGU_PROCESSOR_TAKEN = 7 /* the processor was taken */
 };
 
 /* The words of a node: FUGU_SIZE. */
@@ -99,6 +144,34 @@ uint32_t fugu_head(const uint32_t *memory, size_t memory_length, uint32_t *FUGU_
 /* Pages that went to swap space and back: into the part go how many were sent out so far, and how many were brought in, an exchange being one
  * of each. A count stays at 4,294,967,295 once there. 0 and 0 where the memory is no node. */
 uint32_t fugu_paging(const uint32_t *memory, size_t memory_length, uint32_t *FUGU_LENT part, size_t part_length);
+
+/* Why the message that came by a line of a script was buffered, or where it went instead: into the part go 0, the reason, and the line that it is
+ * named with. Lines count from 1, and the last may lack its newline. A line that the listing answers with 2 is refused with 2, any other that is no
+ * accepted arrival, or not in the script, with 17. The memory, of at least FUGU_SIZE words, whatever stands in it, becomes a node, and the whole
+ * script is played on it: it is left as after the script, whatever is told. Shorter memory is refused with 1 first and left as it was. */
+uint32_t fugu_why(uint32_t *FUGU_LENT memory, size_t memory_length, const uint8_t *script, size_t script_length, uint32_t line,
+                  uint32_t *FUGU_LENT part, size_t part_length);
+
+/* Why every message of a script was buffered, or where it went instead, in one pass over portions of any size. The caller powers the memory on,
+ * lends a state and a kept line of zeros, which are those of a script of which nothing has been read, and hands the same ones to each call.
+ *
+ * The next portion: the lines that it completes are stepped on the memory, and for each message that leaves the hardware queue by them a line of
+ * text goes into the output, from its beginning on: the line by which it came, its reason and the line that this is named with, in numbers and in
+ * words, as in "line 3: reason 3 at line 4: its group wasn't running when it became head". Messages leave in the order in which they came. Where it
+ * stopped with FUGU_NO_ROOM, the rest of the portion, from the count used on, is for the next call; an output of FUGU_TELL_LINE bytes has room for
+ * one more line of the script at least. What stands in the output behind the count written says nothing.
+ *
+ * The state is, in order: how many lines were read, how many bytes of the kept line have begun, how many messages wait in the hardware queue, and the
+ * numbers of the 16 lines by which they came. It may be copied, kept and handed on as words, as the memory may; it may also be anything, and a count
+ * that is too large is taken for the room that there is. */
+uint32_t fugu_tell(uint32_t *FUGU_LENT memory, size_t memory_length, uint64_t *FUGU_LENT state, size_t state_length, uint8_t *FUGU_LENT kept,
+                   size_t kept_length, const uint8_t *input, size_t input_length, uint8_t *FUGU_LENT out, size_t out_length,
+                   uint64_t *FUGU_LENT part, size_t part_length);
+
+/* The script's end: a line that has begun is its last, as if it had its newline, and for each message that is still in the hardware queue a line of
+ * text says so. An output of fewer than FUGU_TELL_OUT bytes has no room for it, and nothing is done. The state stays as it was. */
+uint32_t fugu_tell_end(uint32_t *FUGU_LENT memory, size_t memory_length, const uint64_t *state, size_t state_length, const uint8_t *kept,
+                       size_t kept_length, uint8_t *FUGU_LENT out, size_t out_length, uint64_t *FUGU_LENT part, size_t part_length);
 
 #undef FUGU_LENT
 

@@ -5,6 +5,7 @@
 //!   random memories to try calls on.
 //! - [`state`]: what a node holds, as text, and a node read from the bytes of its memory.
 //! - [`script`]: a script's lines read to operations, reports written as a listing.
+//! - [`why`]: why each message of a script was buffered.
 //! - [`generator`]: random scripts in flavours, made of bursts and fixed by a seed.
 //! - [`counts`]: which answers and traps scripts have met, and which events that no listing tells.
 //! - [`feed`]: a script on its way to the judge and to a program at once.
@@ -22,3 +23,4 @@ pub mod program;
 pub mod random;
 pub mod script;
 pub mod state;
+pub mod why;

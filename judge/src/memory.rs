@@ -75,6 +75,7 @@ pub fn read(memory: &[u32]) -> Result<Node, Fault> {
         groups: std::array::from_fn(|at| read_group(&words.group(at + 1))),
         pages: std::array::from_fn(|page| read_page(&words, page)),
         events: Vec::new(),
+        passages: Vec::new(),
     })
 }
 

@@ -172,6 +172,36 @@ pub enum Cause {
     Given,
 }
 
+/// What happens to the head of the hardware queue. No listing tells it; [`crate::why`] finds the reasons
+/// in it.
+#[derive(Clone, Copy, Debug, PartialEq, Eq)]
+pub enum Passage {
+    /// A message becomes head; whether its group runs then.
+    BecameHead { runs: bool },
+    /// D disposes of the head.
+    Disposed,
+    /// The head moves to its group's buffer.
+    Moved(Move),
+}
+
+/// What holds as a message moves.
+#[derive(Clone, Copy, Debug, PartialEq, Eq)]
+pub struct Move {
+    pub by: Mover,
+    /// Older ones of its group wait in the buffer.
+    pub older: bool,
+    pub revoked: bool,
+}
+
+#[derive(Clone, Copy, Debug, PartialEq, Eq)]
+pub enum Mover {
+    Timeout,
+    /// The settling of an act that took the processor from a group.
+    Take,
+    /// The settling of any other act.
+    Settling,
+}
+
 /// A step's report. Its default is that of an accepted step of which nothing is to be told.
 #[derive(Clone, Debug, Default, PartialEq, Eq)]
 pub struct Report {
@@ -183,6 +213,8 @@ pub struct Report {
     pub launched: Option<Launched>,
     /// In the order in which they happened; no part of the listing.
     pub events: Vec<Event>,
+    /// What happened to heads of the hardware queue, likewise.
+    pub passages: Vec<Passage>,
 }
 
 impl Report {
@@ -320,6 +352,7 @@ pub struct Node {
     pub pages: [Page; PAGES],
     /// What has happened in the step under way so far: nothing between steps.
     pub(crate) events: Vec<Event>,
+    pub(crate) passages: Vec<Passage>,
 }
 
 impl Node {
@@ -338,6 +371,7 @@ impl Node {
             groups: Default::default(),
             pages: [Page::default(); PAGES],
             events: Vec::new(),
+            passages: Vec::new(),
         }
     }
 
@@ -351,13 +385,17 @@ impl Node {
             _ => self.perform(operation),
         };
         report.events = std::mem::take(&mut self.events);
+        report.passages = std::mem::take(&mut self.passages);
         report
     }
 
     /// "An accepted operation acts, then come settling and the upcall."
     fn perform(&mut self, operation: &Operation) -> Report {
+        let before = self.running;
         let mut report = self.act(operation);
-        report.moved += self.settle();
+        let taken = before > 0 && self.running != before;
+        let by = if taken { Mover::Take } else { Mover::Settling };
+        report.moved += self.settle(by);
         self.bring_in_first(match operation {
             Operation::Dispatch { .. } => Cause::Given,
             _ => Cause::Next,
@@ -393,6 +431,8 @@ impl Node {
             self.events.push(Event::TwoActs);
         }
         self.events.extend(given.events);
+        self.passages.extend(taken.passages);
+        self.passages.extend(given.passages);
         Report {
             upcall: given.upcall,
             moved: taken.moved + given.moved,
@@ -550,6 +590,9 @@ impl Node {
     fn arrive(&mut self, group: usize, words: &[u32]) -> Report {
         let words = words.to_vec();
         self.queue.push_back(Message { group, words });
+        if self.queue.len() == 1 {
+            self.note_head();
+        }
         Report::default()
     }
 
@@ -606,7 +649,7 @@ impl Node {
             self.events.push(Event::IdleTimeout);
         }
         while !self.queue.is_empty() {
-            self.buffer_head();
+            self.buffer_head(Mover::Timeout);
         }
         self.timer = 0;
         // Somebody runs: settled, a queue that isn't empty has a head of the running group's.
@@ -642,7 +685,7 @@ impl Node {
             self.dispose_buffered(frame, place);
         } else {
             // Settled: the head of the queue is the running group's.
-            self.queue.pop_front();
+            self.take_head(Passage::Disposed);
         }
         Report::of_trap(trap)
     }
@@ -701,14 +744,14 @@ impl Node {
 
     /// "while the hardware queue has a head that is not the running group's, or whose group is
     /// buffered, that head moves"; returns how many did.
-    fn settle(&mut self) -> u32 {
+    fn settle(&mut self, by: Mover) -> u32 {
         let mut moved = 0;
         while let Some(head) = self.queue.front().filter(|head| !self.may_stay(head)) {
             let group = head.group;
             if group == self.running && self.groups[group - 1].buffer.messages == 0 {
                 self.events.push(Event::RevokedMoved);
             }
-            self.buffer_head();
+            self.buffer_head(by);
             moved += 1;
         }
         self.settle_timer();
@@ -729,12 +772,33 @@ impl Node {
     }
 
     /// Moves the head of the hardware queue to the end of its group's buffer.
-    fn buffer_head(&mut self) {
-        let head = self.queue.pop_front().expect("the queue has a head");
+    fn buffer_head(&mut self, by: Mover) {
+        let group = &self.groups[self.queue[0].group - 1];
+        let head = self.take_head(Passage::Moved(Move {
+            by,
+            older: group.buffer.messages > 0,
+            revoked: group.revoked,
+        }));
         let page = self.page_to_write(head.group);
         let buffer = &mut self.groups[head.group - 1].buffer;
         self.pages[page][buffer.next_place()] = Place::holding(&head.words);
         buffer.messages += 1;
+    }
+
+    /// Takes the head off the hardware queue; the message behind it becomes head.
+    fn take_head(&mut self, passage: Passage) -> Message {
+        let head = self.queue.pop_front().expect("the queue has a head");
+        self.passages.push(passage);
+        self.note_head();
+        head
+    }
+
+    /// Notes that the first message in the hardware queue, if there is one, has become head.
+    fn note_head(&mut self) {
+        if let Some(head) = self.queue.front() {
+            let runs = head.group == self.running;
+            self.passages.push(Passage::BecameHead { runs });
+        }
     }
 
     /// The frame with the page that the group's next message is written to: a new page, or its last,

@@ -27,7 +27,7 @@ fn readable(line: &[u8]) -> Option<Operation> {
 }
 
 /// "no sign, at most 4,294,967,295; leading zeros are read"
-fn number(field: &[u8]) -> Option<u32> {
+pub fn number(field: &[u8]) -> Option<u32> {
     if !(1..=MOST_DIGITS).contains(&field.len()) || !field.iter().all(u8::is_ascii_digit) {
         return None;
     }

@@ -17,3 +17,5 @@ pub const BAD_NODE: u32 = 13;
 pub const BAD_SCHEDULE: u32 = 14;
 pub const BAD_TICKS: u32 = 15;
 pub const ALREADY_RUNS: u32 = 16;
+/// Of [`crate::calls::why`] alone.
+pub const NO_ARRIVAL: u32 = 17;

@@ -42,6 +42,41 @@ mod raw {
             part: *mut u32,
             part_length: usize,
         ) -> u32;
+        pub fn fugu_why(
+            memory: *mut u32,
+            memory_length: usize,
+            script: *const u8,
+            script_length: usize,
+            line: u32,
+            part: *mut u32,
+            part_length: usize,
+        ) -> u32;
+        pub fn fugu_tell(
+            memory: *mut u32,
+            memory_length: usize,
+            state: *mut u64,
+            state_length: usize,
+            kept: *mut u8,
+            kept_length: usize,
+            input: *const u8,
+            input_length: usize,
+            out: *mut u8,
+            out_length: usize,
+            part: *mut u64,
+            part_length: usize,
+        ) -> u32;
+        pub fn fugu_tell_end(
+            memory: *mut u32,
+            memory_length: usize,
+            state: *const u64,
+            state_length: usize,
+            kept: *const u8,
+            kept_length: usize,
+            out: *mut u8,
+            out_length: usize,
+            part: *mut u64,
+            part_length: usize,
+        ) -> u32;
     }
 }
 
@@ -111,4 +146,76 @@ pub fn head(memory: &[u32], part: &mut [u32]) -> u32 {
 /// node.
 pub fn paging(memory: &[u32], part: &mut [u32]) -> u32 {
     unsafe { raw::fugu_paging(memory.as_ptr(), memory.len(), part.as_mut_ptr(), part.len()) }
+}
+
+/// Why the message that came by a line of a script was buffered: 0, the reason, and the low and high 32
+/// bits of the line that it is named with; or the refusal, 2 or 17, and zeros. The memory becomes a node,
+/// and the script is played on it; shorter memory is refused with 1 first, and left as it was.
+pub fn why(memory: &mut [u32], script: &[u8], line: u32, part: &mut [u32]) -> u32 {
+    unsafe {
+        raw::fugu_why(
+            memory.as_mut_ptr(),
+            memory.len(),
+            script.as_ptr(),
+            script.len(),
+            line,
+            part.as_mut_ptr(),
+            part.len(),
+        )
+    }
+}
+
+/// The next portion of a script, of which a state and a kept line of zeros have read nothing: for each
+/// message that leaves the hardware queue in it a line of text goes into the output, and into the part why
+/// it stopped, how many bytes were written and how many of the portion used. Where the state, the kept line
+/// or the part is too short, 0 is returned and nothing has changed.
+pub fn tell(
+    memory: &mut [u32],
+    state: &mut [u64],
+    kept: &mut [u8],
+    input: &[u8],
+    out: &mut [u8],
+    part: &mut [u64],
+) -> u32 {
+    unsafe {
+        raw::fugu_tell(
+            memory.as_mut_ptr(),
+            memory.len(),
+            state.as_mut_ptr(),
+            state.len(),
+            kept.as_mut_ptr(),
+            kept.len(),
+            input.as_ptr(),
+            input.len(),
+            out.as_mut_ptr(),
+            out.len(),
+            part.as_mut_ptr(),
+            part.len(),
+        )
+    }
+}
+
+/// The script's end: a line that has begun is its last, and for each message that is still queued a line of
+/// text says so. Into the part go why it stopped and how many bytes were written.
+pub fn tell_end(
+    memory: &mut [u32],
+    state: &[u64],
+    kept: &[u8],
+    out: &mut [u8],
+    part: &mut [u64],
+) -> u32 {
+    unsafe {
+        raw::fugu_tell_end(
+            memory.as_mut_ptr(),
+            memory.len(),
+            state.as_ptr(),
+            state.len(),
+            kept.as_ptr(),
+            kept.len(),
+            out.as_mut_ptr(),
+            out.len(),
+            part.as_mut_ptr(),
+            part.len(),
+        )
+    }
 }

@@ -5,6 +5,8 @@
 //! - [`Node`]: memory, owned or lent, with the calls as methods.
 //! - [`Report`]: what a step reported; [`answer`] has its answers by name.
 //! - [`Paging`]: how many pages went to swap space and back.
+//! - [`why()`]: why a message of a script was buffered; [`why_all`]: why each of them was, as text, and
+//!   [`Reasons`]: the same over a script's portions.
 //! - [`listing`]: a script played on a node, with its listing.
 //! - [`kept`]: memory kept in a file. With the script it makes the program `desk`.
 //!
@@ -23,10 +25,14 @@ pub mod calls;
 pub mod kept;
 pub mod listing;
 mod node;
+mod reasons;
 mod report;
+mod why;
 
 pub use node::{Node, Paging};
+pub use reasons::{why_all, Reasons};
 pub use report::{Report, Sent};
+pub use why::{why, Reason, Refused, Why};
 
 /// The words of a node.
 pub const SIZE: usize = 8104;
@@ -39,3 +45,24 @@ pub const HEAD: usize = 2;
 
 /// The words that say how many pages went to swap space and back.
 pub const PAGING: usize = 2;
+
+/// The words that say why a message was buffered.
+pub const WHY: usize = 4;
+
+/// The words that are carried from portion to portion while every message is told of.
+pub const TELL_STATE: usize = 19;
+
+/// The bytes that are carried beside them: a line that has begun.
+pub const TELL_KEPT: usize = 130;
+
+/// The bytes of output that a line of the script takes, at most.
+pub const TELL_LINE: usize = 2240;
+
+/// The bytes of output that the script's end takes, at most.
+pub const TELL_OUT: usize = 4480;
+
+/// The words that say what a portion came to.
+pub const TELL: usize = 3;
+
+/// The words that say what the script's end came to.
+pub const TELL_END: usize = 2;

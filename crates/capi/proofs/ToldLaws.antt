@@ -14,7 +14,7 @@ use Rattle.memory.proofs.WriteLaws.{wrote-set, wrote-next, wrote-then}
 use Rattle.capi.specs.Told.{reportRoom, reportWords, Reports, pairRoom, TellsPair}
 
 -- a part whose first words are written is these words and what stood behind them
-front-written : {p p′ ws : List ℕ} (k : ℕ) → length ws ≡ k → k ≤ length p → Wrote p p′ 0 ws → p′ ≡ ws ++ drop k p
+pub front-written : {p p′ ws : List ℕ} (k : ℕ) → length ws ≡ k → k ≤ length p → Wrote p p′ 0 ws → p′ ≡ ws ++ drop k p
 unfolding Stands
 front-written {p} {p′} {ws} k l long w =
     let e = stands-front p′ ws (omega (arith, w .same-length)) (w .here) in

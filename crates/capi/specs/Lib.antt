@@ -1,1 +1,5 @@
 pub mod Told
+pub mod Why
+pub mod Carried
+pub mod Tell
+pub mod TellPortions

@@ -1,11 +1,14 @@
 // The node for programs in other languages: calls over numbers and lent words, under plain names. What a call tells goes into a part that its
 // caller lends, and it returns how many words it wrote there: 0 where the part is too short, and then nothing at all has changed.
+pub mod carried;
 pub mod head;
 pub mod lines;
 pub mod paging;
 pub mod power;
 pub mod report;
 pub mod steps;
+pub mod tell;
+pub mod why;
 
 use memory::map;
 use validate::is_node;

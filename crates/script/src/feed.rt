@@ -65,7 +65,7 @@ impl State {
 }
 
 // A text behind what is kept, as far as there is room.
-fn keep(kept: &mut [u8], count: usize, text: &[u8]) -> usize
+pub fn keep(kept: &mut [u8], count: usize, text: &[u8]) -> usize
     requires { ⌜ (keptRoom ≤ length (now kept)) × (count ≤ keptRoom) ⌝ }
     ensures { λ r. ⌜ (take r (now (kept .exit)) ≡ take keptRoom (take count (now (kept .entry)) ++ now (text .entry))) × (r ≤ keptRoom) ⌝ }
 {
@@ -77,7 +77,7 @@ fn keep(kept: &mut [u8], count: usize, text: &[u8]) -> usize
 }
 
 // The position behind the last newline from a position on, or that position.
-fn behind_last(s: &[u8], from: usize) -> usize
+pub fn behind_last(s: &[u8], from: usize) -> usize
     requires { ⌜ from ≤ length (now s) ⌝ }
     ensures { λ r. ⌜ Cut (now (s .entry)) from r ⌝ }
 {
@@ -193,7 +193,7 @@ fn feed_begun(
 }
 
 // How long the line is that a state keeps: a state made by hand may have any count, and a newline among its bytes.
-fn kept_count(kept: &[u8], count: usize) -> usize
+pub fn kept_count(kept: &[u8], count: usize) -> usize
     requires { ⌜ keptRoom ≤ length (now kept) ⌝ }
     ensures { λ r. ⌜ (r ≤ keptRoom) × (take r (now (kept .entry)) ≡ lineOf (take keptRoom (take count (now (kept .entry))))) ⌝ }
 {

@@ -28,10 +28,10 @@ const DIGIT_LIMIT: usize = 10;
 const LARGEST: u64 = 4294967295;
 
 // A number, where it is one, and the position behind what was read of it.
-struct Digits {
-    ok: bool,
-    value: u32,
-    next: usize,
+pub struct Digits {
+    pub ok: bool,
+    pub value: u32,
+    pub next: usize,
 }
 
 // How many numbers stand behind a letter, where none is bad, and the position behind what was read of them.
@@ -87,7 +87,7 @@ fn judged(value: u64, count: usize, next: usize) -> Digits
 }
 
 // The number whose digits begin at a position.
-fn number(s: &[u8], at: usize) -> Digits
+pub fn number(s: &[u8], at: usize) -> Digits
     requires { ⌜ at ≤ length (now s) ⌝ }
     ensures { λ d. ⌜ NumberRead (now (s .entry)) at d ⌝ }
 {

@@ -1,6 +1,6 @@
 //! The judge's own tests: every case that the paper gives, the choices that it leaves, the private line
-//! over random runs, memories and what is told of them, the programs as they are called, and the scripts
-//! that they are measured with.
+//! over random runs, memories and what is told of them, why messages were buffered, the programs as they
+//! are called, and the scripts that they are measured with.
 
 mod acts;
 mod cases;
@@ -17,4 +17,5 @@ mod state;
 mod support;
 mod swap;
 mod trials;
+mod why;
 mod wiped;

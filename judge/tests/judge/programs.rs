@@ -107,10 +107,19 @@ fn judge_tells_how_it_is_used() {
     assert!(help.status.success());
     assert!(text(&help.stdout).starts_with("usage: bin/judge"));
     assert!(text(&help.stdout).contains("--state FILE"));
+    assert!(text(&help.stdout).contains("--why LINE"));
 
     for arguments in [
         "file",
         "--after file",
+        "--why",
+        "--why x",
+        "--why -1",
+        "--why 4294967296",
+        "--why 00000000001",
+        "--why 1 2",
+        "--why --all 1",
+        "--all",
         "--state",
         "--state one two",
         "--help --state",
@@ -134,12 +143,18 @@ fn file(name: &str, bytes: &[u8]) -> PathBuf {
     path
 }
 
-/// What the judge tells of a file: standard output, standard error and the exit code.
-fn told(path: &PathBuf) -> (String, String, Option<i32>) {
-    let told = judge().arg("--state").arg(path).output();
-    let told = told.expect("the program runs");
+/// Standard output, standard error and the exit code.
+type Streams = (String, String, Option<i32>);
+
+fn streams(told: Output) -> Streams {
     let (output, error) = (text(&told.stdout), text(&told.stderr));
     (output.to_string(), error.to_string(), told.status.code())
+}
+
+/// What the judge tells of a file.
+fn told(path: &PathBuf) -> Streams {
+    let told = judge().arg("--state").arg(path).output();
+    streams(told.expect("the program runs"))
 }
 
 #[test]
@@ -200,6 +215,71 @@ fn judge_tells_a_file_that_it_cannot_read() {
         let begun = format!("judge: {}: ", path.display());
         assert!(error.starts_with(&begun), "{error}");
         assert!(!error.contains("usage"), "{error}");
+    }
+}
+
+/// A message that was disposed of, one that is moved at once, and one that still waits.
+const ASKED: &[u8] = b"S,1\nA,1,7\nD\nA,2,5\n?\nA,1,8\nM";
+
+/// What the judge tells of a script where it is asked why.
+fn told_why(arguments: &str, script: &[u8]) -> Streams {
+    streams(fed(judge().arg("--why").args(arguments.split(' ')), script))
+}
+
+#[test]
+fn judge_tells_why_a_message_was_buffered() {
+    let second = "line 2: reason 1 at line 3: never buffered, disposed of\n";
+    let fourth = "line 4: reason 3 at line 4: its group wasn't running when it became head\n";
+    let sixth = "line 6: reason 2 at line 7: still in the hardware queue\n";
+    let all = [second, fourth, sixth].concat();
+    for (asked, told) in [
+        ("2", second),
+        ("0000000002", second),
+        ("4", fourth),
+        ("6", sixth),
+        ("--all", &all),
+    ] {
+        let told = (told.to_string(), String::new(), Some(0));
+        assert_eq!(told_why(asked, ASKED), told, "{asked}");
+    }
+}
+
+#[test]
+fn judge_tells_of_no_accepted_arrival_nothing() {
+    for script in ["", "\n", "S,1\nA,9,1\nA,1\nM"] {
+        let nothing = (String::new(), String::new(), Some(0));
+        assert_eq!(told_why("--all", script.as_bytes()), nothing, "{script}");
+    }
+}
+
+#[test]
+fn judge_refuses_to_tell_why_of_other_lines() {
+    let unreadable = "refused with 2: it can't be read";
+    let no_arrival = "refused with 17: it is no accepted arrival of this script";
+    for (asked, why) in [
+        ("0", no_arrival),
+        ("1", no_arrival),
+        ("5", unreadable),
+        ("8", no_arrival),
+        ("4294967295", no_arrival),
+    ] {
+        let error = format!("judge: line {asked}: {why}\n");
+        assert_eq!(told_why(asked, ASKED), (String::new(), error, Some(1)));
+    }
+}
+
+#[test]
+fn judge_tells_why_in_big_scripts() {
+    let script = [
+        &b"S,1\n".repeat(200_000),
+        &b"A,1,7\nO\n"[..],
+        &b"A,1,".repeat(1_000_000),
+    ];
+    let script = script.concat();
+    let told = "line 200001: reason 7 at line 200002: the processor was taken\n";
+    for asked in ["200001", "--all"] {
+        let told = (told.to_string(), String::new(), Some(0));
+        assert_eq!(told_why(asked, &script), told);
     }
 }
 

@@ -1,6 +1,7 @@
-//! The comparison of memories: that it agrees with the proved calls, that it fails with wrong ones,
-//! what is drawn, and the programs as they are called.
+//! The comparisons of memories and of reasons: that they agree with right answers, that they fail with
+//! wrong ones, what is drawn, and the programs as they are called.
 
 mod draws;
 mod programs;
+mod why;
 mod wrong;

@@ -1,10 +1,11 @@
-//! `memories` and `calls` as they are called: arguments, output and exit codes.
+//! `memories`, `reasons` and `calls` as they are called: arguments, output and exit codes.
 
 use std::process::{Command, Output};
 
 fn run(program: &str, arguments: &str) -> Output {
     let path = match program {
         "memories" => env!("CARGO_BIN_EXE_memories"),
+        "reasons" => env!("CARGO_BIN_EXE_reasons"),
         _ => env!("CARGO_BIN_EXE_calls"),
     };
     let mut command = Command::new(path);
@@ -35,9 +36,44 @@ fn few_memories_need_not_meet_everything() {
 }
 
 #[test]
+fn reasons_prints_a_table() {
+    let output = run("reasons", "140 7");
+    assert!(output.status.success(), "{}", text(&output.stderr));
+    assert_eq!(text(&output.stderr), "reasons: 140 of 140\n");
+    let table = text(&output.stdout);
+    let asked = "21280 lines asked for, of 140 scripts:\n";
+    assert!(table.starts_with(asked), "{table}");
+    assert_eq!(table.lines().count(), 1 + 15);
+    assert!(
+        table.contains("\n    140 refusal 17 of line 0\n"),
+        "{table}"
+    );
+    assert_eq!(run("reasons", "140 7").stdout, output.stdout);
+    assert!(run("reasons", "1 1").status.success());
+}
+
+#[test]
+fn reasons_writes_the_rows_of_a_script() {
+    let script = std::env::temp_dir().join(format!("reasons-{}.script", std::process::id()));
+    std::fs::write(&script, "S,1\nA,1,7\n?\nD").expect("written");
+    let output = run("reasons", &format!("--rows {}", script.display()));
+    std::fs::remove_file(&script).expect("removed");
+    assert!(output.status.success(), "{}", text(&output.stderr));
+    assert_eq!(
+        text(&output.stdout),
+        "0 refused 17\n1 refused 17\n2 reason 1 line 4\n3 refused 2\n4 refused 17\n5 refused 17\n"
+    );
+    assert_eq!(run("reasons", "--rows /nowhere").status.code(), Some(1));
+}
+
+#[test]
 fn the_programs_tell_how_they_are_used() {
-    let wrong: [(&str, &[&str]); 2] = [
+    let wrong: [(&str, &[&str]); 3] = [
         ("memories", &["", "1", "x 1", "1 -1", "1 1 1"]),
+        (
+            "reasons",
+            &["", "1", "x 1", "1 -1", "1 1 1", "--rows", "--rows a b"],
+        ),
         ("calls", &["--what", "--script", "--script a b", "a"]),
     ];
     for (program, wrong) in wrong {

@@ -3,7 +3,7 @@
 use std::fs;
 use std::path::{Path, PathBuf};
 
-use crate::support::{started, taken_apart};
+use crate::support::{lines, started, taken_apart};
 
 const HEADER: &str = "line,answer,value,trap,upcall,moved\n";
 
@@ -22,15 +22,6 @@ fn scripts(folder: &str) -> Vec<PathBuf> {
         .collect();
     scripts.sort();
     scripts
-}
-
-/// A script's lines: behind the last newline none begins.
-fn lines(script: &[u8]) -> Vec<&[u8]> {
-    let mut lines: Vec<_> = script.split(|&byte| byte == b'\n').collect();
-    if lines.last().is_some_and(|line| line.is_empty()) {
-        lines.pop();
-    }
-    lines
 }
 
 /// The listing of a script, each line played by its bytes, and by its letter too where it can be
@@ -83,4 +74,5 @@ fn vectors() {
     play("vectors/order3");
     play("vectors/order4");
     play("vectors/order5");
+    play("vectors/order6");
 }

@@ -7,4 +7,6 @@ mod listings;
 mod memory;
 mod paging;
 mod parts;
+mod reasons;
 mod support;
+mod why;

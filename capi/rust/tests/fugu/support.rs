@@ -1,5 +1,8 @@
 //! What the tests share.
 
+use std::fs;
+use std::path::{Path, PathBuf};
+
 use fugu::{Node, Report, SIZE};
 
 /// A node at power-on.
@@ -43,4 +46,25 @@ pub fn taken_apart(line: &[u8]) -> Option<(u8, Vec<u32>)> {
         .map(|field| field.parse().ok())
         .collect::<Option<_>>()?;
     Some((letter, numbers))
+}
+
+/// A script's lines: behind the last newline none begins.
+pub fn lines(script: &[u8]) -> Vec<&[u8]> {
+    let mut lines: Vec<_> = script.split(|&byte| byte == b'\n').collect();
+    if lines.last().is_some_and(|line| line.is_empty()) {
+        lines.pop();
+    }
+    lines
+}
+
+/// The scripts of order 6, each with its `.why` beside it.
+pub fn scripts() -> Vec<PathBuf> {
+    let folder = Path::new(env!("CARGO_MANIFEST_DIR")).join("../../vectors/order6");
+    let entries = fs::read_dir(folder).expect("a folder");
+    let paths = entries.map(|entry| entry.expect("an entry").path());
+    let scripts: Vec<_> = paths
+        .filter(|path| path.extension().is_some_and(|end| end == "script"))
+        .collect();
+    assert_eq!(scripts.len(), 33);
+    scripts
 }

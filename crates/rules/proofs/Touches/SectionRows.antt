@@ -199,7 +199,7 @@ module _ {b : Build} {n : Node} (v : Valid b n) (low : 1 ≤ n .running) where
       )
 
   -- the head of the queue may stay
-  ended-stays : (x : Message) (q : List Message) → sectionEnded n .queue ≡ x ∷ q → mayStay (sectionEnded n) x ≡ true
+  pub ended-stays : (x : Message) (q : List Message) → sectionEnded n .queue ≡ x ∷ q → mayStay (sectionEnded n) x ≡ true
   unfolding sectionEnded flagged timerFlagged withGroup
   ended-stays x q e =
       let head = stays n x (v .head-stays x q e) in

@@ -1,0 +1,280 @@
+//! Every reason of a script in one pass: the rows of the vectors as text, whatever the portions and the output; the
+//! state in lent words; and what is too short.
+
+use std::fs;
+
+use fugu::{
+    calls, why_all, Reason, Reasons, Why, SIZE, TELL, TELL_END, TELL_KEPT, TELL_LINE, TELL_OUT,
+    TELL_STATE,
+};
+
+use crate::support::{scripts, started};
+
+/// What stands in a part before a call.
+const BEFORE: u64 = 0xdead_beef_dead_beef;
+
+/// The words of the vectors' rows that have a reason, as lines of text.
+fn text(rows: &str) -> String {
+    let mut text = String::new();
+    for row in rows.lines() {
+        let fields: Vec<_> = row.split(' ').collect();
+        if let [arrival, "reason", reason, "line", line] = fields[..] {
+            let reason = Reason::ALL[reason.parse::<usize>().expect("a number") - 1];
+            let line = line.parse().expect("a number");
+            text += &format!("line {arrival}: {}\n", Why { reason, line });
+        }
+    }
+    text
+}
+
+/// Every script of the vectors with the text that is to be told of it.
+fn told() -> Vec<(String, Vec<u8>, String)> {
+    let read = scripts().into_iter().map(|path| {
+        let script = fs::read(&path).expect("a script");
+        let rows = fs::read_to_string(path.with_extension("why")).expect("its rows");
+        (path.display().to_string(), script, text(&rows))
+    });
+    read.collect()
+}
+
+/// What a call was lent beside the memory: a state and a kept line.
+#[derive(Clone, PartialEq, Debug)]
+struct Lent {
+    memory: Vec<u32>,
+    state: Vec<u64>,
+    kept: Vec<u8>,
+}
+
+impl Lent {
+    /// Those of a script of which nothing has been read.
+    fn new() -> Self {
+        Lent {
+            memory: started().into_memory(),
+            state: vec![0; TELL_STATE],
+            kept: vec![0; TELL_KEPT],
+        }
+    }
+
+    /// A portion, by calls with an output of so many bytes, and how many calls it took.
+    fn feed(&mut self, mut portion: &[u8], room: usize, told: &mut Vec<u8>) -> usize {
+        for calls in 1.. {
+            let mut out = vec![0; room];
+            let [stop, written, used] = self.tell(portion, &mut out);
+            told.extend_from_slice(&out[..written]);
+            portion = &portion[used..];
+            match stop {
+                0 => {
+                    assert!(portion.is_empty());
+                    return calls;
+                }
+                1 => assert!(written + TELL_LINE > room && !portion.is_empty()),
+                _ => panic!("there are line numbers enough"),
+            }
+        }
+        unreachable!()
+    }
+
+    /// One call.
+    fn tell(&mut self, portion: &[u8], out: &mut [u8]) -> [usize; TELL] {
+        let Lent {
+            memory,
+            state,
+            kept,
+        } = self;
+        let mut part = [BEFORE; TELL];
+        let written = calls::tell(memory, state, kept, portion, out, &mut part);
+        assert_eq!(written as usize, TELL);
+        part.map(|word| word as usize)
+    }
+
+    /// The script's end.
+    fn end(&mut self, out: &mut [u8]) -> [usize; TELL_END] {
+        let Lent {
+            memory,
+            state,
+            kept,
+        } = self;
+        let mut part = [BEFORE; TELL_END];
+        let written = calls::tell_end(memory, state, kept, out, &mut part);
+        assert_eq!(written as usize, TELL_END);
+        part.map(|word| word as usize)
+    }
+
+    /// The text of the script's end.
+    fn finish(&mut self, told: &mut Vec<u8>) {
+        let mut out = [0; TELL_OUT];
+        let [stop, written] = self.end(&mut out);
+        assert_eq!(stop, 0);
+        told.extend_from_slice(&out[..written]);
+    }
+}
+
+#[test]
+fn every_row_of_the_vectors_as_text() {
+    let mut lines = 0;
+    for (path, script, expected) in told() {
+        assert_eq!(
+            String::from_utf8_lossy(&why_all(&script)),
+            expected,
+            "{path}"
+        );
+        lines += expected.lines().count();
+    }
+    assert_eq!(lines, 819);
+}
+
+#[test]
+fn whatever_the_portions() {
+    for (path, script, expected) in told() {
+        for size in [1, 7, 4096] {
+            let mut told = Vec::new();
+            let mut reasons = Reasons::new();
+            for portion in script.chunks(size) {
+                reasons.feed(portion, &mut told).expect("memory");
+                reasons.feed(b"", &mut told).expect("memory");
+            }
+            reasons.finish(&mut told).expect("memory");
+            assert!(told == expected.as_bytes(), "{path} by {size}");
+        }
+    }
+}
+
+#[test]
+fn whatever_the_output() {
+    for (path, script, expected) in told() {
+        for room in [TELL_LINE, TELL_LINE + 1, 3 * TELL_LINE] {
+            let mut lent = Lent::new();
+            let mut told = Vec::new();
+            let calls = lent.feed(&script, room, &mut told);
+            assert!(
+                room > 2 * TELL_LINE || calls > expected.len() / room,
+                "{path}"
+            );
+            lent.finish(&mut told);
+            assert!(told == expected.as_bytes(), "{path} into {room}");
+        }
+    }
+}
+
+#[test]
+fn the_state_by_its_words() {
+    let mut lent = Lent::new();
+    let mut told = Vec::new();
+    lent.feed(b"S,1\nA,1,7\n?\nA,2,5\nA,1", TELL_OUT, &mut told);
+    assert!(told.is_empty());
+    assert_eq!(lent.state[..5], [4, 3, 2, 2, 4]);
+    assert_eq!(lent.kept[..3], *b"A,1");
+    lent.feed(b",8\nD\n", TELL_OUT, &mut told);
+    assert_eq!(lent.state[..3], [6, 0, 1]);
+    assert_eq!(lent.state[3], 5);
+    lent.finish(&mut told);
+    assert_eq!(told, why_all(b"S,1\nA,1,7\n?\nA,2,5\nA,1,8\nD"));
+}
+
+#[test]
+fn no_room_for_a_line_uses_none() {
+    let mut lent = Lent::new();
+    let before = lent.clone();
+    for room in [0, 1, TELL_LINE - 1] {
+        assert_eq!(lent.tell(b"S,1\n", &mut vec![0; room]), [1, 0, 0]);
+        assert_eq!(lent, before);
+        assert_eq!(lent.end(&mut vec![0; room]), [1, 0]);
+    }
+    assert_eq!(lent.end(&mut [0; TELL_OUT - 1]), [1, 0]);
+    assert_eq!(lent, before);
+    // A line that has only begun takes none.
+    assert_eq!(lent.tell(b"S,1", &mut []), [0, 0, 3]);
+}
+
+#[test]
+fn no_line_numbers_left_use_none() {
+    let mut lent = Lent::new();
+    lent.state[0] = u64::MAX - 4;
+    let before = lent.clone();
+    let mut out = [0; TELL_OUT];
+    assert_eq!(lent.tell(b"S,1\n", &mut out), [2, 0, 0]);
+    assert_eq!(lent, before);
+    assert_eq!(lent.tell(b"S,1", &mut out), [0, 0, 3]);
+    lent.state[0] = u64::MAX - 1;
+    assert_eq!(lent.end(&mut out), [2, 0]);
+}
+
+#[test]
+fn counts_too_large_are_the_room_there_is() {
+    let mut lent = Lent::new();
+    lent.state = vec![u64::MAX; TELL_STATE];
+    lent.state[0] = 7;
+    lent.kept = vec![b'A'; TELL_KEPT];
+    let mut out = [0; TELL_OUT];
+    let [stop, written] = lent.end(&mut out);
+    assert_eq!(stop, 0);
+    let line = format!(
+        "line {}: reason 2 at line 8: still in the hardware queue\n",
+        u64::MAX
+    );
+    assert_eq!(String::from_utf8_lossy(&out[..written]), line.repeat(16));
+}
+
+#[test]
+fn what_is_too_short_changes_nothing() {
+    let long = [TELL_STATE, TELL_KEPT, TELL];
+    for (which, length) in long.into_iter().enumerate() {
+        for short in [0, length - 1] {
+            let mut lengths = long;
+            lengths[which] = short;
+            let mut memory = vec![9; SIZE];
+            let mut state = vec![BEFORE; lengths[0]];
+            let mut kept = vec![9; lengths[1]];
+            let mut out = [9; TELL_OUT];
+            let mut part = vec![BEFORE; lengths[2]];
+            let told = calls::tell(
+                &mut memory,
+                &mut state,
+                &mut kept,
+                b"S,1\n",
+                &mut out,
+                &mut part,
+            );
+            assert_eq!(told, 0);
+            let end = &mut part[..short.min(TELL_END - 1)];
+            assert_eq!(
+                calls::tell_end(&mut memory, &state, &kept, &mut out, end),
+                0
+            );
+            assert_eq!(memory, vec![9; SIZE]);
+            assert_eq!(state, vec![BEFORE; lengths[0]]);
+            assert_eq!(kept, vec![9; lengths[1]]);
+            assert_eq!(out, [9; TELL_OUT]);
+            assert_eq!(part, vec![BEFORE; lengths[2]]);
+        }
+    }
+}
+
+#[test]
+fn what_stands_behind_stays() {
+    let mut memory = started().into_memory();
+    let mut state = vec![0; TELL_STATE + 2];
+    state[TELL_STATE..].fill(BEFORE);
+    let mut kept = vec![0; TELL_KEPT + 2];
+    kept[TELL_KEPT..].fill(9);
+    let mut out = [9; TELL_OUT];
+    let mut part = [BEFORE; TELL + 2];
+    let told = calls::tell(
+        &mut memory,
+        &mut state,
+        &mut kept,
+        b"A,1,7\nA",
+        &mut out,
+        &mut part,
+    );
+    assert_eq!(told as usize, TELL);
+    let text = b"line 1: reason 3 at line 1: its group wasn't running when it became head\n";
+    assert_eq!(part, [0, text.len() as u64, 7, BEFORE, BEFORE]);
+    assert_eq!(out[..text.len()], *text);
+    assert_eq!(state[TELL_STATE..], [BEFORE; 2]);
+    assert_eq!(kept[TELL_KEPT..], [9; 2]);
+    let mut part = [BEFORE; TELL_END + 1];
+    let told = calls::tell_end(&mut memory, &state, &kept, &mut out, &mut part);
+    assert_eq!(told as usize, TELL_END);
+    assert_eq!(part, [0, 0, BEFORE]);
+}

@@ -1,0 +1,2 @@
+pub mod PortionsLaws
+pub mod EveryPortionsLaws

@@ -1,0 +1,3 @@
+-- The laws of every message followed.
+pub mod EveryLaws
+pub mod EndLaws

@@ -1,0 +1,3 @@
+-- The laws of one message followed.
+pub mod PlaceLaws
+pub mod FollowLaws

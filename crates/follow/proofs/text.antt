@@ -1,0 +1,2 @@
+-- The laws of the answer as text.
+pub mod WhyLaws

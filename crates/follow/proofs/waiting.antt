@@ -1,0 +1,3 @@
+-- The laws of the lines whose messages wait.
+pub mod ShiftLaws
+pub mod TellLaws

@@ -1,0 +1,13 @@
+pub mod Trail
+pub mod SettleTrail
+pub mod ActTrail
+pub mod DisposeTrail
+pub mod ArriveTrail
+pub mod StepTrail
+pub mod RunTrail
+pub mod NamedLaws
+pub mod ToldLaws
+pub mod CountLaws
+pub mod FollowLaws
+pub mod WhyLaws
+pub mod WhyCasesLaws

@@ -1,0 +1,4 @@
+pub mod Asked
+pub mod Reads
+pub mod One
+pub mod All

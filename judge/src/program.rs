@@ -89,6 +89,23 @@ pub fn met_all(name: &str, missing: &[String]) -> ExitCode {
     failed(name, &format!("not met: {}", missing.join(", ")))
 }
 
+/// Tells a table of what was met; the exit code by what it was to meet and missed.
+pub fn tell_met(name: &str, table: &str, missing: &[String]) -> ExitCode {
+    match print(table) {
+        Ok(_) => met_all(name, missing),
+        Err(error) => finish(name, Err(error)),
+    }
+}
+
+/// Tells how far a long run is, each time so many more are done and at its end.
+pub fn progress(name: &str, step: u64) -> impl Fn(u64, u64) + '_ {
+    move |number, count| {
+        if number % step == 0 || number == count {
+            eprintln!("{name}: {number} of {count}");
+        }
+    }
+}
+
 /// The project's own program. It is called by its wrapper once, which builds it if need be.
 pub fn fugu(project: &Path) -> Result<PathBuf, String> {
     let wrapper = project.join("bin/fugu");

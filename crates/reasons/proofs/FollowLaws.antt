@@ -7,7 +7,7 @@ use mathlib.Core.Logic.{_≢_}
 use mathlib.Core.Bool.{Bool, true, false, true≢false, cond, not}
 use mathlib.Core.List.{List, [], _∷_, _++_, map, append-nil, append-assoc}
 use lib.Dec.{eqb}
-use lib.ListN.{length, drop, take, length-append, length-drop}
+use lib.ListN.{length, drop, take, length-append, length-drop, length-map}
 use lib.Seq.{drop-append-le, take-all}
 use borrow.Author.Tests.{eq-eqb, eqb-true, ne-eqb}
 use Rattle.rules.specs.Lists.{isEmpty, concatMap}
@@ -39,8 +39,7 @@ step-length v op = flow-length (step-queue v op)
 -- as many depart as have reasons
 dated-length : (i : ℕ) (rs : List ℕ) → length (dated i rs) ≡ length rs
 unfolding dated
-dated-length i [] = refl
-dated-length i (r ∷ rs) = ap suc (dated-length i rs)
+dated-length i rs = length-map rs (λ (r : ℕ). record { reason = r; line = i })
 
 -- a step accepts one message or none
 arrived-one : (op : Operation) (t : Bool) → isEmpty (arrivedBy op t) ≡ false → length (arrivedBy op t) ≡ 1

@@ -97,7 +97,7 @@ switch-takes b n runs =
     let one : switchMoments b n 0 ≡ takeMoments b n ++ [] = rw (ne-eqb 0 (n .running) (λ e. runs (sym e)), switchMoments) in
     one ∙ append-nil (takeMoments b n)
 
-pub switch-two : (b : Build) (n : Node) (g : ℕ) → g ≢ n .running → g ≢ 0
+switch-two : (b : Build) (n : Node) (g : ℕ) → g ≢ n .running → g ≢ 0
     → switchMoments b n g ≡ takeMoments b n ++ oneActMoments b false (taken b n .node) (dispatch g)
 unfolding switchMoments
 switch-two b n g other some = rw (ne-eqb g (n .running) other, ne-eqb g 0 some, switchMoments)
@@ -125,11 +125,11 @@ module _ {b : Build} {n : Node} (v : Valid b n) where
       (preempt-moments ∙ sym (switch-takes b n runs) ∙ sym (schedule-moments 0 (omega arith))) took
 
   -- to another it is O and I, and I finds the queue empty
-  pub given-unmoved : (g : ℕ) → given b n g .report .moved ≡ 0
+  given-unmoved : (g : ℕ) → given b n g .report .moved ≡ 0
   unfolding finish act valued withRunning
   given-unmoved g = omega (arith, settle-moved b (withRunning g (taken b n .node)), ap length (taken-empty v))
 
-  pub given-moments : (g : ℕ) → g ≢ 0 → g ≤ groupCount → stepMoments b (taken b n .node) (dispatch g) ≡ oneActMoments b false (taken b n .node) (dispatch g)
+  given-moments : (g : ℕ) → g ≢ 0 → g ≤ groupCount → stepMoments b (taken b n .node) (dispatch g) ≡ oneActMoments b false (taken b n .node) (dispatch g)
   unfolding performedMoments finish
   given-moments g some high =
       moments-performed b (taken b n .node) (dispatch g)

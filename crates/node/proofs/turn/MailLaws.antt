@@ -53,14 +53,14 @@ queued-mail n g none =
     counted [] = refl
     counted (m ∷ l) = lt-ltb 0 (suc (length l)) (omega arith)
 
--- a set with one group more below its lowest
-pub set-more : (p : ℕ → Bool) (g : ℕ) → 1 ≤ g → g ≤ groupCount
-    → setFrom p (suc (g - 1)) (groupCount - (g - 1)) ≡ cond (p g) 1 0 + 2 * setFrom p (suc g) (groupCount - g)
+-- the set of the groups from g on is that of those above it, doubled, and 1 more where g is in it
+pub set-more : (p : ℕ → Bool) (g : ℕ) → 1 ≤ g → g ≤ groupCount → (t : Bool) → p g ≡ t → (above set : ℕ)
+    → above ≡ setFrom p (suc g) (groupCount - g) → set ≡ cond t 1 0 + 2 * above → set ≡ setFrom p (suc (g - 1)) (groupCount - (g - 1))
 unfolding setFrom
-set-more p g low high =
+set-more p g low high t on above set e f =
     let first : suc (g - 1) ≡ g = omega arith in
     let rest : groupCount - (g - 1) ≡ suc (groupCount - g) = omega arith in
-    ap (λ (a : ℕ). setFrom p a (groupCount - (g - 1))) first ∙ ap (setFrom p g) rest
+    f ∙ (λ i. cond (sym on i) 1 0 + 2 * e i) ∙ sym (ap (λ (a : ℕ). setFrom p a (groupCount - (g - 1))) first ∙ ap (setFrom p g) rest)
 
 -- k groups make a set below 2 ^ k
 set-below : (p : ℕ → Bool) (g k : ℕ) → setFrom p g k < 2 ^ k

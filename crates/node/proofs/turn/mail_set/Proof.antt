@@ -1,7 +1,7 @@
 -- `node::turn::mail_set` meets its contract: with group g still to come, the set is that of the groups above it. Assumes nothing.
 use Prim.Native.Nat.{ℕ, zero, suc, _+_, _-_, _*_, _^_, _≤_, _<_}
 use native.Mathlib.Omega.{arith}
-use mathlib.Core.Bool.{Bool, true, false, cond}
+use mathlib.Core.Bool.{true, false}
 use mathlib.Core.List.{List}
 use mathlib.Core.Logic.{⊎-elim}
 use mathlib.Core.Path.{_≡_, refl, sym, ap, _∙_}
@@ -53,12 +53,15 @@ loop-less c = omega arith
 loop-again : tie.Need-loop-again Inv-loop μ-loop
 loop-again c =
     let l = c .before .before .before .loop in
-    let t = c .before .before .loop-test .taken in
-    (omega (arith, l .inv .0), λ n r h v.
-    let with : (x : Bool) → hasMail n (l .g) ≡ x → c .if1 .set ≡ cond x 1 0 + 2 * l .set → c .if1 .set ≡ setFrom (hasMail n) (suc (l .g - 1)) (groupCount - (l .g - 1)) =
-    λ x on e. e ∙ (λ i. cond (sym on i) 1 0 + 2 * l .inv .1 n r h v i) ∙ sym (set-more (hasMail n) (l .g) (omega arith) (l .inv .0)) in
-    let asked = sym (c .before .mail .ensures n r h v) in
-    ⊎-elim (λ w. with true (asked ∙ w .0 .taken) (omega (arith, w .1))) (λ w. with false (asked ∙ w .0 .left) (omega (arith, w .1))) (c .if1 .came))
+    let t = c .before .before .loop-test .taken in (
+      omega (arith, l .inv .0),
+      λ n r h v.
+          let asked = sym (c .before .mail .ensures n r h v) in
+          ⊎-elim
+          (λ w. set-more (hasMail n) (l .g) (omega arith) (l .inv .0) true (asked ∙ w .0 .taken) (l .set) (c .if1 .set) (l .inv .1 n r h v) (omega (arith, w .1)))
+          (λ w. set-more (hasMail n) (l .g) (omega arith) (l .inv .0) false (asked ∙ w .0 .left) (l .set) (c .if1 .set) (l .inv .1 n r h v) (omega (arith, w .1)))
+          (c .if1 .came),
+    )
 
 returns : tie.Need-returns Inv-loop μ-loop
 unfolding mailSet

@@ -126,7 +126,7 @@ uint32_t fugu_power_on(uint32_t *FUGU_LENT memory, size_t memory_length, uint32_
 /* 1 where the memory is a node, else 0. */
 uint32_t fugu_test(const uint32_t *memory, size_t memory_length);
 
-/* One step: the operation by its letter in a script, one of A S O I T M E D B N P L, and its numbers, for 'A' the group and the words, for 'B'
+/* One step: the operation by its letter in a script, one of A S O I T C M E D B N P L, and its numbers, for 'A' the group and the words, for 'B'
  * none or one, 1 where it turns force on and 0 where it leaves it. 'S' is 'O' and 'I' in one step. Memory that is no node is refused with 1; then
  * a letter of no operation, a wrong count of numbers, or another number for 'B', with 2. A refused step leaves the memory as it was. */
 uint32_t fugu_step(uint32_t *FUGU_LENT memory, size_t memory_length, uint8_t letter, const uint32_t *arguments, size_t arguments_length,

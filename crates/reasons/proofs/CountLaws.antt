@@ -11,7 +11,7 @@ use Rattle.rules.specs.Lists.{isEmpty, sum}
 use Rattle.rules.specs.Build.{Build, Sensible}
 use Rattle.rules.specs.Node.{Message, Node, bufferHolds, line, powerOn, timerRuns}
 use Rattle.rules.specs.Operation.{poll, peek, dispose, beginAtomic, endAtomic, describe, launch}
-use Rattle.rules.specs.Operation.{Operation, arrive, schedule, preempt, dispatch, tick, user, unknown, allZero, disposeExtend, noTrap, refused}
+use Rattle.rules.specs.Operation.{Operation, arrive, schedule, preempt, dispatch, tick, turn, user, unknown, allZero, disposeExtend, noTrap, refused}
 use Rattle.rules.specs.Paging.{store}
 use Rattle.rules.specs.Refusal.{refusal, refuseRequest}
 use Rattle.rules.specs.Run.{Event, Input, arrived, arrivedBy, arrivals, asked, disposedBy, left, leftBy, play, run, wasAccepted}
@@ -157,6 +157,7 @@ one-counts {b} {n} v (dispatch g) one e = of-act b n false (dispatch g) (moments
 one-counts v (schedule g) one e = absurd one
 one-counts {b} {n} v (tick k) one e =
     of-act b n false (tick k) (moments-performed b n (tick k) e) (ticks-none isJoined joined-outside b k (valued 0 n)) (ticks-none isDisposed disposed-outside b k (valued 0 n))
+one-counts {b} {n} v turn one e = of-act b n false turn (moments-performed b n turn e) refl refl
 one-counts {b} {n} v (user poll) one e = of-act b n false (user poll) (moments-performed b n (user poll) e) refl refl
 one-counts {b} {n} v (user (peek i)) one e = of-act b n false (user (peek i)) (moments-performed b n (user (peek i)) e) refl refl
 one-counts v (user dispose) one e = dispose-counts v e

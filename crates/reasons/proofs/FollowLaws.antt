@@ -14,7 +14,7 @@ use Rattle.rules.specs.Lists.{isEmpty, concatMap}
 use Rattle.rules.specs.Build.{Build, paper01}
 use Rattle.rules.specs.Node.{Message, Node, powerOn, withQueue}
 use Rattle.rules.specs.Refusal.{queued}
-use Rattle.rules.specs.Operation.{Operation, arrive, schedule, preempt, dispatch, tick, user, unknown, accepted, unreadable}
+use Rattle.rules.specs.Operation.{Operation, arrive, schedule, preempt, dispatch, tick, turn, user, unknown, accepted, unreadable}
 use Rattle.rules.specs.Run.{Event, Input, arrived, arrivedBy, asked, leftBy, play, run, wasAccepted}
 use Rattle.rules.specs.Script.{scriptLines}
 use Rattle.rules.specs.Step.{act, step, valued}
@@ -50,6 +50,7 @@ arrived-one preempt t some = absurd (true≢false some)
 arrived-one (dispatch g) t some = absurd (true≢false some)
 arrived-one (schedule g) t some = absurd (true≢false some)
 arrived-one (tick k) t some = absurd (true≢false some)
+arrived-one turn t some = absurd (true≢false some)
 arrived-one (user r) t some = absurd (true≢false some)
 arrived-one unknown t some = absurd (true≢false some)
 
@@ -263,6 +264,7 @@ queue-room v preempt = omega (arith, v .queue-length)
 queue-room v (dispatch g) = omega (arith, v .queue-length)
 queue-room v (schedule g) = omega (arith, v .queue-length)
 queue-room v (tick k) = omega (arith, v .queue-length)
+queue-room v turn = omega (arith, v .queue-length)
 queue-room v (user r) = omega (arith, v .queue-length)
 queue-room v unknown = omega (arith, v .queue-length)
 

@@ -10,7 +10,7 @@ use borrow.Author.Tests.{eq-eqb, le-ltb, ne-eqb}
 use Rattle.rules.specs.Build.{Build, groupCount}
 use Rattle.rules.specs.Node.{Node, withRunning}
 use Rattle.rules.specs.Operation.{Request, poll, peek, dispose, beginAtomic, endAtomic, describe, launch}
-use Rattle.rules.specs.Operation.{Operation, arrive, schedule, preempt, dispatch, tick, user, unknown, Report, allZero, refused}
+use Rattle.rules.specs.Operation.{Operation, arrive, schedule, preempt, dispatch, tick, turn, user, unknown, Report, allZero, refused}
 use Rattle.rules.specs.Refusal.{refusal, refuseSchedule}
 use Rattle.rules.specs.Run.{disposedBy, leftBy, wasAccepted}
 use Rattle.rules.specs.Step.{Stepped, act, finish, inARow, step, valued}
@@ -22,7 +22,7 @@ use Rattle.rules.proofs.Steps.StepLaws.{OneAct, given, step-answer, step-given,
 use Rattle.reasons.specs.ByPlace.{eventReasons, firstReason, laterReason, leaving}
 use Rattle.reasons.specs.Moments.{Moment, moved, oneActMoments, performedMoments, stepMoments, switchMoments, takeMoments}
 use Rattle.reasons.proofs.Trail.{Trail, ends, pending, trail-then}
-use Rattle.reasons.proofs.ActTrail.{Acted, dispatch-trail, preempt-trail, request-trail, tick-trail}
+use Rattle.reasons.proofs.ActTrail.{Acted, dispatch-trail, preempt-trail, request-trail, tick-trail, turn-trail}
 use Rattle.reasons.proofs.ArriveTrail.{arrive-trail}
 use Rattle.reasons.proofs.DisposeTrail.{dispose-trail}
 
@@ -73,6 +73,7 @@ act-trail {b} {n} v op one accepts =
     go (dispatch g) one e = dispatch-trail v g e
     go (schedule g) one e = absurd one
     go (tick k) one e = tick-trail v k
+    go turn one e = turn-trail v
     go (user r) one e = requested r e
     go unknown one e = suc-zero e
 

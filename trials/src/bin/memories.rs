@@ -22,8 +22,8 @@ At the end there is a table of what was met. The exit status is 1 at the first d
 told with the number of its memory; and if COUNT is 100000 or more and some clause of the memory
 test, some place of a stray word, of the head message or of a word that is read, some operation, some
 answer, some trap, some cause of a page's being used up, going out or coming in, something that a
-forced timer or a revoked group does, or some way of taking, giving or switching the processor was met
-by none.";
+forced timer or a revoked group does, some way of taking, giving or switching the processor, or some
+way for C to find mail, or none, was met by none.";
 
 const PROGRESS: u64 = 1_000_000;
 

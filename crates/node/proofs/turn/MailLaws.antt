@@ -13,7 +13,7 @@ use lib.Pow.{pow-mono}
 use borrow.Author.Tests.{le-ltb, lt-ltb}
 use Rattle.rules.specs.Build.{groupCount, paper01}
 use Rattle.rules.specs.Lists.{isEmpty}
-use Rattle.rules.specs.Node.{Message, Node, bufferHolds, groupOf, inQueue, line}
+use Rattle.rules.specs.Node.{Message, Node, bufferHolds, groupOf, inQueue}
 use Rattle.rules.specs.Operation.{acceptedWith, noTrap, turn}
 use Rattle.rules.specs.Refusal.{refusal}
 use Rattle.rules.specs.Step.{act, valued}

@@ -10,7 +10,7 @@ use lib.Dec.{eqb, ltb}
 use lib.ListN.{length, getD, drop}
 use borrow.Author.Tests.{lt-ltb, le-ltb, ltb-true, ltb-false, eqb-true}
 use Rattle.rules.specs.Lists.{all, isEmpty, upFrom}
-use Rattle.rules.specs.Build.{Build, groupCount}
+use Rattle.rules.specs.Build.{groupCount}
 use Rattle.rules.specs.Node.{Message, Node, line}
 use Rattle.rules.specs.Operation.{turn, noTrap, acceptedWith}
 use Rattle.rules.specs.Turn.{hasMail, turnOrder, firstOf, whoseTurn}
@@ -79,7 +79,7 @@ module _ (p : ℕ → Bool) (r : ℕ) (bound : r ≤ groupCount) where
 
 -- The lines.
 
--- a group has no mail exactly where its line is empty
+-- without mail a line is empty, and with it is not
 off-empty : (n : Node) (g : ℕ) → hasMail n g ≡ false → line n g ≡ []
 unfolding hasMail
 off-empty n g = go (line n g)
@@ -91,10 +91,6 @@ off-empty n g = go (line n g)
 on-some : (n : Node) (g : ℕ) → hasMail n g ≡ true → line n g ≢ []
 unfolding hasMail
 on-some n g on empty = false≢true (ap (λ (l : List Message). not (isEmpty l)) (sym empty) ∙ on)
-
-empty-off : (n : Node) (g : ℕ) → line n g ≡ [] → hasMail n g ≡ false
-unfolding hasMail
-empty-off n g empty = ap (λ (l : List Message). not (isEmpty l)) empty
 
 module _ (n : Node) (bound : n .running ≤ groupCount) where
   none-named : whoseTurn n ≡ 0 → NoMail n

@@ -4,7 +4,7 @@ use native.Mathlib.Decide.{ℕ-discrete}
 use native.Mathlib.Omega.{arith}
 use mathlib.Core.Bool.{Bool, true, false, not}
 use mathlib.Core.List.{List, [], _∷_, _++_}
-use mathlib.Core.Path.{_≡_, _∙_, ap, refl, subst, sym}
+use mathlib.Core.Path.{_≡_, _∙_, ap, refl}
 use Rattle.rules.specs.Lists.{Every, isEmpty, upFrom}
 use Rattle.rules.specs.Build.{Build, groupCount}
 use Rattle.rules.specs.Node.{Message, Node, line}
@@ -13,7 +13,7 @@ use Rattle.rules.specs.Refusal.{refusal}
 use Rattle.rules.specs.Turn.{hasMail, turnOrder, firstOf, whoseTurn}
 use Rattle.rules.specs.Step.{Stepped, valued, act, step}
 use Rattle.rules.specs.Valid.{Valid}
-use Rattle.rules.proofs.Steps.EveryLaws.{every-append, every-mono, every-upFrom}
+use Rattle.rules.proofs.Steps.EveryLaws.{every-append, every-upFrom}
 use Rattle.rules.proofs.Steps.StepLaws.{step-accepted}
 use Rattle.rules.proofs.Steps.QuietLaws.{quiet-finish, valid-quiet}
 

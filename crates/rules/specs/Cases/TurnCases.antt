@@ -3,7 +3,6 @@
 use Prim.Native.Nat.{ℕ}
 use mathlib.Core.Path.{_≡_}
 use mathlib.Core.List.{List, [], _∷_, _++_, map}
-use lib.ListN.{replicate}
 use Rattle.rules.specs.Lists.{upFrom}
 use Rattle.rules.specs.Turn.{turnOrder}
 use Rattle.rules.specs.Text.{bytes}

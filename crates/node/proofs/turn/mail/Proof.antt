@@ -1,5 +1,5 @@
 -- `node::turn::mail` meets its contract: the group's n is read from its record, and its messages in the queue are counted. Assumes nothing.
-use Prim.Native.Nat.{ℕ, _<_, _≤_}
+use Prim.Native.Nat.{_≤_}
 use native.Mathlib.Omega.{arith}
 use mathlib.Core.Path.{_≡_, sym, ap, _∙_}
 use borrow.Author.Needs.{needs}

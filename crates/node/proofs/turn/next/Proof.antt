@@ -1,6 +1,6 @@
 -- `node::turn::next` meets its contract: it computes what `byBits` says. Assumes nothing.
-use Prim.Native.Nat.{ℕ, zero, suc, _*_, _/_, _^_, _≤_}
-use mathlib.Core.Path.{_≡_, refl, sym, ap}
+use Prim.Native.Nat.{ℕ, _*_, _/_, _^_, _≤_}
+use mathlib.Core.Path.{sym, ap}
 use borrow.Author.Needs.{needs}
 use lib.Count.{trailing-le, trailingZeros}
 use Rattle.rules.specs.Turns.{byBits}

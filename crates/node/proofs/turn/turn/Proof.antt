@@ -1,9 +1,8 @@
 -- `node::turn::turn` meets its contract: the bits name what the search finds, and after a step that changes nothing nothing is due. Assumes
 -- nothing.
 use native.Mathlib.Omega.{arith}
-use mathlib.Core.Path.{_≡_, refl, sym, ap, _∙_}
+use mathlib.Core.Path.{ap, _∙_}
 use borrow.Author.Needs.{needs}
-use Rattle.rules.specs.Build.{groupCount}
 use Rattle.rules.specs.Memory.{word}
 use Rattle.rules.specs.Turns.{byBits}
 use Rattle.node.specs.Steps.{done}

@@ -66,7 +66,7 @@ enum {
 /* Where each number stands in a report. Of a refused step all but the answer are 0. */
 enum {
     FUGU_ANSWER = 0,      /* 0 accepted, else the number of the refusal, below */
-    FUGU_VALUE = 1,       /* what M, E, P, L or C hands back */
+    FUGU_VALUE = 1,       /* what C, M, E, P or L hands back */
     FUGU_TRAP = 2,        /* 1 dispose-extend, 2 atomicity-extend, 3 timeout, else 0 */
     FUGU_UPCALL = 3,      /* the group that gets an upcall, or 0 */
     FUGU_MOVED = 4,       /* how many messages went from the hardware queue to buffers */

@@ -102,7 +102,7 @@ vectors() {
 # listings PROGRAM: the scripts of vectors/ by a program.
 listings() {
     local script
-    vectors base order1 order2 order3 order4 order5 order6
+    vectors base order1 order2 order3 order4 order5 order6 order7
     printf '%s: %s scripts in vectors/\n' "$1" "${#scripts[@]}"
     for script in "${scripts[@]}"; do
         check "${script#"$root"/vectors/}" listing_agrees "$1" "$script"

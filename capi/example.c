@@ -1,5 +1,5 @@
 /* A node from C: power-on, steps by letter and by line, the head message, the place that it leaves, a timer that is forced, the processor taken
- * and given, pages sent out and brought in, why messages of a script were buffered, and what is refused.
+ * and given, who has mail, pages sent out and brought in, why messages of a script were buffered, and what is refused.
  *
  *     rt staticlib capi
  *     cc -std=c11 -Icapi capi/example.c target/staticlib/libcapi.a -o example && ./example
@@ -147,6 +147,7 @@ int main(void) {
     print_head();
     step("O", 'O', group, 0);
     print_head();
+    step("C", 'C', group, 0);
     step("I,1", 'I', group, 1);
     print_head();
     line("D");

@@ -66,7 +66,7 @@ enum {
 /* Where each number stands in a report. Of a refused step all but the answer are 0. */
 enum {
     FUGU_ANSWER = 0,      /* 0 accepted, else the number of the refusal, below */
-    FUGU_VALUE = 1,       /* what M, E, P or L hands back */
+    FUGU_VALUE = 1,       /* what C, M, E, P or L hands back */
     FUGU_TRAP = 2,        /* 1 dispose-extend, 2 atomicity-extend, 3 timeout, else 0 */
     FUGU_UPCALL = 3,      /* the group that gets an upcall, or 0 */
     FUGU_MOVED = 4,       /* how many messages went from the hardware queue to buffers */
@@ -126,9 +126,10 @@ uint32_t fugu_power_on(uint32_t *FUGU_LENT memory, size_t memory_length, uint32_
 /* 1 where the memory is a node, else 0. */
 uint32_t fugu_test(const uint32_t *memory, size_t memory_length);
 
-/* One step: the operation by its letter in a script, one of A S O I T M E D B N P L, and its numbers, for 'A' the group and the words, for 'B'
- * none or one, 1 where it turns force on and 0 where it leaves it. 'S' is 'O' and 'I' in one step. Memory that is no node is refused with 1; then
- * a letter of no operation, a wrong count of numbers, or another number for 'B', with 2. A refused step leaves the memory as it was. */
+/* One step: the operation by its letter in a script, one of A S O I T C M E D B N P L, and its numbers, for 'A' the group and the words, for 'B'
+ * none or one, 1 where it turns force on and 0 where it leaves it. 'S' is 'O' and 'I' in one step. 'C' changes nothing: its value is the next group
+ * with a message behind the running one, 0 where none has one. Memory that is no node is refused with 1; then a letter of no operation, a wrong count
+ * of numbers, or another number for 'B', with 2. A refused step leaves the memory as it was. */
 uint32_t fugu_step(uint32_t *FUGU_LENT memory, size_t memory_length, uint8_t letter, const uint32_t *arguments, size_t arguments_length,
                    uint32_t *FUGU_LENT report, size_t report_length);
 

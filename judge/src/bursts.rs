@@ -105,6 +105,7 @@ impl Lines {
             (12, Lines::end_atomic),
             (12, Lines::describe),
             (12, Lines::launch),
+            (12, Lines::turn),
         ]);
     }
 
@@ -229,6 +230,10 @@ impl Lines {
         let node = if self.random.one_in(8) { far } else { near };
         self.line('L', &[node]);
     }
+
+    fn turn(&mut self) {
+        self.line('C', &[]);
+    }
 }
 
 /// Bursts of more lines.
@@ -237,13 +242,14 @@ impl Lines {
     fn take_over(&mut self) -> u64 {
         let (one, other) = (self.group(), self.group());
         let group = std::cmp::min_by_key(one, other, |&group| self.waiting(group));
-        self.switch_to(group);
-        self.dispose_all();
+        self.empty_line(group);
         group
     }
 
-    fn dispose_all(&mut self) {
-        for _ in 0..self.waiting(self.running()) {
+    /// Gives a group the processor, and it disposes of all its messages.
+    fn empty_line(&mut self, group: u64) {
+        self.switch_to(group);
+        for _ in 0..self.waiting(group) {
             self.dispose();
         }
     }
@@ -251,8 +257,33 @@ impl Lines {
     /// The fullest line is emptied: room for all others.
     pub fn clear(&mut self) {
         let fullest = (1..=8).max_by_key(|&group| self.waiting(group));
-        self.switch_to(fullest.unwrap_or(0));
-        self.dispose_all();
+        self.empty_line(fullest.unwrap_or(0));
+    }
+
+    /// The processor goes round, and each time C is asked who is the next with mail.
+    pub fn turns(&mut self) {
+        for _ in 0..self.random.between(2, 8) {
+            self.switch();
+            self.turn();
+        }
+    }
+
+    /// All lines are emptied. Then a few messages come and go, and C is asked whose are left.
+    pub fn lull(&mut self) {
+        for group in 1..=8 {
+            if self.waiting(group) > 0 {
+                self.empty_line(group);
+            }
+        }
+        for _ in 0..self.random.between(4, 16) {
+            self.turn();
+            self.burst(&[
+                (4, Lines::arrival),
+                (3, Lines::dispose),
+                (2, Lines::switch),
+                (1, Lines::preempt),
+            ]);
+        }
     }
 
     /// A group reads its messages as they come.
@@ -283,7 +314,7 @@ impl Lines {
     }
 
     /// Arrivals for one group or two until no frame is free, and so many more that older pages are
-    /// sent out, at times all of them but the runner's first.
+    /// sent out, at times all of them but the runner's first. Then C, while first pages are out.
     pub fn spill(&mut self) {
         // A runner that is buffered leaves nothing in the hardware queue, as nobody does.
         let runner = self.group();
@@ -305,16 +336,16 @@ impl Lines {
             let group = self.random.pick(&groups);
             self.arrival_for(group);
         }
+        self.turn();
     }
 
-    /// Messages for the groups whose last pages are out; at times the shortest line is emptied before, so
+    /// Messages for the groups whose last pages are out; most often the shortest line is emptied before, so
     /// that a frame is free.
     pub fn rewrite(&mut self) {
-        if self.random.one_in(2) {
+        if !self.random.one_in(4) {
             let waiting = (1..=8).filter(|&group| self.waiting(group) > 0);
             let shortest = waiting.min_by_key(|&group| self.waiting(group));
-            self.switch_to(shortest.unwrap_or(0));
-            self.dispose_all();
+            self.empty_line(shortest.unwrap_or(0));
         }
         self.switch_to(0);
         self.arrivals_for_last_pages_out();
@@ -630,8 +661,8 @@ impl Lines {
 
     fn miscounted(&mut self) -> Vec<u8> {
         let lines =
-            "A S T E P L I S,1,2 T,1,1 E,0,0 P,1,2 L,1,2 I,1,1 M,0 D,1 O,1 B, B,1,1 B,0, N,1 N, M, \
-                     O, A, A,1, A,1,,2 S, I, , ,1 S,1, I,1,";
+            "A S T E P L I S,1,2 T,1,1 E,0,0 P,1,2 L,1,2 I,1,1 M,0 D,1 O,1 C,0 B, B,1,1 B,0, N,1 N, M, \
+                     O, C, A, A,1, A,1,,2 S, I, , ,1 S,1, I,1,";
         self.one_of(lines)
     }
 
@@ -645,7 +676,7 @@ impl Lines {
     }
 
     fn unknown(&mut self) -> Vec<u8> {
-        let mut line = self.one_of("X Z a s m o i MM OI 0 AS ?");
+        let mut line = self.one_of("X Z a s m o i c MM OI CC 0 AS ?");
         line.extend(self.random.pick(&["", ",1", ",1,7"]).bytes());
         line
     }

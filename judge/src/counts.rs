@@ -8,7 +8,7 @@ use crate::node::{Cause, Event, Refusal, Report, Standing};
 use crate::script;
 
 /// The rows of the table: the operations' letters, then lines that ask for none.
-const ROWS: [&str; 13] = [
+const ROWS: [&str; 14] = [
     "A",
     "O",
     "I",
@@ -21,6 +21,7 @@ const ROWS: [&str; 13] = [
     "N",
     "P",
     "L",
+    "C",
     "unreadable",
 ];
 const UNREADABLE: usize = ROWS.len() - 1;
@@ -30,7 +31,7 @@ const TRAPS: usize = 4;
 const NOT_A_NODE: usize = Refusal::NotANode as usize;
 
 /// All events of steps, in words.
-pub const EVENTS: [(Event, &str); 25] = [
+pub const EVENTS: [(Event, &str); 31] = [
     (
         Event::WordRead(Standing::Queued),
         "words read in the hardware queue",
@@ -79,6 +80,18 @@ pub const EVENTS: [(Event, &str); 25] = [
     (
         Event::NewRunnerSentOut,
         "new runners' first pages sent out by their S",
+    ),
+    (Event::TurnOfNobody, "turns with nobody running"),
+    (Event::NoMail, "turns with no mail"),
+    (
+        Event::OwnMail,
+        "turns to the running one that alone has mail",
+    ),
+    (Event::MailRound, "turns to a group behind 8"),
+    (Event::MailQueued, "turns to a group with queued mail alone"),
+    (
+        Event::MailInSwap,
+        "turns to a group with its first page in swap",
     ),
 ];
 

@@ -1,6 +1,6 @@
 //! The paper's "The node" as ordinary records, and its "Each step", with the orders that have changed
-//! them: order 1, swap space, order 2, the forced timer, order 3, wiped frames, and order 5, two
-//! operations for S.
+//! them: order 1, swap space, order 2, the forced timer, order 3, wiped frames, order 5, two operations
+//! for S, and order 7, whose turn.
 
 use std::collections::VecDeque;
 
@@ -64,6 +64,8 @@ pub enum Operation {
     Launch {
         node: u32,
     },
+    /// C: tells "who has mail".
+    Turn,
     /// "unknown operation or unreadable line"
     Unknown,
 }
@@ -107,8 +109,9 @@ pub struct Launched {
     pub words: Vec<u32>,
 }
 
-/// What happens in a step with a place or a page, by force or a revoked group, or where the processor is
-/// taken and given. No listing tells it; it is counted, so that scripts are seen to meet each.
+/// What happens in a step with a place or a page, by force or a revoked group, where the processor is
+/// taken and given, or where C looks for mail. No listing tells it; it is counted, so that scripts are
+/// seen to meet each.
 #[derive(Clone, Copy, Debug, PartialEq, Eq)]
 pub enum Event {
     /// E reads a word of a message that stands there.
@@ -149,6 +152,18 @@ pub enum Event {
     QueueKept,
     /// The first page of the group that S names is sent out by its O.
     NewRunnerSentOut,
+    /// C finds nobody running.
+    TurnOfNobody,
+    /// C finds no mail.
+    NoMail,
+    /// C finds mail of the running group, which it looks at last.
+    OwnMail,
+    /// C finds mail of a group that it came to by going on from 8 to 1.
+    MailRound,
+    /// C finds mail of a group that has it in the hardware queue alone.
+    MailQueued,
+    /// C finds mail of a group whose first page is in a swap page.
+    MailInSwap,
 }
 
 /// Where the running group's first message stands.
@@ -490,7 +505,7 @@ impl Node {
         match operation {
             Operation::Unknown => Some(Refusal::Unknown),
             Operation::Arrival { group, words } => self.arrival_refusal(*group, words),
-            Operation::Preempt => None,
+            Operation::Preempt | Operation::Turn => None,
             Operation::Dispatch { group } => self.dispatch_refusal(*group),
             Operation::Switch { group } => {
                 (*group > GROUPS as u32).then_some(Refusal::ProcessorGroup)
@@ -582,6 +597,7 @@ impl Node {
             Operation::EndAtomic => self.end_atomic(),
             Operation::Describe { word } => self.describe(*word),
             Operation::Launch { node } => self.launch(*node),
+            Operation::Turn => self.turn(),
             Operation::Switch { .. } => unreachable!("S is O and I"),
             Operation::Unknown => unreachable!("an unknown operation was refused"),
         }
@@ -740,6 +756,42 @@ impl Node {
             launched: Some(Launched { node, group, words }),
             ..report
         }
+    }
+
+    /// "the first group after the running one, upward and round from 8 to 1, the running one last, that
+    /// has a line not empty; 0 if there is none. With nobody running it starts at 1."
+    fn turn(&mut self) -> Report {
+        let mut order: VecDeque<usize> = (1..=GROUPS).collect();
+        order.rotate_left(self.running);
+        let found = order.into_iter().find(|&group| self.has_mail(group));
+        if self.running == 0 {
+            self.events.push(Event::TurnOfNobody);
+        }
+        match found {
+            None => self.events.push(Event::NoMail),
+            Some(group) => self.note_mail(group),
+        }
+        Report::of_value(found.unwrap_or(0) as u32)
+    }
+
+    fn has_mail(&self, group: usize) -> bool {
+        self.line(group).next().is_some()
+    }
+
+    /// Notes how C came to a group, and where that has its mail.
+    fn note_mail(&mut self, group: usize) {
+        let first_page = self.first_page(group);
+        let met = [
+            (Event::OwnMail, group == self.running),
+            (Event::MailRound, group < self.running),
+            (Event::MailQueued, first_page.is_none()),
+            (
+                Event::MailInSwap,
+                first_page.is_some_and(|first| first >= FRAMES),
+            ),
+        ];
+        let met = met.into_iter().filter(|(_, is_met)| *is_met);
+        self.events.extend(met.map(|(event, _)| event));
     }
 
     /// "while the hardware queue has a head that is not the running group's, or whose group is

@@ -7,7 +7,7 @@ use std::path::{Path, PathBuf};
 use std::process::{Command, ExitCode, Stdio};
 
 use crate::generator::Flavour;
-use crate::node::MESSAGE_WORDS;
+use crate::node::{MESSAGE_WORDS, QUEUE_PLACES};
 
 /// The measured scripts, if none is named: random ones, the first without much use of swap space, the
 /// second with the frames full most of the time, the third of switches while messages wait.
@@ -22,6 +22,9 @@ const MEASURED_READS: [(&str, &[&str]); 2] = [
     ("E, direct", &["S,1", LONGEST_ARRIVAL]),
     ("E, buffered", &["S,1", LONGEST_ARRIVAL, "T,256"]),
 ];
+/// Then C alone, behind so many messages to the one running, which comes last: no group has mail, or that
+/// one alone, and the whole hardware queue is looked through for each group before it.
+const MEASURED_MAIL: [(&str, usize); 2] = [("C, no mail", 0), ("C, queue full", QUEUE_PLACES)];
 /// With as many words as a message has room for.
 const LONGEST_ARRIVAL: &str = "A,1,11,12,13,14,15,16,17,18";
 /// What tests the memory before every step is measured with the script's first lines, so many times
@@ -89,6 +92,23 @@ pub fn met_all(name: &str, missing: &[String]) -> ExitCode {
     failed(name, &format!("not met: {}", missing.join(", ")))
 }
 
+/// Tells a table of what was met; the exit code by what it was to meet and missed.
+pub fn tell_met(name: &str, table: &str, missing: &[String]) -> ExitCode {
+    match print(table) {
+        Ok(_) => met_all(name, missing),
+        Err(error) => finish(name, Err(error)),
+    }
+}
+
+/// Tells how far a long run is, each time so many more are done and at its end.
+pub fn progress(name: &str, step: u64) -> impl Fn(u64, u64) + '_ {
+    move |number, count| {
+        if number % step == 0 || number == count {
+            eprintln!("{name}: {number} of {count}");
+        }
+    }
+}
+
 /// The project's own program. It is called by its wrapper once, which builds it if need be.
 pub fn fugu(project: &Path) -> Result<PathBuf, String> {
     let wrapper = project.join("bin/fugu");
@@ -110,7 +130,7 @@ pub struct Measured {
 }
 
 impl Measured {
-    /// The script of a file, or random ones, a few lines in turn, and E alone.
+    /// The script of a file, or random ones, a few lines in turn, E alone, and C alone.
     pub fn scripts(path: Option<&str>) -> Result<Vec<Measured>, String> {
         let Some(path) = path else {
             let random = MEASURED_FLAVOURS.into_iter().map(Measured::random);
@@ -118,7 +138,9 @@ impl Measured {
             let turn = Measured::of_lines(name, lines.into_iter().cycle().map(str::to_string));
             let reads = MEASURED_READS.into_iter();
             let reads = reads.map(|(name, before)| Measured::reading(name, before));
-            return Ok(random.chain([turn]).chain(reads).collect());
+            let mail = MEASURED_MAIL.into_iter();
+            let mail = mail.map(|(name, queued)| Measured::asking(name, queued));
+            return Ok(random.chain([turn]).chain(reads).chain(mail).collect());
         };
         let script = fs::read(path).map_err(|error| format!("{path}: {error}"))?;
         let name = path.to_string();
@@ -141,6 +163,13 @@ impl Measured {
             name,
             before.chain(indices.map(|index| format!("E,{index}"))),
         )
+    }
+
+    /// So many messages to the one running, then C.
+    fn asking(name: &str, queued: usize) -> Self {
+        let before = ["S,1"].into_iter().chain(vec!["A,1,7"; queued]);
+        let lines = before.chain(std::iter::repeat("C"));
+        Measured::of_lines(name, lines.map(str::to_string))
     }
 
     /// The first of these lines.

@@ -57,6 +57,7 @@ pub fn operation(letter: &[u8], numbers: &[u32]) -> Option<Operation> {
         (b"N", []) => Operation::EndAtomic,
         (b"P", &[word]) => Operation::Describe { word },
         (b"L", &[node]) => Operation::Launch { node },
+        (b"C", []) => Operation::Turn,
         _ => return None,
     })
 }

@@ -100,16 +100,17 @@ pub fn taken_apart(operation: &Operation) -> (u8, Vec<u32>) {
         Operation::EndAtomic => (b'N', vec![]),
         Operation::Describe { word } => (b'P', vec![word]),
         Operation::Launch { node } => (b'L', vec![node]),
+        Operation::Turn => (b'C', vec![]),
         Operation::Unknown => (b'?', vec![]),
     }
 }
 
 /// A step of some letter, most often of an operation and with its count of numbers.
 fn any_step(random: &mut Random) -> Asked {
-    let letter = random.pick(b"AOISTMEDBNPL");
+    let letter = random.pick(b"AOISTMEDBNPLC");
     match random.between(1, 16) {
         1 => Asked::Step(random.draw() as u8, any_numbers(random)),
-        2 => Asked::Step(letter, any_numbers(random)),
+        2 | 3 => Asked::Step(letter, any_numbers(random)),
         _ => Asked::Step(letter, fitting_numbers(random, letter)),
     }
 }

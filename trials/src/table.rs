@@ -16,7 +16,7 @@ use crate::memories::{Memories, Trial};
 const ENOUGH: u64 = 100_000;
 const TOO_SHORT: &str = "memory too short";
 /// The operations' letters, and what is read as none.
-const OPERATIONS: &[u8; 13] = b"AOISTMEDBNPL?";
+const OPERATIONS: &[u8; 14] = b"AOISTMEDBNPLC?";
 /// An operation by its letter, then by a line, and power-on.
 const ROWS: usize = 2 * OPERATIONS.len() + 1;
 const ANSWERS: usize = 17;

@@ -78,7 +78,7 @@ calls-told =
           let m₀ = powerOnMemory m .memory in
           let last = calls-state w b cs in
           let ends = q .ends .room (q .lent) .told in
-          portions-all-told .answered m s (stateOf w b) (portions cs) out m′ out′ (endOf p′)
+          portions-all-told .told m s (stateOf w b) (portions cs) out m′ out′ (endOf p′)
           (record {
             long = q .long;
             none = new-lines w b ∙ q .no-lines;

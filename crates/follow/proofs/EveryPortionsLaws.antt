@@ -16,7 +16,7 @@ use Rattle.script.proofs.PortionLaws.{after-append, begun-all, joins, lines-end
 use Rattle.script.proofs.PortionsLaws.{begun-open, joined, serves}
 use Rattle.follow.specs.Seen.{seenMemory}
 use Rattle.follow.specs.Every.{PortionTold, waitingOf}
-use Rattle.follow.specs.EveryPortions.{Portion, PortionsAllTold, Tells, TellsScript, allTold, lastMemory, lastState, usedBytes, writtenBytes}
+use Rattle.follow.specs.EveryPortions.{Portion, PortionsAllTold, Tells, TellsScript, lastMemory, lastState, usedBytes, writtenBytes}
 use Rattle.follow.specs.declared.every.End.{End as End·rt}
 use Rattle.follow.specs.declared.every.State.{State as State·rt}
 use Rattle.follow.specs.declared.every.Told.{Told as Told·rt}
@@ -105,6 +105,11 @@ calls-behind (p ∷ ps) m b st open-line kept h =
     }
 
 -- The whole script.
+
+-- what is told of every message of it by following all
+abbrev allTold : List ℕ → List ℕ
+allTold s = tellingLines (tellLines 1 [] (seenOfScript s) ++ tellQueued (length (scriptLines s)) (stillWaiting 1 [] (seenOfScript s)))
+
 script-told : {m s : List ℕ} {st : State·rt} {ps : List Portion} {out m′ out′ : List ℕ} {e : End·rt} → TellsScript m st ps s out m′ out′ e
     → writtenBytes ps ++ take (e .written) out′ ≡ allTold s
 unfolding stepsOf
@@ -157,6 +162,5 @@ script-told {m} {s} {st} {ps} {out′ = out′} {e = e} q = subst (λ (x : List 
 pub portions-all-told : PortionsAllTold
 portions-all-told =
     record {
-      told = λ m s st ps out m′ out′ e q. script-told q;
-      answered = λ m s st ps out m′ out′ e q. script-told q ∙ following .every s;
+      told = λ m s st ps out m′ out′ e q. script-told q ∙ following .every s;
     }

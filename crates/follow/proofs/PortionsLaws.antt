@@ -20,7 +20,7 @@ use Rattle.script.proofs.PortionsLaws.{begun-open, joined, serves}
 use Rattle.script.proofs.feed.BegunLaws.{kept-reads}
 use Rattle.follow.specs.Seen.{seenMemory, seenOn, seenStep}
 use Rattle.follow.specs.One.{PortionFollowed, followedOf, toldOf}
-use Rattle.follow.specs.Portions.{FinishesScript, Follows, FollowsScript, Portion, PortionsFollowed, PortionsTold, Settled, bytesOf, followed, lastMemory, lastState}
+use Rattle.follow.specs.Portions.{FinishesScript, Follows, FollowsScript, Portion, PortionsTold, Settled, bytesOf, lastMemory, lastState}
 use Rattle.follow.specs.declared.one.State.{State as State·rt}
 use Rattle.follow.specs.declared.one.Told.{Told as Told·rt}
 use Rattle.follow.proofs.one.PlaceLaws.{follow-append, follow-settled, told-left}
@@ -167,6 +167,10 @@ seen-script m s w ks ls long e =
     sym (follow-append w 1 unfollowed (seenMemory m₀ ks) (seenMemory (afterLines m₀ ks) ls))
     ∙ ap (followLines w 1 unfollowed) (sym (seen-append m₀ ks ls) ∙ ap (seenMemory m₀) (sym e) ∙ seen-runs .seen m (scriptLines s) long)
 
+-- what is told of line w of a script by following its message
+abbrev followed : List ℕ → ℕ → Told
+followed s w = toldAt (length (scriptLines s)) (followLines w 1 unfollowed (seenOfScript s))
+
 -- the end
 script-told : {m s : List ℕ} {w : ℕ} {st : State·rt} {ps : List Portion} {m′ : List ℕ} {t : Told·rt} → FollowsScript m w st ps s → FinishesScript m st ps m′ t
     → toldOf t ≡ followed s w
@@ -212,10 +216,6 @@ script-settled {m} {s} rest {w} {st} {ps} q d =
     ap (λ (x : Followed). x .told) (r .message) ∙ told-left (length (scriptLines (s ++ rest))) now nowhere
     ∙ ap (toldAt (length (scriptLines (s ++ rest))))
     (sym (follow-settled w (1 + length (seenMemory m₀ ks)) now (seenMemory (afterLines m₀ ks) ls) passed nowhere) ∙ seen-script m (s ++ rest) w ks ls (q .long) lines)
-
-pub portions-followed : PortionsFollowed
-portions-followed =
-    record { told = λ m s w st ps m′ t q h. script-told q h; settled = λ m s rest w st ps q d. script-settled rest q d }
 
 pub portions-told : PortionsTold
 portions-told =

@@ -5,12 +5,11 @@ use mathlib.Core.List.{List, [], _++_}
 use mathlib.Core.Path.{_≡_}
 use lib.ListN.{length, take}
 use Rattle.rules.specs.Build.{paper01}
-use Rattle.rules.specs.MemoryTest.{isMemory}
 use Rattle.reasons.specs.Follow.{stillWaiting, tellLines, tellQueued, tellingLines}
 use Rattle.script.specs.Feed.{keptLine, keptRoom, lastNumber}
 use Rattle.script.specs.Feeding.{afterLines, begun, lastLine, linesBehind, restBehind, whole}
-use Rattle.script.specs.Read.{OneLine}
 use Rattle.script.specs.Written.{Appended}
+use Rattle.follow.specs.Portion.{LinesAhead}
 use Rattle.follow.specs.Seen.{seenMemory}
 use Rattle.follow.specs.Waiting.{linesRoom}
 use Rattle.follow.specs.declared.every.End.{End as End·rt}
@@ -32,15 +31,9 @@ portionTold r kept count waiting used =
       stop = r .stop;
     }
 
--- memory of which it is known whether it is a node, what is kept of a line that has begun, whole lines, for which there are line numbers enough, and the
--- lines whose messages wait
+-- lines ahead, and the lines whose messages wait
 pub record Tellable (m : List ℕ) (good : Bool) (kept : List ℕ) (begins : ℕ) (u : List ℕ) (lines : ℕ) (waiting : List ℕ) (count : ℕ) : Type 0 where
-  pub known : isMemory m ≡ good
-  pub room : keptRoom < length kept
-  pub short : begins ≤ keptRoom
-  pub one : OneLine (take begins kept)
-  pub cut : begun u ≡ []
-  pub numbers : lines + length u < lastNumber
+  pub ahead : LinesAhead m good kept begins u lines
   pub all : length waiting ≡ paper01 .places
   pub few : count ≤ paper01 .places
 

@@ -6,9 +6,6 @@ use mathlib.Core.Path.{_≡_}
 use lib.ListN.{length, take}
 use Rattle.rules.specs.Memory.{size}
 use Rattle.rules.specs.MemoryTest.{powerOnMemory}
-use Rattle.rules.specs.Script.{scriptLines}
-use Rattle.reasons.specs.Follow.{stillWaiting, tellLines, tellQueued, tellingLines}
-use Rattle.reasons.specs.Told.{seenOfScript}
 use Rattle.reasons.specs.Why.{whyAll}
 use Rattle.script.specs.Feed.{keptLine, lastNumber}
 use Rattle.follow.specs.Every.{FinishedTo, ToldTo, waitingOf}
@@ -62,13 +59,7 @@ pub record TellsScript (m : List ℕ) (st : State·rt) (ps : List Portion) (s ou
   pub number : lastState st ps .script .lines + 1 < lastNumber
   pub finishes : FinishedTo (lastMemory (powerOnMemory m .memory) ps) (lastState st ps) out m′ out′ e
 
--- what is told of every message of a script by following all
-abbrev pub allTold : List ℕ → List ℕ
-allTold s = tellingLines (tellLines 1 [] (seenOfScript s) ++ tellQueued (length (scriptLines s)) (stillWaiting 1 [] (seenOfScript s)))
-
--- whatever the portions; that is the answer for every accepted arrival
+-- whatever the portions, what is written is the answer for every accepted arrival
 pub record PortionsAllTold : Type 0 where
   pub told : (m s : List ℕ) (st : State·rt) (ps : List Portion) (out m′ out′ : List ℕ) (e : End·rt)
-      → TellsScript m st ps s out m′ out′ e → writtenBytes ps ++ take (e .written) out′ ≡ allTold s
-  pub answered : (m s : List ℕ) (st : State·rt) (ps : List Portion) (out m′ out′ : List ℕ) (e : End·rt)
       → TellsScript m st ps s out m′ out′ e → writtenBytes ps ++ take (e .written) out′ ≡ whyAll s

@@ -1,15 +1,12 @@
 -- What following one message promises. Assumes nothing.
 use Prim.Native.Nat.{ℕ, _+_, _≤_, _<_}
-use mathlib.Core.Bool.{Bool}
 use mathlib.Core.List.{List, [], _++_}
 use mathlib.Core.Path.{_≡_}
 use lib.ListN.{length, take}
-use Rattle.rules.specs.MemoryTest.{isMemory}
 use Rattle.reasons.specs.Follow.{Followed, followLines, toldAt}
 use Rattle.reasons.specs.Why.{Told}
 use Rattle.script.specs.Feed.{keptLine, keptRoom, lastNumber}
 use Rattle.script.specs.Feeding.{afterLines, begun, lastLine, linesBehind, restBehind, whole}
-use Rattle.script.specs.Read.{OneLine}
 use Rattle.follow.specs.Seen.{seenMemory}
 use Rattle.follow.specs.declared.one.Followed.{Followed as Followed·rt}
 use Rattle.follow.specs.declared.one.Lines.{Lines as Lines·rt}
@@ -26,15 +23,6 @@ followedOf f = record { place = f .place; told = toldOf (f .told) }
 -- a message that left in line i
 abbrev pub leftIn : ℕ → ℕ → Followed·rt
 leftIn i reason = record { place = 0; told = record { answer = 0; reason = reason; line = i } }
-
--- memory of which it is known whether it is a node, what is kept of a line that has begun, and whole lines, for which there are line numbers enough
-pub record Followable (m : List ℕ) (good : Bool) (kept : List ℕ) (count : ℕ) (u : List ℕ) (lines : ℕ) : Type 0 where
-  pub known : isMemory m ≡ good
-  pub room : keptRoom < length kept
-  pub few : count ≤ keptRoom
-  pub one : OneLine (take count kept)
-  pub cut : begun u ≡ []
-  pub numbers : lines + length u < lastNumber
 
 -- the lines of u, where b has begun, are stepped, counted and followed, and nothing has begun behind them where there are some
 pub record LinesFollowed (m b u : List ℕ) (lines w : ℕ) (f : Followed·rt) (m′ kept′ : List ℕ) (r : Lines·rt) : Type 0 where

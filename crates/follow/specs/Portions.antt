@@ -1,4 +1,4 @@
--- "It reads a script and a line number in it": however the script is cut into portions, what is told of a line is what is told of the whole script. Calls
+-- However a script is cut into portions, what is told of a line is what is told of the whole script. Calls
 -- of `follow`, each handed the memory and the state that the last one left, and one of `finish`. Assumes nothing.
 use Prim.Native.Nat.{ℕ, _+_, _≤_, _<_}
 use mathlib.Core.List.{List, [], _∷_, _++_}
@@ -6,10 +6,8 @@ use mathlib.Core.Path.{_≡_}
 use lib.ListN.{length}
 use Rattle.rules.specs.Memory.{size}
 use Rattle.rules.specs.MemoryTest.{powerOnMemory}
-use Rattle.rules.specs.Script.{scriptLines}
-use Rattle.reasons.specs.Follow.{followLines, toldAt, unfollowed}
-use Rattle.reasons.specs.Told.{seenOfScript}
-use Rattle.reasons.specs.Why.{Told, why}
+use Rattle.reasons.specs.Follow.{unfollowed}
+use Rattle.reasons.specs.Why.{why}
 use Rattle.script.specs.Feed.{keptLine, lastNumber}
 use Rattle.follow.specs.One.{Finished, FollowedTo, followedOf, toldOf}
 use Rattle.follow.specs.declared.one.State.{State as State·rt}
@@ -49,10 +47,6 @@ pub record New (st : State·rt) (w : ℕ) : Type 0 where
   pub wanted : st .wanted ≡ w
   pub nothing : followedOf (st .followed) ≡ unfollowed
 
--- what is told of line w of a script by following its message
-abbrev pub followed : List ℕ → ℕ → Told
-followed s w = toldAt (length (scriptLines s)) (followLines w 1 unfollowed (seenOfScript s))
-
 -- from power-on on, calls over a script of which these bytes are the first
 pub record FollowsScript (m : List ℕ) (w : ℕ) (st : State·rt) (ps : List Portion) (bytes : List ℕ) : Type 0 where
   pub long : size ≤ length m
@@ -70,17 +64,11 @@ pub record Settled (st : State·rt) : Type 0 where
   pub passed : st .wanted ≤ st .script .lines
   pub nowhere : st .followed .place ≡ 0
 
-pub record PortionsFollowed : Type 0 where
+-- what is told is why the message was buffered
+pub record PortionsTold : Type 0 where
   -- whatever the portions
   pub told : (m s : List ℕ) (w : ℕ) (st : State·rt) (ps : List Portion) (m′ : List ℕ) (t : Told·rt)
-      → FollowsScript m w st ps s → FinishesScript m st ps m′ t → toldOf t ≡ followed s w
-  -- and whatever follows once it is settled, so that the rest need not be read
-  pub settled : (m s rest : List ℕ) (w : ℕ) (st : State·rt) (ps : List Portion)
-      → FollowsScript m w st ps s → Settled (lastState st ps) → toldOf (lastState st ps .followed .told) ≡ followed (s ++ rest) w
-
--- that is why the message was buffered
-pub record PortionsTold : Type 0 where
-  pub told : (m s : List ℕ) (w : ℕ) (st : State·rt) (ps : List Portion) (m′ : List ℕ) (t : Told·rt)
       → FollowsScript m w st ps s → FinishesScript m st ps m′ t → toldOf t ≡ why s w
+  -- and whatever follows once it is settled, so that the rest need not be read
   pub settled : (m s rest : List ℕ) (w : ℕ) (st : State·rt) (ps : List Portion)
       → FollowsScript m w st ps s → Settled (lastState st ps) → toldOf (lastState st ps .followed .told) ≡ why (s ++ rest) w

@@ -13,7 +13,7 @@ use Rattle.rules.specs.Run.{Event, disposedBy, scriptLine}
 use Rattle.rules.specs.Script.{readLine}
 use Rattle.rules.specs.Types.{operationOf}
 use Rattle.rules.specs.declared.Operation.{Operation as Operation·rt}
-use Rattle.rules.specs.declared.Operation.the-variants.{Arrive, Schedule, Preempt, Dispatch, Tick, Poll, Peek, Dispose, BeginAtomic, EndAtomic, Describe, Launch, Unknown}
+use Rattle.rules.specs.declared.Operation.the-variants.{Arrive, Schedule, Preempt, Dispatch, Tick, Turn, Poll, Peek, Dispose, BeginAtomic, EndAtomic, Describe, Launch, Unknown}
 use Rattle.reasons.specs.ByPlace.{firstReason, laterReason, leaving}
 use Rattle.reasons.specs.Follow.{Seen, seenOf, seenRun}
 use Rattle.script.specs.Read.{fieldLimit}
@@ -59,6 +59,7 @@ ArrivalKnown m (Schedule g) left = Unit
 ArrivalKnown m Preempt left = Unit
 ArrivalKnown m (Dispatch g) left = Unit
 ArrivalKnown m (Tick k) left = Unit
+ArrivalKnown m Turn left = Unit
 ArrivalKnown m Poll left = Unit
 ArrivalKnown m (Peek i) left = Unit
 ArrivalKnown m Dispose left = Unit

@@ -18,7 +18,8 @@ ghost use Rattle.reasons.specs.ByPlace.{leaving};
 ghost use Rattle.reasons.specs.Follow.{Seen, unfollowed, movedUp, pickedUp, followLine, toldAt};
 ghost use Rattle.script.specs.Feed.{keptLine};
 ghost use Rattle.follow.specs.Seen.{Sees, leftLimit};
-ghost use Rattle.follow.specs.One.{toldOf, followedOf, leftIn, Followable, LinesFollowed, FollowedTo, Finished};
+ghost use Rattle.follow.specs.One.{toldOf, followedOf, leftIn, LinesFollowed, FollowedTo, Finished};
+ghost use Rattle.follow.specs.Portion.{LinesAhead};
 
 // What is told of a line: 0, the reason and the line that it names; or the refusal.
 pub struct Told {
@@ -150,7 +151,7 @@ fn follow_lines(
     wanted: u64,
     followed: Followed,
 ) -> Lines
-    requires { ⌜ Followable (now memory) good (now kept) count (now whole) lines ⌝ }
+    requires { ⌜ LinesAhead (now memory) good (now kept) count (now whole) lines ⌝ }
     ensures { λ r. ⌜ LinesFollowed (now (memory .entry)) (take count (now (kept .entry))) (now (whole .entry)) lines wanted followed (now (memory .exit)) (now (kept .exit)) r ⌝ }
 {
     let mut fields = [0u32; FIELDS];

@@ -5,13 +5,15 @@ use Rattle.node.specs.declared.message.Part.{Part as Part·rt}
 use Rattle.rules.specs.MemoryTest.{stepMemory, MemoryStep, isMemory, headPart, headWords}
 use Rattle.rules.specs.Types.{reportOf}
 use Prim.Native.Nat.{ℕ}
+use mathlib.Core.Bool.{true}
 use mathlib.Core.List.{List, _∷_, map}
 use mathlib.Core.Path.{_∙_, _≡_, ap, refl, subst, sym}
 use lib.ListN.{drop, length}
 use Rattle.rules.specs.Conditions.{FirstDue}
 use Rattle.rules.specs.DemandOne.{onlyNumber}
 use Rattle.rules.specs.Memory.{nodeAt}
-use Rattle.rules.specs.Operation.{Operation, user, peek}
+use Rattle.rules.specs.Operation.{Operation, turn, user, peek, acceptedWith, noTrap}
+use Rattle.rules.specs.Turn.{whoseTurn}
 use Rattle.rules.specs.Run.{PlayedMemory, asked, playMemory, runMemory}
 use Rattle.rules.specs.Reading.{Reads, peeked}
 use Rattle.rules.specs.declared.Report.{Report as Report·rt}
@@ -19,6 +21,7 @@ use Rattle.rules.proofs.Demands.DemandOneLaws.{demand-one}
 use Rattle.rules.proofs.Demands.DemandThreeLaws.{demand-three}
 use Rattle.rules.proofs.Demands.DumpsLaws.{dumps}
 use Rattle.rules.proofs.Demands.ReadingLaws.{reading}
+use Rattle.rules.proofs.Demands.TurnsLaws.{turns}
 
 -- the memory and the reports of calls from m on
 calls-play : {m m′ : List ℕ} {cs : List Call} → Calls m cs m′
@@ -63,12 +66,23 @@ call-reads m c m′ i p ws e call part shown =
     let told : c .report ≡ reportOf (peeked m i) = call .reported ∙ ap (λ (o : Operation). reportOf (stepMemory m o .report)) e in
     rw (told, part, shown) (reading .any-peek m i)
 
+-- C
+call-turns : (m : List ℕ) (c : Call) (m′ : List ℕ)
+    → asked (c .input) ≡ turn
+    → Promised m c m′
+    → isMemory m ≡ true
+    → (c .report ≡ reportOf (acceptedWith (whoseTurn (nodeAt m)) noTrap 0 0)) × (m′ ≡ m)
+call-turns m c m′ e call good =
+    let whole = ap (stepMemory m) e ∙ turns .on-memory m good in
+    (call .reported ∙ ap (λ (s : MemoryStep). reportOf (s .report)) whole, call .left ∙ ap (λ (s : MemoryStep). s .memory) whole)
+
 pub calls-demanded : CallsDemanded
 unfolding runMemory
 calls-demanded =
     record {
       any-call = call-holds;
       any-peek = call-reads;
+      any-turn = call-turns;
       any-calls = λ m m₀ m′ rep cs long on calls.
           let t = calls-play calls in
           let same : playMemory m₀ (inputsOf cs) ≡ runMemory m (inputsOf cs) = ap (λ (k : List ℕ). playMemory k (inputsOf cs)) (on .left) in

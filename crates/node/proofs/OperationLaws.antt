@@ -1,6 +1,6 @@
 -- Operations by their Rattle names: which are requests of the running group, and which operation each is. Assumes nothing.
 use Rattle.rules.specs.Types.{operationOf, reportOf}
-use Rattle.rules.specs.declared.Operation.the-variants.{Arrive, Schedule, Preempt, Dispatch, Tick, Poll, Peek, Dispose, BeginAtomic, EndAtomic, Describe, Launch, Unknown}
+use Rattle.rules.specs.declared.Operation.the-variants.{Arrive, Schedule, Preempt, Dispatch, Tick, Turn, Poll, Peek, Dispose, BeginAtomic, EndAtomic, Describe, Launch, Unknown}
 use Rattle.rules.proofs.Operation.{the-type}
 use denote.Enum.Declared.{tagOf}
 use types.Run.{OneOf, miss}
@@ -25,10 +25,10 @@ use Rattle.node.proofs.StepMap.{acted-refused}
 
 -- the tags of M to L, and of the others
 abbrev requestTags : List ℕ
-requestTags = 5 ∷ 6 ∷ 7 ∷ 8 ∷ 9 ∷ 10 ∷ 11 ∷ []
+requestTags = 6 ∷ 7 ∷ 8 ∷ 9 ∷ 10 ∷ 11 ∷ 12 ∷ []
 
 abbrev otherTags : List ℕ
-otherTags = 0 ∷ 1 ∷ 2 ∷ 3 ∷ 4 ∷ 12 ∷ []
+otherTags = 0 ∷ 1 ∷ 2 ∷ 3 ∷ 4 ∷ 5 ∷ 13 ∷ []
 
 -- one of the others is no request
 pub not-request : (op : Operation·rt) → OneOf otherTags (tagOf the-type op) → (q : Request) → operationOf op [] ≡ user q → ⊥
@@ -38,13 +38,14 @@ not-request (Schedule g) k q e = let z : _≡_ {A = ℕ} 0 1 = cc in omega arith
 not-request Preempt k q e = let z : _≡_ {A = ℕ} 0 1 = cc in omega arith
 not-request (Dispatch g) k q e = let z : _≡_ {A = ℕ} 0 1 = cc in omega arith
 not-request (Tick n) k q e = let z : _≡_ {A = ℕ} 0 1 = cc in omega arith
-not-request Poll k q e = miss otherTags 5 tt k
-not-request (Peek i) k q e = miss otherTags 6 tt k
-not-request Dispose k q e = miss otherTags 7 tt k
-not-request (BeginAtomic f) k q e = miss otherTags 8 tt k
-not-request EndAtomic k q e = miss otherTags 9 tt k
-not-request (Describe w) k q e = miss otherTags 10 tt k
-not-request (Launch n) k q e = miss otherTags 11 tt k
+not-request Turn k q e = let z : _≡_ {A = ℕ} 0 1 = cc in omega arith
+not-request Poll k q e = miss otherTags 6 tt k
+not-request (Peek i) k q e = miss otherTags 7 tt k
+not-request Dispose k q e = miss otherTags 8 tt k
+not-request (BeginAtomic f) k q e = miss otherTags 9 tt k
+not-request EndAtomic k q e = miss otherTags 10 tt k
+not-request (Describe w) k q e = miss otherTags 11 tt k
+not-request (Launch n) k q e = miss otherTags 12 tt k
 not-request Unknown k q e = let z : _≡_ {A = ℕ} 0 1 = cc in omega arith
 
 -- a request is the same whatever words are lent beside it
@@ -60,6 +61,7 @@ a-request (Schedule g) k ws = absurd (miss requestTags 1 tt k)
 a-request Preempt k ws = absurd (miss requestTags 2 tt k)
 a-request (Dispatch g) k ws = absurd (miss requestTags 3 tt k)
 a-request (Tick n) k ws = absurd (miss requestTags 4 tt k)
+a-request Turn k ws = absurd (miss requestTags 5 tt k)
 a-request Poll k ws = record { request = poll; alone = refl; beside = refl }
 a-request (Peek i) k ws = record { request = peek i; alone = refl; beside = refl }
 a-request Dispose k ws = record { request = dispose; alone = refl; beside = refl }
@@ -67,7 +69,7 @@ a-request (BeginAtomic f) k ws = record { request = beginAtomic f; alone = refl;
 a-request EndAtomic k ws = record { request = endAtomic; alone = refl; beside = refl }
 a-request (Describe w) k ws = record { request = describe w; alone = refl; beside = refl }
 a-request (Launch n) k ws = record { request = launch n; alone = refl; beside = refl }
-a-request Unknown k ws = absurd (miss requestTags 12 tt k)
+a-request Unknown k ws = absurd (miss requestTags 13 tt k)
 
 -- what is told of an operation is told of it by another name
 pub acted-named : {m : List ℕ} {n : Node} {r : List ℕ} {o o′ : Operation} {a : Act·rt} → o ≡ o′ → Acted m n r o a → Acted m n r o′ a

@@ -9,8 +9,9 @@ use mathlib.Core.Path.{_≡_}
 use lib.ListN.{length, drop}
 use Rattle.rules.specs.Memory.{size, nodeAt}
 use Rattle.rules.specs.MemoryTest.{isMemory, powerOnMemory, stepMemory, headPart, headWords}
-use Rattle.rules.specs.Operation.{user, peek}
+use Rattle.rules.specs.Operation.{turn, user, peek, acceptedWith, noTrap}
 use Rattle.rules.specs.Run.{Input, operation, asked, Event, runMemory}
+use Rattle.rules.specs.Turn.{whoseTurn}
 use Rattle.rules.specs.Types.{operationOf, reportOf}
 use Rattle.rules.specs.Conditions.{FirstDue}
 use Rattle.rules.specs.DemandOne.{onlyNumber}
@@ -71,7 +72,7 @@ pub record CallHolds (m : List ℕ) (c : Call) (m′ : List ℕ) : Type 0 where
   -- and has no old words: what a message or a page leaves is wiped
   pub clean : isMemory m ≡ true → Clean m′
 
--- the demands, and orders 3 and 4, of the calls themselves
+-- the demands, and orders 3, 4 and 7, of the calls themselves
 pub record CallsDemanded : Type 0 where
   pub any-call : (m : List ℕ) (c : Call) (m′ : List ℕ) → Promised m c m′ → CallHolds m c m′
   -- a call that asks E, as `step` with `Peek i`, and the head calls on the same memory: `head` hands back ws, and `head_part` says where they
@@ -82,6 +83,12 @@ pub record CallsDemanded : Type 0 where
       → p ≡ partOf (headPart m)
       → ws ≡ headWords m
       → Reads m i (c .report .answer) (c .report .value) (shownBy p) ws
+  -- a call that asks C, on memory that is a node, names whose turn it is, and leaves every word
+  pub any-turn : (m : List ℕ) (c : Call) (m′ : List ℕ)
+      → asked (c .input) ≡ turn
+      → Promised m c m′
+      → isMemory m ≡ true
+      → (c .report ≡ reportOf (acceptedWith (whoseTurn (nodeAt m)) noTrap 0 0)) × (m′ ≡ m)
   -- any list of calls behind a power-on on memory that is long enough
   pub any-calls : (m m₀ m′ : List ℕ) (rep : Report·rt) (cs : List Call)
       → size ≤ length m

@@ -5,6 +5,7 @@ pub mod message;
 pub mod network;
 pub mod section;
 pub mod settling;
+pub mod turn;
 pub mod user;
 
 use crate::acted::Act;
@@ -104,6 +105,7 @@ fn act(memory: &mut [u32], op: Operation, words: &[u32]) -> Act
         Operation::Preempt => kernel::preempt(memory),
         Operation::Dispatch(g) => kernel::dispatch(memory, g),
         Operation::Tick(k) => kernel::tick(memory, k),
+        Operation::Turn => turn::turn(memory),
         Operation::Unknown => Act::refused(Report::UNREADABLE),
         _ => request(memory, op),
     }

@@ -12,7 +12,7 @@ use Rattle.rules.specs.Lists.{Every}
 use Rattle.rules.specs.Build.{Build}
 use Rattle.rules.specs.Node.{Message, Node, groupOf, withTimer, withGroup, withRunning, bufferHolds, buffered}
 use Rattle.rules.specs.Operation.{Request, poll, peek, dispose, beginAtomic, endAtomic, describe, launch}
-use Rattle.rules.specs.Operation.{Operation, preempt, dispatch, tick, user, noTrap}
+use Rattle.rules.specs.Operation.{Operation, preempt, dispatch, tick, turn, user, noTrap}
 use Rattle.rules.specs.Refusal.{refusal}
 use Rattle.rules.specs.Run.{disposedBy, leftBy, wasAccepted}
 use Rattle.rules.specs.Settling.{Moved, mayStay, settle}
@@ -100,6 +100,11 @@ module _ {b : Build} {n : Node} (v : Valid b n) where
   unfolding act valued withRunning actMoments disposedBy refusal
   dispatch-trail g e =
       still b n false (dispatch g) refl refl (λ m q some. no-head (nobody-empty v (dispatched n g e .nobody)) some) refl refl
+
+  -- C changes nothing
+  pub turn-trail : Acted b false n turn
+  unfolding act valued actMoments disposedBy
+  turn-trail = still b n false turn refl refl (v .head-stays) refl refl
 
   -- M, E, B, P and L leave it as it is, and so does N
   pub request-trail : (r : Request) → Other r → refusal b n (user r) ≡ 0 → Acted b false n (user r)

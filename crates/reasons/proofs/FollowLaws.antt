@@ -7,14 +7,14 @@ use mathlib.Core.Logic.{_≢_}
 use mathlib.Core.Bool.{Bool, true, false, true≢false, cond, not}
 use mathlib.Core.List.{List, [], _∷_, _++_, map, append-nil, append-assoc}
 use lib.Dec.{eqb}
-use lib.ListN.{length, drop, take, length-append, length-drop}
+use lib.ListN.{length, drop, take, length-append, length-drop, length-map}
 use lib.Seq.{drop-append-le, take-all}
 use borrow.Author.Tests.{eq-eqb, eqb-true, ne-eqb}
 use Rattle.rules.specs.Lists.{isEmpty, concatMap}
 use Rattle.rules.specs.Build.{Build, paper01}
 use Rattle.rules.specs.Node.{Message, Node, powerOn, withQueue}
 use Rattle.rules.specs.Refusal.{queued}
-use Rattle.rules.specs.Operation.{Operation, arrive, schedule, preempt, dispatch, tick, user, unknown, accepted, unreadable}
+use Rattle.rules.specs.Operation.{Operation, arrive, schedule, preempt, dispatch, tick, turn, user, unknown, accepted, unreadable}
 use Rattle.rules.specs.Run.{Event, Input, arrived, arrivedBy, asked, leftBy, play, run, wasAccepted}
 use Rattle.rules.specs.Script.{scriptLines}
 use Rattle.rules.specs.Step.{act, step, valued}
@@ -39,8 +39,7 @@ step-length v op = flow-length (step-queue v op)
 -- as many depart as have reasons
 dated-length : (i : ℕ) (rs : List ℕ) → length (dated i rs) ≡ length rs
 unfolding dated
-dated-length i [] = refl
-dated-length i (r ∷ rs) = ap suc (dated-length i rs)
+dated-length i rs = length-map rs (λ (r : ℕ). record { reason = r; line = i })
 
 -- a step accepts one message or none
 arrived-one : (op : Operation) (t : Bool) → isEmpty (arrivedBy op t) ≡ false → length (arrivedBy op t) ≡ 1
@@ -51,6 +50,7 @@ arrived-one preempt t some = absurd (true≢false some)
 arrived-one (dispatch g) t some = absurd (true≢false some)
 arrived-one (schedule g) t some = absurd (true≢false some)
 arrived-one (tick k) t some = absurd (true≢false some)
+arrived-one turn t some = absurd (true≢false some)
 arrived-one (user r) t some = absurd (true≢false some)
 arrived-one unknown t some = absurd (true≢false some)
 
@@ -264,6 +264,7 @@ queue-room v preempt = omega (arith, v .queue-length)
 queue-room v (dispatch g) = omega (arith, v .queue-length)
 queue-room v (schedule g) = omega (arith, v .queue-length)
 queue-room v (tick k) = omega (arith, v .queue-length)
+queue-room v turn = omega (arith, v .queue-length)
 queue-room v (user r) = omega (arith, v .queue-length)
 queue-room v unknown = omega (arith, v .queue-length)
 

@@ -8,7 +8,7 @@ use mathlib.Core.Logic.{_≢_}
 use mathlib.Core.Bool.{Bool, true, false, true≢false, cond}
 use mathlib.Core.List.{List, [], _∷_, _++_}
 use lib.Dec.{eqb}
-use lib.ListN.{length, replicate}
+use lib.ListN.{length, replicate, replicate-append-replicate}
 use borrow.Author.Tests.{eq-eqb, ne-eqb}
 use Rattle.rules.specs.Lists.{Every}
 use Rattle.rules.specs.Build.{Build}
@@ -20,10 +20,11 @@ use Rattle.rules.specs.Step.{Effect, counted, oneTick, revoke, ticks, timedOut,
 use Rattle.rules.specs.Valid.{GoodMessage}
 use Rattle.rules.proofs.Steps.LineLaws.{may-stay, neither, stays}
 use Rattle.rules.proofs.Steps.SettlingLaws.{drain-queue, store-running}
+use Rattle.rules.proofs.Steps.SwitchLaws.{nobody-stays}
 use Rattle.rules.proofs.Steps.StoreLaws.{store-flags, store-other, store-sound}
 use Rattle.reasons.specs.Moments.{Moment, moved, drainMoments, facts, nextHeaded, passMoments, tickMoments, ticksMoments}
 use Rattle.reasons.specs.Why.{Heading, movedFor}
-use Rattle.reasons.proofs.Trail.{Trail, ends, heads, moves, headedBy, heading, pending, pending-headed, replicate-more, trail-next, trail-then}
+use Rattle.reasons.proofs.Trail.{Trail, ends, heads, moves, headedBy, heading, pending, pending-headed, trail-next, trail-then}
 
 -- a pass by cases: a head that may stay ends it, any other moves
 stays-ends : (b : Build) (t : Bool) (m : Message) (q : List Message) (n : Node) → mayStay n m ≡ true → passMoments b t (m ∷ q) n ≡ []
@@ -89,19 +90,14 @@ pass-direct {b} r low (m ∷ q) n s runs none off =
         let other : m .group ≢ r = λ same. true≢false (sym (may-stay n m (same ∙ sym runs) (rw runs none) (rw runs off)) ∙ e) in
         subst (Passed b r (m ∷ q) n) (sym (pass-goes b m q n e)) (other-moves b false m q n r e runs other (later other))
 
--- with nobody running no head may stay
-nobody-moves : (n : Node) (m : Message) → n .running ≡ 0 → m .group ≢ 0 → mayStay n m ≡ false
-unfolding mayStay
-nobody-moves n m none other = rw (none, ne-eqb (m .group) 0 other)
-
--- so all move; here from a queue of which the head became head then
+-- with nobody running all move; here from a queue of which the head became head then
 pub pass-nobody : (b : Build) (t : Bool) (q : List Message) (n : Node) → Every GoodMessage q → n .running ≡ 0
     → Trail (headedBy 0 q) (passMoments b t q n) (replicate (length q) 3) []
 unfolding headedBy passMoments
 pass-nobody b t [] n good nobody = ends
 pass-nobody b t (m ∷ q) n good nobody =
     let other : m .group ≢ 0 = λ e. omega (arith, good .0 .group-low) in
-    other-moves b t m q n 0 (nobody-moves n m nobody other) nobody other (pass-nobody b t q (store b m n) (good .1) (store-running b m n ∙ nobody))
+    other-moves b t m q n 0 (nobody-stays n m nobody (good .0)) nobody other (pass-nobody b t q (store b m n) (good .1) (store-running b m n ∙ nobody))
 
 -- a direct group's message, which became head while it ran, moves for the processor that is taken
 taken-for : (n : Node) (m : Message) → buffered n (m .group) ≡ false → movedFor (facts false true n m) (eqb (m .group) (m .group)) ≡ 7
@@ -116,7 +112,7 @@ pub pass-taken : (b : Build) (m : Message) (q : List Message) (n : Node) → Eve
 unfolding pending
 pass-taken b m q n good nobody direct =
     let other : m .group ≢ 0 = λ e. omega (arith, good .0 .group-low) in
-    subst (λ (ms : List Moment). Trail (pending (m ∷ q)) ms (7 ∷ replicate (length q) 3) []) (sym (moves-on b true m q n 0 (nobody-moves n m nobody other) nobody))
+    subst (λ (ms : List Moment). Trail (pending (m ∷ q)) ms (7 ∷ replicate (length q) 3) []) (sym (moves-on b true m q n 0 (nobody-stays n m nobody (good .0)) nobody))
     (moves (facts false true n m) 7 (taken-for n m direct) (λ seven. unfold facts in refl)
     (trail-next 0 q (pass-nobody b true q (store b m n) (good .1) (store-running b m n ∙ nobody))))
 
@@ -155,7 +151,7 @@ drains-then {e} {e′} {e″} {ms} {ns} d d′ =
       gone = d .gone + d′ .gone;
       counts = omega (arith, d .counts, d′ .counts);
       trail =
-          subst (λ (ks : List ℕ). Trail (pending (e .node .queue)) (ms ++ ns) ks (pending (e″ .node .queue))) (replicate-more (d .gone) (d′ .gone) 6)
+          subst (λ (ks : List ℕ). Trail (pending (e .node .queue)) (ms ++ ns) ks (pending (e″ .node .queue))) (replicate-append-replicate (d .gone) (d′ .gone) 6)
           (trail-then (d .trail) (d′ .trail));
     }
 

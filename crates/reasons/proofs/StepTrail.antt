@@ -10,7 +10,7 @@ use borrow.Author.Tests.{eq-eqb, le-ltb, ne-eqb}
 use Rattle.rules.specs.Build.{Build, groupCount}
 use Rattle.rules.specs.Node.{Node, withRunning}
 use Rattle.rules.specs.Operation.{Request, poll, peek, dispose, beginAtomic, endAtomic, describe, launch}
-use Rattle.rules.specs.Operation.{Operation, arrive, schedule, preempt, dispatch, tick, user, unknown, Report, allZero, refused}
+use Rattle.rules.specs.Operation.{Operation, arrive, schedule, preempt, dispatch, tick, turn, user, unknown, Report, allZero, refused}
 use Rattle.rules.specs.Refusal.{refusal, refuseSchedule}
 use Rattle.rules.specs.Run.{disposedBy, leftBy, wasAccepted}
 use Rattle.rules.specs.Step.{Stepped, act, finish, inARow, step, valued}
@@ -22,7 +22,7 @@ use Rattle.rules.proofs.Steps.StepLaws.{OneAct, given, step-answer, step-given,
 use Rattle.reasons.specs.ByPlace.{eventReasons, firstReason, laterReason, leaving}
 use Rattle.reasons.specs.Moments.{Moment, moved, oneActMoments, performedMoments, stepMoments, switchMoments, takeMoments}
 use Rattle.reasons.proofs.Trail.{Trail, ends, pending, trail-then}
-use Rattle.reasons.proofs.ActTrail.{Acted, dispatch-trail, preempt-trail, request-trail, tick-trail}
+use Rattle.reasons.proofs.ActTrail.{Acted, dispatch-trail, preempt-trail, request-trail, tick-trail, turn-trail}
 use Rattle.reasons.proofs.ArriveTrail.{arrive-trail}
 use Rattle.reasons.proofs.DisposeTrail.{dispose-trail}
 
@@ -73,6 +73,7 @@ act-trail {b} {n} v op one accepts =
     go (dispatch g) one e = dispatch-trail v g e
     go (schedule g) one e = absurd one
     go (tick k) one e = tick-trail v k
+    go turn one e = turn-trail v
     go (user r) one e = requested r e
     go unknown one e = suc-zero e
 
@@ -97,7 +98,7 @@ switch-takes b n runs =
     let one : switchMoments b n 0 ≡ takeMoments b n ++ [] = rw (ne-eqb 0 (n .running) (λ e. runs (sym e)), switchMoments) in
     one ∙ append-nil (takeMoments b n)
 
-pub switch-two : (b : Build) (n : Node) (g : ℕ) → g ≢ n .running → g ≢ 0
+switch-two : (b : Build) (n : Node) (g : ℕ) → g ≢ n .running → g ≢ 0
     → switchMoments b n g ≡ takeMoments b n ++ oneActMoments b false (taken b n .node) (dispatch g)
 unfolding switchMoments
 switch-two b n g other some = rw (ne-eqb g (n .running) other, ne-eqb g 0 some, switchMoments)
@@ -125,11 +126,11 @@ module _ {b : Build} {n : Node} (v : Valid b n) where
       (preempt-moments ∙ sym (switch-takes b n runs) ∙ sym (schedule-moments 0 (omega arith))) took
 
   -- to another it is O and I, and I finds the queue empty
-  pub given-unmoved : (g : ℕ) → given b n g .report .moved ≡ 0
+  given-unmoved : (g : ℕ) → given b n g .report .moved ≡ 0
   unfolding finish act valued withRunning
   given-unmoved g = omega (arith, settle-moved b (withRunning g (taken b n .node)), ap length (taken-empty v))
 
-  pub given-moments : (g : ℕ) → g ≢ 0 → g ≤ groupCount → stepMoments b (taken b n .node) (dispatch g) ≡ oneActMoments b false (taken b n .node) (dispatch g)
+  given-moments : (g : ℕ) → g ≢ 0 → g ≤ groupCount → stepMoments b (taken b n .node) (dispatch g) ≡ oneActMoments b false (taken b n .node) (dispatch g)
   unfolding performedMoments finish
   given-moments g some high =
       moments-performed b (taken b n .node) (dispatch g)

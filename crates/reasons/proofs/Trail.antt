@@ -1,13 +1,10 @@
 -- A stretch of moments, read with what became head before it: each message becomes head before it leaves, and one at a time. Whatever is told of a run is
 -- told along its trail: the reasons, how many became head and left, and that what a rule names holds. Assumes nothing.
-use Prim.Native.Nat.{ℕ, zero, suc, _+_}
-use native.Mathlib.Nat.{zero-add}
-use native.Mathlib.Omega.{arith}
-use mathlib.Core.Path.{_≡_, sym, ap, _∙_}
+use Prim.Native.Nat.{ℕ, _+_}
+use mathlib.Core.Path.{_≡_, ap}
 use mathlib.Core.Bool.{true}
 use mathlib.Core.List.{List, [], _∷_, _++_}
 use lib.Dec.{eqb}
-use lib.ListN.{replicate}
 use Rattle.rules.specs.Node.{Message}
 use Rattle.reasons.specs.Moments.{Facts, Moment, joined, headed, disposed, moved, nextHeaded}
 use Rattle.reasons.specs.Why.{Heading, movedFor}
@@ -57,10 +54,3 @@ pending (m ∷ q) = heading (m .group) (m .group) ∷ []
 pub pending-headed : (r : ℕ) (m : Message) (q : List Message) → m .group ≡ r → pending (m ∷ q) ≡ headedBy r (m ∷ q)
 unfolding headedBy pending
 pending-headed r m q same = ap (λ (k : ℕ). heading (m .group) k ∷ []) same
-
--- reasons in a row
-pub replicate-more : (j k r : ℕ) → replicate j r ++ replicate k r ≡ replicate (j + k) r
-replicate-more zero k r = ap (λ (x : ℕ). replicate x r) (sym (zero-add k))
-replicate-more (suc j) k r =
-    let sum : suc (j + k) ≡ suc j + k = omega arith in
-    ap {B = List ℕ} (λ xs. r ∷ xs) (replicate-more j k r) ∙ ap (λ (x : ℕ). replicate x r) sum

@@ -34,6 +34,7 @@ why-cases =
       switched-head = refl;
       switched-still = refl;
       refused-still = refl;
+      turn-still = refl;
     }
 
 pub refusal-cases : RefusalCases
@@ -42,6 +43,7 @@ refusal-cases =
     record {
       unread = refl;
       other-line = refl;
+      turn-line = refl;
       no-line = refl;
       no-script = refl;
       no-newline = refl;

@@ -9,7 +9,7 @@ use lib.ListN.{replicate}
 use Rattle.rules.specs.Build.{Build}
 use Rattle.rules.specs.Node.{Node, groupOf}
 use Rattle.rules.specs.Operation.{poll, peek, dispose, beginAtomic, endAtomic, describe, launch}
-use Rattle.rules.specs.Operation.{Operation, arrive, schedule, preempt, dispatch, tick, user, unknown}
+use Rattle.rules.specs.Operation.{Operation, arrive, schedule, preempt, dispatch, tick, turn, user, unknown}
 use Rattle.rules.specs.Step.{step}
 use Rattle.rules.specs.Run.{Input, asked, Event, leftBy}
 use Rattle.reasons.specs.Why.{Departure}
@@ -26,6 +26,7 @@ firstReason preempt n = 7
 firstReason (dispatch g) n = 0
 firstReason (schedule g) n = 7
 firstReason (tick k) n = 6
+firstReason turn n = 0
 firstReason (user poll) n = 0
 firstReason (user (peek i)) n = 0
 firstReason (user dispose) n = 1
@@ -35,13 +36,15 @@ firstReason (user (describe w)) n = 0
 firstReason (user (launch k)) n = 0
 firstReason unknown n = 0
 
--- those behind it: a timeout moves them as it does the first; else each became head as the one before it left, and its group didn't run then
+-- those behind it: a timeout moves them as it does the first; else each became head as the one before it left, and its group didn't run then.
+-- It counts only where two or more leave; at M, E and C none does
 unfoldable pub laterReason : Operation → ℕ
 laterReason (arrive g ws) = 3
 laterReason preempt = 3
 laterReason (dispatch g) = 3
 laterReason (schedule g) = 3
 laterReason (tick k) = 6
+laterReason turn = 3
 laterReason (user r) = 3
 laterReason unknown = 3
 

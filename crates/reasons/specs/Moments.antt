@@ -8,7 +8,7 @@ use Rattle.rules.specs.Lists.{isEmpty}
 use Rattle.rules.specs.Build.{Build}
 use Rattle.rules.specs.Node.{Message, Node, groupOf, bufferHolds, timerRuns}
 use Rattle.rules.specs.Operation.{poll, peek, dispose, beginAtomic, endAtomic, describe, launch}
-use Rattle.rules.specs.Operation.{Operation, arrive, schedule, preempt, dispatch, tick, user, unknown}
+use Rattle.rules.specs.Operation.{Operation, arrive, schedule, preempt, dispatch, tick, turn, user, unknown}
 use Rattle.rules.specs.Paging.{store}
 use Rattle.rules.specs.Refusal.{refusal}
 use Rattle.rules.specs.Settling.{mayStay}
@@ -82,6 +82,7 @@ actMoments b n preempt = []
 actMoments b n (dispatch g) = []
 actMoments b n (schedule g) = []
 actMoments b n (tick k) = ticksMoments b k (valued 0 n)
+actMoments b n turn = []
 actMoments b n (user poll) = []
 actMoments b n (user (peek i)) = []
 actMoments b n (user dispose) = disposeMoments n
@@ -118,6 +119,7 @@ performedMoments b n preempt = takeMoments b n
 performedMoments b n (dispatch g) = oneActMoments b false n (dispatch g)
 performedMoments b n (schedule g) = switchMoments b n g
 performedMoments b n (tick k) = oneActMoments b false n (tick k)
+performedMoments b n turn = oneActMoments b false n turn
 performedMoments b n (user r) = oneActMoments b false n (user r)
 performedMoments b n unknown = oneActMoments b false n unknown
 

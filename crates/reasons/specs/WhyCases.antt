@@ -45,6 +45,8 @@ pub record WhyCases : Type 0 where
   pub switched-still : answers "S,1\nA,1,7\nS,1\nS,0\nS,0\n" (2 ∷ []) ≡ told 7 4 ∷ []
   -- a refused step moves nothing
   pub refused-still : answers "S,1\nA,1,7\nS,9\nI,2\nT,0\n" (2 ∷ []) ≡ told 2 5 ∷ []
+  -- C moves nothing either: a message waits over it, for the line that moves it or to the last
+  pub turn-still : answers "S,1\nA,1,7\nC\nO\nS,2\nA,2,5\nC\n" (2 ∷ 6 ∷ []) ≡ told 7 4 ∷ told 2 7 ∷ []
 
 -- the refusals
 pub record RefusalCases : Type 0 where
@@ -52,6 +54,8 @@ pub record RefusalCases : Type 0 where
   pub unread : answers "X\nA\n" (1 ∷ 2 ∷ []) ≡ untold 2 ∷ untold 2 ∷ []
   -- "then with 17 one that isn't an accepted arrival": another operation, and an arrival that is refused
   pub other-line : answers "S,1\nA,9,1\n" (1 ∷ 2 ∷ []) ≡ untold 17 ∷ untold 17 ∷ []
+  -- C too, which is accepted; with a field it can't be read
+  pub turn-line : answers "C\nC,0\n" (1 ∷ 2 ∷ []) ≡ untold 17 ∷ untold 2 ∷ []
   -- "or isn't in the script": line 0, and the line behind the last, in an empty script too
   pub no-line : answers "A,1,7\nA,1,8\n" (0 ∷ 3 ∷ 4 ∷ []) ≡ untold 17 ∷ untold 17 ∷ untold 17 ∷ []
   pub no-script : answers "" (0 ∷ 1 ∷ []) ≡ untold 17 ∷ untold 17 ∷ []

@@ -7,6 +7,7 @@ pub mod ScriptCasesLaws
 pub mod BufferCasesLaws
 pub mod StepCasesLaws
 pub mod SwitchCasesLaws
+pub mod TurnCasesLaws
 pub mod ForceCasesLaws
 pub mod MemoryParts
 pub mod TestComputes

@@ -1,7 +1,8 @@
--- The table of refusals, the demands, what a dump tells, what E reads, and what the statements ask for.
+-- The table of refusals, the demands, what a dump tells, what E reads, what C names, and what the statements ask for.
 pub mod ConditionsLaws
 pub mod DemandOneLaws
 pub mod DemandThreeLaws
 pub mod DumpsLaws
 pub mod ReadingLaws
+pub mod TurnsLaws
 pub mod HypothesesLaws

@@ -1,4 +1,4 @@
--- A node stays a node: lists, then buffers and frames, settling, lines, ticks, each operation, a step, and steps after which nothing is due.
+-- A node stays a node: lists, then buffers and frames, settling, lines, ticks, each operation, a step, steps after which nothing is due, and C.
 pub mod EveryLaws
 pub mod ListLaws
 pub mod SoundLaws
@@ -14,3 +14,4 @@ pub mod ActLaws
 pub mod StepLaws
 pub mod QuietLaws
 pub mod SwitchLaws
+pub mod TurnLaws

@@ -9,7 +9,7 @@ use lib.Dec.{eqb}
 use Rattle.rules.specs.Lists.{Every}
 use Rattle.rules.specs.Build.{Build, Sensible, groupCount}
 use Rattle.rules.specs.Node.{Node, powerOn, withRunning, withTimer}
-use Rattle.rules.specs.Operation.{Operation, arrive, schedule, preempt, dispatch, tick, user, unknown, queueFull, noFrames, refused}
+use Rattle.rules.specs.Operation.{Operation, arrive, schedule, preempt, dispatch, tick, turn, user, unknown, queueFull, noFrames, refused}
 use Rattle.rules.specs.Refusal.{refuseSchedule}
 use Rattle.rules.specs.Step.{Stepped, valued, finish, step}
 use Rattle.rules.specs.Run.{Input, asked, Event, Played, run, answersOf, upcallsOf}
@@ -29,6 +29,7 @@ stepBefore b n (arrive g ws) = step b n (arrive g ws)
 stepBefore b n preempt = step b n preempt
 stepBefore b n (dispatch g) = step b n (dispatch g)
 stepBefore b n (tick k) = step b n (tick k)
+stepBefore b n turn = step b n turn
 stepBefore b n (user r) = step b n (user r)
 stepBefore b n unknown = step b n unknown
 

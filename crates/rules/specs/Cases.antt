@@ -6,6 +6,7 @@ pub mod ScriptCases
 pub mod BufferCases
 pub mod StepCases
 pub mod SwitchCases
+pub mod TurnCases
 pub mod ForceCases
 pub mod MemoryCases
 pub mod PagingCases

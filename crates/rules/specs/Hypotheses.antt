@@ -9,7 +9,7 @@ use mathlib.Core.List.{List, [], _∷_, _++_, map}
 use lib.ListN.{drop}
 use Rattle.rules.specs.Build.{Build, paper01, Sensible}
 use Rattle.rules.specs.Lists.{filter, upFrom}
-use Rattle.rules.specs.Operation.{Request, arrive, schedule, tick, user, unknown}
+use Rattle.rules.specs.Operation.{Request, arrive, schedule, tick, turn, user, unknown}
 use Rattle.rules.specs.Text.{bytes}
 use Rattle.rules.specs.Script.{scriptLines}
 use Rattle.rules.specs.Node.{Place, Buffer, Node, groupOf, withGroup, withBuffer, inBuffer}
@@ -91,6 +91,7 @@ pub record OldExamples : Type 0 where
   pub arrival-old : (g : ℕ) (ws : List ℕ) → Old (operation (arrive g ws))
   pub schedule-old : (g : ℕ) → Old (operation (schedule g))
   pub tick-old : (k : ℕ) → Old (operation (tick k))
+  pub turn-old : Old (operation turn)
   pub request-old : (r : Request) → Old (operation (user r))
   pub unknown-old : Old (operation unknown)
   pub line-old : Old (scriptLine (bytes "S,1"))

@@ -7,6 +7,7 @@ pub mod Operation
 pub mod Types
 pub mod Refusal
 pub mod Settling
+pub mod Turn
 pub mod Step
 pub mod Valid
 pub mod Sound
@@ -22,6 +23,7 @@ pub mod Conditions
 pub mod DemandOne
 pub mod DemandThree
 pub mod Touches
+pub mod Turns
 pub mod Unseen
 pub mod Dumps
 pub mod Reading

@@ -32,6 +32,8 @@ pub data Operation : Type 0 where
   schedule : ℕ → Operation
   -- T: n
   tick : ℕ → Operation
+  -- C
+  turn : Operation
   user : Request → Operation
   unknown : Operation
 

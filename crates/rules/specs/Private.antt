@@ -9,7 +9,7 @@ use Rattle.rules.specs.Lists.{isEmpty}
 use Rattle.rules.specs.Build.{wordLimit, lastNode}
 use Rattle.rules.specs.Node.{Message}
 use Rattle.rules.specs.Operation.{Request, poll, peek, dispose, beginAtomic, endAtomic, describe, launch}
-use Rattle.rules.specs.Operation.{Operation, arrive, schedule, preempt, dispatch, tick, user, unknown}
+use Rattle.rules.specs.Operation.{Operation, arrive, schedule, preempt, dispatch, tick, turn, user, unknown}
 use Rattle.rules.specs.Operation.{accepted, noMessage, pastMessage, stillPending, descriptorFull, descriptorEmpty, badNode}
 
 -- "It keeps: having the processor, atomic, pending, a list of messages and a descriptor"
@@ -43,6 +43,8 @@ told g (schedule h) ok = cond ok (processor (eqb h g)) nothing
 told g preempt ok = cond ok (processor (eqb 0 g)) nothing
 told g (dispatch h) ok = cond ok (processor (eqb h g)) nothing
 told g (tick k) ok = nothing
+-- C "belongs to no group"
+told g turn ok = nothing
 told g (user r) ok = request r
 told g unknown ok = nothing
 

@@ -9,7 +9,7 @@ use Rattle.rules.specs.Build.{Build, pageCount, groupCount, wordLimit, l
 use Rattle.rules.specs.Node.{Message, Node, groupOf, withQueue, line}
 use Rattle.rules.specs.Frames.{pledges}
 use Rattle.rules.specs.Operation.{Request, poll, peek, dispose, beginAtomic, endAtomic, describe, launch}
-use Rattle.rules.specs.Operation.{Operation, arrive, schedule, preempt, dispatch, tick, user, unknown}
+use Rattle.rules.specs.Operation.{Operation, arrive, schedule, preempt, dispatch, tick, turn, user, unknown}
 use Rattle.rules.specs.Operation.{accepted, unreadable, badGroup, badWords, queueFull, noFrames, nobodyRuns, noMessage, pastMessage}
 use Rattle.rules.specs.Operation.{stillPending, descriptorFull, descriptorEmpty, badNode, badSchedule, badTicks, alreadyRuns}
 
@@ -80,5 +80,7 @@ refusal b n preempt = accepted
 refusal b n (dispatch g) = refuseDispatch (n .running) g
 refusal b n (schedule g) = refuseSchedule g
 refusal b n (tick k) = refuseTick k
+-- C is for everyone, "whoever runs"
+refusal b n turn = accepted
 refusal b n (user r) = cond (eqb (n .running) 0) nobodyRuns (refuseRequest n r)
 refusal b n unknown = unreadable

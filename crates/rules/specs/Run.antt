@@ -7,7 +7,7 @@ use Rattle.rules.specs.Lists.{concatMap, sum}
 use Rattle.rules.specs.Build.{Build}
 use Rattle.rules.specs.Node.{Message, Node, powerOn}
 use Rattle.rules.specs.Operation.{poll, peek, dispose, beginAtomic, endAtomic, describe, launch}
-use Rattle.rules.specs.Operation.{Operation, arrive, schedule, preempt, dispatch, tick, user, unknown, Report, accepted, noTrap}
+use Rattle.rules.specs.Operation.{Operation, arrive, schedule, preempt, dispatch, tick, turn, user, unknown, Report, accepted, noTrap}
 use Rattle.rules.specs.Step.{step}
 use Rattle.rules.specs.Memory.{word, runningAt}
 use Rattle.rules.specs.MemoryTest.{stepMemory, powerOnMemory}
@@ -78,6 +78,7 @@ arrivedBy preempt ok = []
 arrivedBy (dispatch g) ok = []
 arrivedBy (schedule g) ok = []
 arrivedBy (tick k) ok = []
+arrivedBy turn ok = []
 arrivedBy (user r) ok = []
 arrivedBy unknown ok = []
 
@@ -100,6 +101,7 @@ answerTo preempt runs r = []
 answerTo (dispatch g) runs r = []
 answerTo (schedule g) runs r = []
 answerTo (tick k) runs r = []
+answerTo turn runs r = []
 answerTo (user q) runs r = cond runs (answerOf r ∷ []) []
 answerTo unknown runs r = []
 
@@ -118,6 +120,7 @@ disposedBy preempt ok = 0
 disposedBy (dispatch g) ok = 0
 disposedBy (schedule g) ok = 0
 disposedBy (tick k) ok = 0
+disposedBy turn ok = 0
 disposedBy (user poll) ok = 0
 disposedBy (user (peek i)) ok = 0
 disposedBy (user dispose) ok = cond ok 1 0
@@ -146,6 +149,7 @@ tickedBy preempt ok = 0
 tickedBy (dispatch g) ok = 0
 tickedBy (schedule g) ok = 0
 tickedBy (tick k) ok = cond ok k 0
+tickedBy turn ok = 0
 tickedBy (user r) ok = 0
 tickedBy unknown ok = 0
 

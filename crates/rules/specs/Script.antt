@@ -11,7 +11,7 @@ use Rattle.rules.specs.Text.{bytes, split, isDigit, valueFrom, row}
 use Rattle.rules.specs.Build.{Build, paper01}
 use Rattle.rules.specs.Node.{Node, powerOn}
 use Rattle.rules.specs.Operation.{poll, peek, dispose, beginAtomic, endAtomic, describe, launch}
-use Rattle.rules.specs.Operation.{Operation, arrive, schedule, preempt, dispatch, tick, user, unknown, Report}
+use Rattle.rules.specs.Operation.{Operation, arrive, schedule, preempt, dispatch, tick, turn, user, unknown, Report}
 use Rattle.rules.specs.Step.{step}
 
 -- "A line ends with a newline (byte 10)."
@@ -85,6 +85,7 @@ letters =
     ∷ record { letter = code "O"; fields = noField preempt }
     ∷ record { letter = code "I"; fields = oneField dispatch }
     ∷ record { letter = code "T"; fields = oneField tick }
+    ∷ record { letter = code "C"; fields = noField turn }
     ∷ record { letter = code "M"; fields = noField (user poll) }
     ∷ record { letter = code "E"; fields = oneField (λ x. user (peek x)) }
     ∷ record { letter = code "D"; fields = noField (user dispose) }

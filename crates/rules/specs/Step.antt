@@ -9,10 +9,11 @@ use Rattle.rules.specs.Node.{Message, Node, groupOf, withRunning, withTi
 use Rattle.rules.specs.Frames.{removeFirst, withStock}
 use Rattle.rules.specs.Paging.{runnerResident}
 use Rattle.rules.specs.Operation.{Request, poll, peek, dispose, beginAtomic, endAtomic, describe, launch}
-use Rattle.rules.specs.Operation.{Operation, arrive, schedule, preempt, dispatch, tick, user, unknown}
+use Rattle.rules.specs.Operation.{Operation, arrive, schedule, preempt, dispatch, tick, turn, user, unknown}
 use Rattle.rules.specs.Operation.{Report, accepted, noTrap, disposeExtend, atomicityExtend, timeoutTrap, refused, allZero}
 use Rattle.rules.specs.Refusal.{refusal, queued}
 use Rattle.rules.specs.Settling.{settle, drain, upcall, upcallGroup}
+use Rattle.rules.specs.Turn.{whoseTurn}
 
 -- what an accepted operation does before settling: the node, and its part of the report
 pub record Effect : Type 0 where
@@ -143,6 +144,8 @@ act b n preempt = valued 0 (preempted n)
 act b n (dispatch g) = valued 0 (withRunning g n)
 act b n (schedule g) = valued 0 n
 act b n (tick k) = ticks b k (valued 0 n)
+-- "C changes nothing"
+act b n turn = valued (whoseTurn n) n
 act b n (user r) = serve b n r
 act b n unknown = valued 0 n
 
@@ -203,6 +206,7 @@ performed b n preempt = finish b (act b n preempt)
 performed b n (dispatch g) = finish b (act b n (dispatch g))
 performed b n (schedule g) = switched b n g
 performed b n (tick k) = finish b (act b n (tick k))
+performed b n turn = finish b (act b n turn)
 performed b n (user r) = finish b (act b n (user r))
 performed b n unknown = finish b (act b n unknown)
 

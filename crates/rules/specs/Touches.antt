@@ -12,7 +12,7 @@ use Rattle.rules.specs.Lists.{filter, isEmpty}
 use Rattle.rules.specs.Build.{Build, groupCount}
 use Rattle.rules.specs.Node.{Message, Place, Group, Node, groupOf, isOf}
 use Rattle.rules.specs.Operation.{Request, poll, peek, dispose, beginAtomic, endAtomic, describe, launch}
-use Rattle.rules.specs.Operation.{Operation, arrive, schedule, preempt, dispatch, tick, user, unknown, Report, accepted, noTrap, timeoutTrap}
+use Rattle.rules.specs.Operation.{Operation, arrive, schedule, preempt, dispatch, tick, turn, user, unknown, Report, accepted, noTrap, timeoutTrap}
 use Rattle.rules.specs.Step.{step}
 use Rattle.rules.specs.Valid.{Valid}
 
@@ -176,6 +176,8 @@ rowOf n (tick k) r =
     cond (eqb (r .trap) noTrap)
     (row (timer ∷ []) (λ g. []))
     (row (timer ∷ queue ∷ stores) (λ g. filling (isMoved g (r .moved) (n .queue)) ++ when (runs n g) (revoked ∷ [])))
+-- "C changes nothing"
+rowOf n turn r = untouched
 rowOf n (user q) r = requestRow n q r
 rowOf n unknown r = untouched
 

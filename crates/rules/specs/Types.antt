@@ -5,9 +5,9 @@ use lib.ListN.{length, drop, getD}
 use Rattle.rules.specs.Lists.{pad}
 use Rattle.rules.specs.Build.{Build, groupCount, wordLimit, lastNode, tickLimit}
 use Rattle.rules.specs.Operation.{poll, peek, dispose, beginAtomic, endAtomic, describe, launch}
-use Rattle.rules.specs.Operation.{Operation, arrive, schedule, preempt, dispatch, tick, user, unknown, Report}
+use Rattle.rules.specs.Operation.{Operation, arrive, schedule, preempt, dispatch, tick, turn, user, unknown, Report}
 use Rattle.rules.specs.declared.Operation.{Operation as Operation·rt}
-use Rattle.rules.specs.declared.Operation.the-variants.{Arrive, Schedule, Preempt, Dispatch, Tick, Poll, Peek, Dispose, BeginAtomic, EndAtomic, Describe, Launch, Unknown}
+use Rattle.rules.specs.declared.Operation.the-variants.{Arrive, Schedule, Preempt, Dispatch, Tick, Turn, Poll, Peek, Dispose, BeginAtomic, EndAtomic, Describe, Launch, Unknown}
 use Rattle.rules.specs.declared.Report.{Report as Report·rt}
 use Rattle.rules.specs.declared.Sent.{Sent as Sent·rt}
 use Rattle.rules.specs.declared.Build.{Build as Build·rt}
@@ -20,6 +20,7 @@ operationOf (Schedule g) ws = schedule g
 operationOf Preempt ws = preempt
 operationOf (Dispatch g) ws = dispatch g
 operationOf (Tick k) ws = tick k
+operationOf Turn ws = turn
 operationOf Poll ws = user poll
 operationOf (Peek i) ws = user (peek i)
 operationOf Dispose ws = user dispose

@@ -10,6 +10,7 @@ pub enum Operation {
     Preempt,
     Dispatch(u32),
     Tick(u32),
+    Turn,
     Poll,
     Peek(u32),
     Dispose,

@@ -183,6 +183,7 @@ fn alone(letter: u8) -> Operation
 {
     match letter {
         b'O' => Operation::Preempt,
+        b'C' => Operation::Turn,
         b'M' => Operation::Poll,
         b'D' => Operation::Dispose,
         b'B' => Operation::BeginAtomic(false),

@@ -193,7 +193,7 @@ run-all-told =
       written = λ m long a.
           let q = a .runs .reaches in
           let e = a .ends in
-          portions-all-told .answered m (a .runs .script) (a .state) (q .calls) (a .out) (a .memory′) (a .out′) (e .end)
+          portions-all-told .told m (a .runs .script) (a .state) (q .calls) (a .out) (a .memory′) (a .out′) (e .end)
           (record {
             long = long;
             none = a .none;

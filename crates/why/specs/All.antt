@@ -84,6 +84,6 @@ pub record Tells (m : List ℕ) : Type 0 where
 unfoldable pub writtenBy : {m : List ℕ} → Tells m → List ℕ
 writtenBy a = writtenBytes (a .runs .reaches .calls) ++ take (a .ends .end .written) (a .out′)
 
--- "the answer for every accepted arrival": they have written that of the script that the reads brought
+-- they have written the answer for every accepted arrival of the script that the reads brought
 pub record RunAllTold : Type 0 where
   pub written : (m : List ℕ) → size ≤ length m → (a : Tells m) → writtenBy a ≡ whyAll (a .runs .script)

@@ -104,7 +104,7 @@ pub record Answers (m : List ℕ) (w : ℕ) (out′ : List ℕ) (r : Text·rt) :
   pub tells : Tells memory run memory′ told
   pub written : Written w (toldOf told) out′ r
 
--- "It reads a script and a line number in it": from power-on, what is written is the line of what `why` tells of the script that the reads brought, and it
+-- from power-on, what is written is the line of what `why` tells of the script that the reads brought, and it
 -- is a refusal exactly where that is 2 or 17
 pub record AnswerTold (s : List ℕ) (w : ℕ) (out′ : List ℕ) (r : Text·rt) : Type 0 where
   pub text : take (r .end) out′ ≡ answerLine w (why s w)

@@ -20,13 +20,14 @@ usage: bin/bench [--instructions] [--script FILE] [PROGRAM [ARGUMENT..]]
 
 Plays a script by target/bin/fugu, by the judge and by PROGRAM, which takes it on standard input and
 writes the listing to standard output; it is called with the arguments, as `--order 5` of a program
-that knows several orders. If no script is named, these are six of a million lines: random ones of the
-flavours mixed, swap, which keeps the frames full, and switches; `S,1` `A,1,7` `D` in turn (S, A, D);
-and two that bring one message and then are E alone, which reads its words in turn, over and over: in
-the hardware queue (E, direct) and in a frame (E, buffered). Then plays the lines of the script's first
-64 KiB, at most 4096, 64 times over, by target/bin/tested, which tests the memory before every step, by
-the judge, which keeps no memory to test, and by PROGRAM with --test behind its arguments, which is to
-test its own.
+that knows several orders. If no script is named, these are eight of a million lines: random ones of the
+flavours mixed, swap, which keeps the frames full, and switches; `S,1` `A,1,7` `D` in turn (S, A, D); two
+that bring one message and then are E alone, which reads its words in turn, over and over: in the
+hardware queue (E, direct) and in a frame (E, buffered); and two of C alone while a group runs that has
+no message (C, no mail) or alone has some, as many as the hardware queue takes (C, queue full). Then
+plays the lines of the script's first 64 KiB, at most 4096, 64 times over, by target/bin/tested, which
+tests the memory before every step, by the judge, which keeps no memory to test, and by PROGRAM with
+--test behind its arguments, which is to test its own.
 
 The listings must be the judge's, else the exit status is 1. The programs then run by turns, their
 standard output to /dev/null; the time told is the best of fifteen runs, of five for the judge.

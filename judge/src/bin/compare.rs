@@ -21,11 +21,11 @@ listings byte for byte. PROGRAM is the project's own, target/bin/fugu, if none i
 reaches it in portions of random sizes; SEED fixes the scripts and the portions.
 
 At the end there is a table of the answers and traps met, of words read by where they stand, of places
-and pages used up, of pages sent out and brought in, of what forced timers and revoked groups did and
-of how the processor was taken, given and switched, and the count of lines compared. The exit status is
-1 at the first difference: another line, one too many or too few, none for a minute, anything on
-standard error, a failure of PROGRAM. It is 1, too, if LINES is 4000 or more and some answer 2 to 16,
-some trap 0 to 3, or some line of the table behind them was met by none.";
+and pages used up, of pages sent out and brought in, of what forced timers and revoked groups did, of
+how the processor was taken, given and switched and of whose mail C found, and the count of lines
+compared. The exit status is 1 at the first difference: another line, one too many or too few, none for
+a minute, anything on standard error, a failure of PROGRAM. It is 1, too, if LINES is 4000 or more and
+some answer 2 to 16, some trap 0 to 3, or some line of the table behind them was met by none.";
 
 /// Scripts of so many lines are held to meet everything; half of it is enough for most seeds.
 const ENOUGH: u64 = 4000;

@@ -16,9 +16,9 @@ usage: bin/scripts SEED LINES FLAVOUR             writes a random script
 
 SEED and LINES are decimal numbers; a seed fixes every byte. Counted are answers, traps, words read by
 where they stand, places and pages used up, pages sent out and brought in, these by their causes, what
-forced timers and revoked groups did, and how the processor was taken, given and switched. Without a
-FLAVOUR, --counts runs one script of each flavour, and fails if some answer 2 to 16, some trap 0 to 3 or
-one of the others was met by none.";
+forced timers and revoked groups did, how the processor was taken, given and switched, and whose mail C
+found. Without a FLAVOUR, --counts runs one script of each flavour, and fails if some answer 2 to 16,
+some trap 0 to 3 or one of the others was met by none.";
 
 enum Call {
     Help,

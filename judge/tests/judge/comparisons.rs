@@ -178,7 +178,7 @@ fn compare_tells_what_was_met() {
     let told = text(&output.stdout);
     assert!(told.starts_with("answer"));
     assert!(told.ends_with("\n56000 lines compared\n"));
-    assert_eq!(told.lines().count(), 1 + 13 + 1 + 3 + 3 + 6 + 7 + 6 + 1);
+    assert_eq!(told.lines().count(), 1 + 14 + 1 + 3 + 3 + 6 + 7 + 6 + 6 + 1);
     assert!(text(&output.stderr).contains("mixed: 4000 of 4000 lines"));
 }
 

@@ -70,7 +70,10 @@ fn all_flavours_together_meet_everything() {
 #[test]
 fn each_flavour_meets_what_it_is_for() {
     let purposes = [
-        ("uniform", "trap 1, trap 2, trap 3, answer 7"),
+        (
+            "uniform",
+            "trap 1, trap 2, trap 3, answer 7, turns with nobody running, turns to a group behind 8",
+        ),
         (
             "direct",
             "trap 0, answer 8, words read in the hardware queue",
@@ -80,7 +83,7 @@ fn each_flavour_meets_what_it_is_for() {
             "swap",
             "pages sent out, pages brought in to be written, pages exchanged to be written, first \
              pages brought in by D, first pages brought in by I, first pages exchanged by I, new \
-             runners' first pages sent out by their S",
+             runners' first pages sent out by their S, turns to a group with its first page in swap",
         ),
         (
             "swaptime",
@@ -90,12 +93,16 @@ fn each_flavour_meets_what_it_is_for() {
         (
             "switches",
             "answer 14, answer 16, processors taken with messages queued, switches of two acts, \
-             switches to the one running with messages queued",
+             switches to the one running with messages queued, turns with nobody running, turns with \
+             no mail, turns to the running one that alone has mail, turns to a group behind 8, turns \
+             to a group with queued mail alone",
         ),
         (
             "acts",
             "answer 14, answer 16, processors taken with messages queued, processors taken with \
-             nobody running, forced timers that O met, switches of two acts",
+             nobody running, forced timers that O met, switches of two acts, turns with nobody \
+             running, turns with no mail, turns to the running one that alone has mail, turns to a \
+             group behind 8, turns to a group with queued mail alone",
         ),
         ("ticks", "answer 15, trap 3"),
         (
@@ -118,7 +125,7 @@ fn each_flavour_meets_what_it_is_for() {
             "mixed",
             "answer 2, answer 5, answer 16, trap 1, trap 2, trap 3, pages sent out, first pages \
              brought in by D, timeouts with an empty queue, messages moved for revoked alone, \
-             processors taken with messages queued",
+             processors taken with messages queued, turns with no mail",
         ),
     ];
     assert_eq!(purposes.len(), FLAVOURS.len());
@@ -133,7 +140,7 @@ fn each_flavour_meets_what_it_is_for() {
 #[test]
 fn nothing_met_is_all_missing() {
     let missing = Counts::default().missing();
-    assert_eq!(missing.len(), 15 + 4 + 3 + 3 + 6 + 7 + 6);
+    assert_eq!(missing.len(), 15 + 4 + 3 + 3 + 6 + 7 + 6 + 6);
     assert_eq!(missing[0], "answer 2");
     assert_eq!(missing[18], "trap 3");
     assert_eq!(missing[19], "words read in the hardware queue");
@@ -141,6 +148,7 @@ fn nothing_met_is_all_missing() {
     assert_eq!(missing[25], "pages sent out");
     assert_eq!(missing[31], "timeouts with an empty queue");
     assert_eq!(missing[38], "processors taken with messages queued");
+    assert_eq!(missing[44], "turns with nobody running");
 }
 
 #[test]

@@ -17,5 +17,6 @@ mod state;
 mod support;
 mod swap;
 mod trials;
+mod turn;
 mod why;
 mod wiped;

@@ -2,7 +2,7 @@
 
 use std::io;
 
-use judge::node::{Event, Operation, Standing, Trap};
+use judge::node::{Event, Operation, Report, Standing, Trap};
 use judge::program::{first_lines, tested_lines, Measured, TESTED_TIMES};
 use judge::script;
 
@@ -25,7 +25,9 @@ fn each_script_has_a_million_lines() {
         "switches",
         "S, A, D",
         "E, direct",
-        "E, buffered"
+        "E, buffered",
+        "C, no mail",
+        "C, queue full"
     ]));
 }
 
@@ -66,34 +68,53 @@ fn the_lines_in_turn_meet_no_switch_and_no_buffer() {
     .expect("memory is read without error");
 }
 
-/// How many lines of a script are E: each reads its word in a message that stands so.
-fn reads(script: &[u8], standing: Standing) -> usize {
-    let mut reads = 0;
-    script::run(script, |line, report| {
-        if let Operation::MessageWord { index } = script::read(line) {
-            assert_eq!(report.events, [Event::WordRead(standing)]);
-            assert_eq!(report.value, 11 + index);
-            reads += 1;
-        }
-        Ok::<(), io::Error>(())
-    })
-    .expect("memory is read without error");
-    reads
+/// Behind so many lines a script has one operation alone, which `is_one` knows, and whose reports it looks
+/// at; also where its first lines are played again and again on one memory.
+fn alone(name: &str, before: usize, is_one: impl Fn(Operation, &Report) -> bool) {
+    let count = |script: &[u8]| {
+        let mut count = 0;
+        script::run(script, |line, report| {
+            count += usize::from(is_one(script::read(line), report));
+            Ok::<(), io::Error>(())
+        })
+        .expect("memory is read without error");
+        count
+    };
+    let script = named(name);
+    assert_eq!(count(&script), LINES - before, "{name}");
+    let first = tested_lines(&script);
+    let repeated = count(&first.repeat(TESTED_TIMES));
+    assert_eq!(repeated, TESTED_TIMES * count(first), "{name}");
 }
 
-/// Also where its first lines are played again and again on one memory.
 #[test]
 fn e_alone_reads_where_its_name_says() {
-    let alone = [
+    for (name, before, standing) in [
         ("E, direct", 2, Standing::Queued),
         ("E, buffered", 3, Standing::FirstPlace),
+    ] {
+        alone(name, before, |operation, report| {
+            let Operation::MessageWord { index } = operation else {
+                return false;
+            };
+            assert_eq!(report.events, [Event::WordRead(standing)]);
+            assert_eq!(report.value, 11 + index);
+            true
+        });
+    }
+}
+
+#[test]
+fn c_alone_finds_what_its_name_says() {
+    let found: [(&str, usize, &[Event]); 2] = [
+        ("C, no mail", 1, &[Event::NoMail]),
+        ("C, queue full", 17, &[Event::OwnMail, Event::MailQueued]),
     ];
-    for (name, before, standing) in alone {
-        let script = named(name);
-        assert_eq!(reads(&script, standing), LINES - before, "{name}");
-        let first = tested_lines(&script);
-        let once = reads(first, standing);
-        let repeated = reads(&first.repeat(TESTED_TIMES), standing);
-        assert_eq!(repeated, TESTED_TIMES * once, "{name}");
+    for (name, before, found) in found {
+        alone(name, before, |operation, report| {
+            let is_turn = operation == Operation::Turn;
+            assert!(!is_turn || report.events == found, "{name}");
+            is_turn
+        });
     }
 }

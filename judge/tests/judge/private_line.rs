@@ -88,6 +88,7 @@ impl PrivateLine {
             | Operation::Dispatch { .. }
             | Operation::Switch { .. }
             | Operation::Ticks { .. }
+            | Operation::Turn
             | Operation::Unknown => Outcome::default(),
             _ if !self.has_processor => Outcome::default(),
             own => match self.own(own) {
@@ -174,7 +175,8 @@ impl PrivateLine {
     }
 }
 
-/// The answer of a step that is a group's own: "Answers 1, 2 and 7 belong to no group."
+/// The answer of a step that is a group's own: "Answers 1, 2 and 7 belong to no group", and "C changes
+/// nothing and belongs to no group".
 fn own_answer(
     running: usize,
     group: u32,
@@ -188,6 +190,7 @@ fn own_answer(
             | Operation::Dispatch { .. }
             | Operation::Switch { .. }
             | Operation::Ticks { .. }
+            | Operation::Turn
             | Operation::Unknown
     );
     (own && running == group as usize).then(|| Answer::from(report))

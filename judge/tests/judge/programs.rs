@@ -316,7 +316,7 @@ fn scripts_counts_and_names_what_is_missing() {
     assert!(text(&enough.stdout).starts_with("answer"));
     assert_eq!(
         text(&enough.stdout).lines().count(),
-        1 + 13 + 1 + 3 + 3 + 6 + 7 + 6
+        1 + 14 + 1 + 3 + 3 + 6 + 7 + 6 + 6
     );
 
     let few = scripts("--counts 1 1");

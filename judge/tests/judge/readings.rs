@@ -29,7 +29,9 @@ fn a_bad_number_in_an_arrival_comes_before_its_refusals() {
 #[test]
 fn a_wrong_count_of_fields_is_unreadable() {
     let mut case = Case::new().quiet("S,1");
-    for line in "S S,1,2 O,1 I I,1,1 T T,1,2 M,1 E E,0,0 D,1 B,1,1 N,1 P P,1,2 L L,1,2".split(' ') {
+    for line in
+        "S S,1,2 O,1 I I,1,1 T T,1,2 M,1 E E,0,0 D,1 B,1,1 N,1 P P,1,2 L L,1,2 C,1".split(' ')
+    {
         case = case.line(line, UNREADABLE);
     }
     case.check();

@@ -133,7 +133,7 @@ fn memory_of(script: &[u8]) -> Vec<u32> {
 fn vectors() -> Vec<PathBuf> {
     let vectors = Path::new(env!("CARGO_MANIFEST_DIR")).join("../vectors");
     let folders = [
-        "base", "order1", "order2", "order3", "order4", "order5", "order6",
+        "base", "order1", "order2", "order3", "order4", "order5", "order6", "order7",
     ];
     let folders = folders.map(|name| vectors.join(name));
     let entries = folders.map(|folder| fs::read_dir(folder).expect("a folder"));
@@ -159,7 +159,7 @@ fn memories_after_every_script_read_back_to_the_same_state() {
             states += 1;
         }
     }
-    assert!(states >= 149, "{states}");
+    assert!(states >= 170, "{states}");
 }
 
 #[test]

@@ -125,7 +125,7 @@ fn reachable_memories_are_nodes_of_every_kind() {
 fn operations_are_of_every_kind() {
     let mut random = Random::new(1);
     let kinds = (0..500).map(|_| std::mem::discriminant(&operation(&mut random)));
-    assert_eq!(kinds.collect::<HashSet<_>>().len(), 13);
+    assert_eq!(kinds.collect::<HashSet<_>>().len(), 14);
 }
 
 #[test]

@@ -2,9 +2,9 @@
 
 use std::process::ExitCode;
 
-use judge::program::{arguments, failed, finish, met_all, misused, number, print};
+use judge::program::{arguments, failed, finish, misused, number, print, progress, tell_met};
 use trials::calls::Proved;
-use trials::table::{table_of, Table};
+use trials::table::table_of;
 
 const NAME: &str = "memories";
 const USAGE: &str = "\
@@ -22,8 +22,8 @@ At the end there is a table of what was met. The exit status is 1 at the first d
 told with the number of its memory; and if COUNT is 100000 or more and some clause of the memory
 test, some place of a stray word, of the head message or of a word that is read, some operation, some
 answer, some trap, some cause of a page's being used up, going out or coming in, something that a
-forced timer or a revoked group does, or some way of taking, giving or switching the processor was met
-by none.";
+forced timer or a revoked group does, some way of taking, giving or switching the processor, or some
+way for C to find mail, or none, was met by none.";
 
 const PROGRESS: u64 = 1_000_000;
 
@@ -32,8 +32,8 @@ fn main() -> ExitCode {
     let arguments: Vec<&str> = arguments.iter().map(String::as_str).collect();
     match understand(&arguments) {
         Ok(None) => finish(NAME, print(USAGE)),
-        Ok(Some((count, seed))) => match table_of(&Proved, count, seed, progress) {
-            Ok(table) => tell(&table),
+        Ok(Some((count, seed))) => match table_of(&Proved, count, seed, progress(NAME, PROGRESS)) {
+            Ok(table) => tell_met(NAME, &table.to_string(), &table.missing()),
             Err(reason) => failed(NAME, &reason),
         },
         Err(reason) => misused(NAME, &reason, USAGE),
@@ -47,17 +47,4 @@ fn understand(arguments: &[&str]) -> Result<Option<(u64, u64)>, String> {
         [count, seed] => Ok(Some((number(count)?, number(seed)?))),
         _ => Err("wrong arguments".to_string()),
     }
-}
-
-fn progress(number: u64, count: u64) {
-    if number % PROGRESS == 0 || number == count {
-        eprintln!("{NAME}: {number} of {count}");
-    }
-}
-
-fn tell(table: &Table) -> ExitCode {
-    if let Err(error) = print(&table.to_string()) {
-        return finish(NAME, Err(error));
-    }
-    met_all(NAME, &table.missing())
 }

@@ -3,8 +3,8 @@
 use std::fs;
 use std::process::ExitCode;
 
-use judge::program::{arguments, failed, finish, met_all, misused, number, print};
-use trials::why::{rows, table_of, Proved, Table};
+use judge::program::{arguments, failed, finish, misused, number, print, progress, tell_met};
+use trials::why::{rows, table_of, Proved};
 
 const NAME: &str = "reasons";
 const USAGE: &str = "\
@@ -36,10 +36,12 @@ fn main() -> ExitCode {
             Ok(rows) => finish(NAME, print(&rows)),
             Err(reason) => failed(NAME, &reason),
         },
-        Ok(Asked::Table(count, seed)) => match table_of(&Proved, count, seed, progress) {
-            Ok(table) => tell(&table),
-            Err(reason) => failed(NAME, &reason),
-        },
+        Ok(Asked::Table(count, seed)) => {
+            match table_of(&Proved, count, seed, progress(NAME, PROGRESS)) {
+                Ok(table) => tell_met(NAME, &table.to_string(), &table.missing()),
+                Err(reason) => failed(NAME, &reason),
+            }
+        }
         Err(reason) => misused(NAME, &reason, USAGE),
     }
 }
@@ -63,17 +65,4 @@ fn understand<'a>(arguments: &[&'a str]) -> Result<Asked<'a>, String> {
 fn rows_of(path: &str) -> Result<String, String> {
     let script = fs::read(path).map_err(|error| format!("{path}: {error}"))?;
     rows(&Proved, &script).map_err(|difference| format!("{path}: {difference}"))
-}
-
-fn progress(number: u64, count: u64) {
-    if number % PROGRESS == 0 || number == count {
-        eprintln!("{NAME}: {number} of {count}");
-    }
-}
-
-fn tell(table: &Table) -> ExitCode {
-    if let Err(error) = print(&table.to_string()) {
-        return finish(NAME, Err(error));
-    }
-    met_all(NAME, &table.missing())
 }

@@ -106,6 +106,7 @@ fn each_kind_is_counted() {
         ("?", "refusal 2"),
         ("A,9,7", "refusal 17 of a refused arrival"),
         ("S,1", "refusal 17 of another operation"),
+        ("C", "refusal 17 of another operation"),
         ("A,1,7", "reason 3 at its own line"),
         ("S,1 A,1,7", "refusal 17 of another operation, reason 2"),
         ("S,1 A,1,7 D", "refusal 17 of another operation, reason 1"),

@@ -18,6 +18,8 @@ type Part = Box<dyn Fn(&mut [u32], u32) -> u32>;
 type Memory = Box<dyn Fn(&Asked, &[u32], &mut [u32])>;
 /// Another E, of its index, where the head message stands, and the memory and the report after it.
 type Read = Box<dyn Fn(usize, Range<usize>, &mut [u32], &mut [u32])>;
+/// Another value of an accepted C, of the memory and the right one.
+type Turn = Box<dyn Fn(&[u32], u32) -> u32>;
 
 /// The proved calls, and what is done behind their back.
 struct Wrong {
@@ -27,6 +29,7 @@ struct Wrong {
     report: Part,
     memory: Memory,
     read: Read,
+    turn: Turn,
 }
 
 fn right() -> Wrong {
@@ -37,6 +40,7 @@ fn right() -> Wrong {
         report: Box::new(|_, written| written),
         memory: Box::new(|_, _, _| ()),
         read: Box::new(|_, _, _, _| ()),
+        turn: Box::new(|_, value| value),
     }
 }
 
@@ -77,6 +81,9 @@ impl Calls for Wrong {
         let before = memory.to_vec();
         let written = Proved.ask(asked, memory, part);
         (self.memory)(asked, &before, memory);
+        if asked.operation() == Some(Operation::Turn) && written > 0 && part[0] == 0 {
+            part[1] = (self.turn)(&before, part[1]);
+        }
         (self.report)(part, written)
     }
 }
@@ -640,6 +647,88 @@ fn a_forced_timer_that_settling_sets_back() {
     a_step_with(b'M', ", the timer: judge ", |_, _, after| {
         if after[2] == 0 {
             after[1] = 0;
+        }
+    });
+}
+
+#[test]
+fn a_turn_that_sets_the_timer_back() {
+    a_step_with(b'C', ", the timer: judge ", |_, _, after| after[1] = 0);
+}
+
+/// A C whose value is another is found, of the memory and of the right value.
+fn a_turn_to(another: impl Fn(&[u32], u32) -> u32 + 'static) {
+    let wrong = Wrong {
+        turn: Box::new(another),
+        ..right()
+    };
+    found(wrong, "the report differs\n  value: judge ");
+}
+
+#[test]
+fn a_turn_to_the_running_one_first() {
+    a_turn_to(|memory, value| match head_part(memory).is_empty() {
+        true => value,
+        false => memory[0],
+    });
+}
+
+#[test]
+fn a_turn_that_leaves_the_running_one_out() {
+    a_turn_to(|memory, value| match value == memory[0] {
+        true => 0,
+        false => value,
+    });
+}
+
+#[test]
+fn a_turn_that_does_not_go_round() {
+    a_turn_to(|memory, value| match value < memory[0] {
+        true => 0,
+        false => value,
+    });
+}
+
+#[test]
+fn a_turn_that_starts_at_2_with_nobody_running() {
+    a_turn_to(|memory, value| match (memory[0], value) {
+        (0, 1) => 2,
+        _ => value,
+    });
+}
+
+/// Where the group has its mail in the hardware queue alone, and where its first page is in swap.
+#[test]
+fn a_turn_that_does_not_look_everywhere() {
+    a_turn_to(|memory, value| match buffer(memory, value).first() {
+        None => 0,
+        Some(_) => value,
+    });
+    a_turn_to(|memory, value| match buffer(memory, value).first() {
+        Some(32..) => 0,
+        _ => value,
+    });
+}
+
+/// The pages of a group's buffer; none for nobody.
+fn buffer(memory: &[u32], group: u32) -> Vec<u32> {
+    match group {
+        0 => Vec::new(),
+        _ => {
+            let record = flag_at(group as usize, 0);
+            line(memory, record + 6, record + 16, 96)
+        }
+    }
+}
+
+/// Revoked counts as buffered, and is no mail.
+#[test]
+fn a_turn_to_a_revoked_group() {
+    a_turn_to(|memory, value| {
+        let mut revoked = (1..=8).filter(|&group| memory[flag_at(group, REVOKED)] == 1);
+        match (value, revoked.next()) {
+            (0, Some(group)) => group as u32,
+            _ => value,
         }
     });
 }

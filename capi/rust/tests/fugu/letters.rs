@@ -11,7 +11,7 @@ fn taken(letter: u8, count: usize) -> bool {
         b'A' => count >= 1,
         b'S' | b'I' | b'T' | b'E' | b'P' | b'L' => count == 1,
         b'B' => count <= 1,
-        b'O' | b'M' | b'D' | b'N' => count == 0,
+        b'O' | b'M' | b'D' | b'N' | b'C' => count == 0,
         _ => false,
     }
 }
@@ -53,11 +53,13 @@ fn only_0_and_1_are_numbers_of_begin() {
 
 #[test]
 fn unreadable_lines() {
-    let lines: [&[u8]; 22] = [
+    let lines: [&[u8]; 26] = [
         b"",
         b"m",
         b"o",
         b"i,1",
+        b"c",
+        b"CC",
         b"Q,1",
         b"S,1\r",
         b"S, 1",
@@ -66,6 +68,8 @@ fn unreadable_lines() {
         b"M,0",
         b"O,",
         b"O,1",
+        b"C,",
+        b"C,0",
         b"I",
         b"I,",
         b"I,1,1",
@@ -90,10 +94,10 @@ fn unreadable_lines() {
 #[test]
 fn a_line_and_its_letter_are_the_same_step() {
     let script = "\
-        S,1\nA,1,7\nA,2,5,6\nN\nE,0\nE,1\nT,256\nD\nN\n\
+        C\nS,1\nC\nA,1,7\nA,2,5,6\nC\nN\nE,0\nE,1\nT,256\nC\nD\nN\n\
         S,2\nM\nD\nP,9\nP,4294967295\nL,64\nL,3\nA,1\nA,9,1\n\
         A,1,1,2,3,4,5,6,7,8,9\nB\nB,0\nB,1\nT,300\nT,212\nA,2,7\nS,9\nT,0\nD\nN\n\
-        A,2,8\nO\nO\nI,0\nI,9\nI,2\nI,1\nD";
+        A,2,8\nO\nO\nC\nI,0\nI,9\nI,2\nI,1\nC\nD";
     let (mut by_line, mut by_letter) = (started(), started());
     for line in script.lines() {
         let (letter, numbers) = taken_apart(line.as_bytes()).expect("the line is readable");

@@ -75,4 +75,5 @@ fn vectors() {
     play("vectors/order4");
     play("vectors/order5");
     play("vectors/order6");
+    play("vectors/order7");
 }

@@ -9,4 +9,5 @@ mod paging;
 mod parts;
 mod reasons;
 mod support;
+mod turn;
 mod why;

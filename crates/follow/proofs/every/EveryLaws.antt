@@ -12,11 +12,10 @@ use Rattle.rules.specs.MemoryTest.{isMemory}
 use Rattle.reasons.specs.Follow.{Seen, Telling, stillWaiting, tellLines, tellingLines, tellings, waitingAfter, waitingWith}
 use Rattle.script.specs.Feed.{Cut, keptLine, keptRoom, lastNumber}
 use Rattle.script.specs.Feeding.{afterLines, begun, linesBehind, restBehind, whole}
-use Rattle.script.specs.Read.{OneLine, lineEnd, lineOf}
+use Rattle.script.specs.Read.{lineEnd, lineOf}
 use Rattle.script.specs.Written.{Appended}
 use Rattle.script.proofs.PortionsLaws.{joined}
 use Rattle.script.proofs.OneLineLaws.{one-take}
-use Rattle.script.proofs.feed.FedLaws.{kept-one}
 use Rattle.script.proofs.write.AppendedLaws.{appended-as, appended-none, appended-then}
 use Rattle.follow.specs.Seen.{LineStepped, seenMemory, seenOn}
 use Rattle.follow.specs.Waiting.{LineTold, linesRoom}
@@ -25,7 +24,7 @@ use Rattle.follow.specs.declared.every.Lines.{Lines as Lines·rt}
 use Rattle.follow.specs.declared.every.State.{State as State·rt}
 use Rattle.follow.specs.declared.seen.Line.{Line as Line·rt}
 use Rattle.follow.specs.declared.waiting.Waiting.{Waiting as Waiting·rt}
-use Rattle.follow.proofs.portion.PassedLaws.{Passed, begun-is-one, cut-whole, length-seen, more-lines, one-open, passed-more, passed-start, portion-kept, portion-lines, seen-append}
+use Rattle.follow.proofs.portion.PassedLaws.{Passed, begun-is-one, kept-one-line, length-seen, more-lines, one-open, passed-more, passed-start, portion-ahead, portion-kept, portion-lines, seen-append}
 use Rattle.follow.proofs.waiting.TellLaws.{Fewer, lines-append}
 
 -- Lines one behind the other.
@@ -65,9 +64,9 @@ pub telling-start : {m : List ℕ} {good : Bool} {kept : List ℕ} {begins : ℕ
 unfolding stillWaiting tellLines tellingLines seenMemory
 telling-start {m} {kept = kept} {begins = begins} {u = u} {lines = lines} out h =
     let b = take begins kept in
-    let none : whole (b ++ []) ≡ [] = ap whole (append-nil b) ∙ one-open b (h .one) in
+    let none : whole (b ++ []) ≡ [] = ap whole (append-nil b) ∙ one-open b (h .ahead .one) in
     record {
-      passed = passed-start m u lines (h .short) (h .one) (h .cut);
+      passed = passed-start m u lines (h .ahead .few) (h .ahead .one) (h .ahead .cut);
       waits = rw none;
       few = h .few;
       told = rw none (appended-none out 0);
@@ -149,23 +148,10 @@ waiting-few st n all f = (
 
 module _ (m : List ℕ) (st : State·rt) {input : List ℕ} {last : ℕ} (n : ℕ) (few : st .script .lines + length input < lastNumber) (c : Cut input 0 last)
     (begins : take n (st .script .kept) ≡ keptLine (st .script)) where
-  kept-one-line : OneLine (take n (st .script .kept))
-  unfolding keptLine
-  kept-one-line = kept-one (take keptRoom (take (st .script .count) (st .script .kept))) begins
-
   pub portion-tellable : {good : Bool} → good ≡ isMemory m → keptRoom < length (st .script .kept) → n ≤ keptRoom → (k : ℕ) → length (st .waiting) ≡ paper01 .places → k ≤ paper01 .places
       → Tellable m good (st .script .kept) n (take last input) (st .script .lines) (st .waiting) k
   portion-tellable known room short k all some =
-      record {
-        known = sym known;
-        room = room;
-        short = short;
-        one = kept-one-line;
-        cut = cut-whole kept-one-line c;
-        numbers = let l = length-take-le last input (c .inside) in let i = c .inside in omega arith;
-        all = all;
-        few = some;
-      }
+      record { ahead = portion-ahead m (st .script) n few c begins known room short; all = all; few = some }
 
   module _ {out m′ kept′ waiting′ out′ : List ℕ} {r : Lines·rt} (k : ℕ) (waits : take k (st .waiting) ≡ waitingOf st)
       (q : LinesTold m (take n (st .script .kept)) (take last input) (st .script .lines) (take k (st .waiting)) out m′ kept′ waiting′ out′ r) where
@@ -206,7 +192,7 @@ module _ (m : List ℕ) (st : State·rt) {input : List ℕ} {last : ℕ} (n : �
         let i = q .inside in
         let l = length-take-le last input (c .inside) in
         let u : take (r .used) (take last input) ≡ take (r .used) input = take-take (r .used) last input (omega arith) in
-        let j = joined b (take (r .used) input) (one-open b kept-one-line) in
+        let j = joined b (take (r .used) input) (one-open b (kept-one-line (st .script) n begins)) in
         let y = begun (b ++ take (r .used) (take last input)) in
         told-portion (r .used) (r .kept) kept′ (let h = c .inside in omega arith)
         (ap (λ (x : List ℕ). whole (b ++ x)) u ∙ j .lines ∙ ap (λ (x : List ℕ). linesBehind x (take (r .used) input)) begins)
@@ -222,7 +208,7 @@ module _ (m : List ℕ) (st : State·rt) {input : List ℕ} {last : ℕ} (n : �
         let u : take (r .used) (take last input) ≡ take last input = take-all (r .used) (take last input) (let e = q .all-used used in omega arith) in
         let all : take (length input) input ≡ input = take-all (length input) input (omega arith) in
         told-portion (length input) count kept (omega arith)
-        (ap (λ (x : List ℕ). whole (b ++ x)) u ∙ portion-lines kept-one-line c ∙ ap (λ (x : List ℕ). linesBehind x input) begins ∙ ap (linesBehind (keptLine (st .script))) (sym all))
-        (portion-kept kept-one-line c (r .lines) kept count (grown ∙ ap (λ (x : List ℕ). take keptRoom (x ++ drop last input)) (q .kept ∙ ap (λ (x : List ℕ). begun (b ++ x)) u))
+        (ap (λ (x : List ℕ). whole (b ++ x)) u ∙ portion-lines (kept-one-line (st .script) n begins) c ∙ ap (λ (x : List ℕ). linesBehind x input) begins ∙ ap (linesBehind (keptLine (st .script))) (sym all))
+        (portion-kept (kept-one-line (st .script) n begins) c (r .lines) kept count (grown ∙ ap (λ (x : List ℕ). take keptRoom (x ++ drop last input)) (q .kept ∙ ap (λ (x : List ℕ). begun (b ++ x)) u))
         ∙ ap (λ (x : List ℕ). take keptRoom (restBehind x input)) begins ∙ ap (λ (x : List ℕ). take keptRoom (restBehind (keptLine (st .script)) x)) (sym all))
         (λ e. refl) (λ e. omega arith)

@@ -5,26 +5,25 @@ use mathlib.Core.Bool.{Bool, true, false, true≢false, not}
 use mathlib.Core.List.{List, [], _∷_, _++_, append-nil}
 use mathlib.Core.Path.{_≡_, refl, sym, ap, subst, _∙_}
 use lib.ListN.{length, take, drop}
-use lib.Seq.{length-take-le, take-all}
+use lib.Seq.{take-all}
 use borrow.Author.Tests.{not-false, not-true}
 use Rattle.rules.specs.Lists.{isEmpty}
-use Rattle.rules.specs.MemoryTest.{isMemory}
 use Rattle.rules.specs.Script.{newline}
 use Rattle.rules.specs.Text.{split}
 use Rattle.reasons.specs.Follow.{Followed, Seen, followLine, followLines, toldAt}
 use Rattle.script.specs.Feed.{Cut, keptLine, keptRoom, lastNumber}
 use Rattle.script.specs.Feeding.{afterLines, allButLast, begun, joinFirst, lastLine, linesBehind, restBehind, whole}
-use Rattle.script.specs.Read.{OneLine, lineEnd, lineOf}
-use Rattle.script.proofs.feed.FedLaws.{kept-one}
+use Rattle.script.specs.Read.{lineEnd, lineOf}
 use Rattle.follow.specs.Seen.{LineStepped, Sees, seenMemory, seenOn}
-use Rattle.follow.specs.One.{Ended, Finished, Followable, FollowedTo, LinesFollowed, followedOf, toldOf}
+use Rattle.follow.specs.Portion.{LinesAhead}
+use Rattle.follow.specs.One.{Ended, Finished, FollowedTo, LinesFollowed, followedOf, toldOf}
 use Rattle.follow.specs.declared.one.Followed.{Followed as Followed·rt}
 use Rattle.follow.specs.declared.one.Lines.{Lines as Lines·rt}
 use Rattle.follow.specs.declared.one.State.{State as State·rt}
 use Rattle.follow.specs.declared.one.Told.{Told as Told·rt}
 use Rattle.follow.specs.declared.seen.Line.{Line as Line·rt}
 use Rattle.follow.proofs.one.PlaceLaws.{follow-append}
-use Rattle.follow.proofs.portion.PassedLaws.{Passed, cut-whole, length-seen, more-lines, one-open, passed-more, passed-start, portion-kept, portion-lines, seen-append}
+use Rattle.follow.proofs.portion.PassedLaws.{Passed, kept-one-line, length-seen, more-lines, one-open, passed-more, passed-start, portion-kept, portion-lines, seen-append}
 
 -- lines of u, where b has begun, are followed up to a position
 pub record Going (m b u : List ℕ) (lines w : ℕ) (f : Followed·rt) (m′ kept : List ℕ) (at : ℕ) (r : Lines·rt) : Type 0 where
@@ -32,7 +31,7 @@ pub record Going (m b u : List ℕ) (lines w : ℕ) (f : Followed·rt) (m′ kep
   pub followed : followedOf (r .followed) ≡ followLines w (lines + 1) (followedOf f) (seenMemory m (whole (b ++ take at u)))
 
 -- none yet
-pub going-start : {m : List ℕ} {good : Bool} {kept : List ℕ} {count : ℕ} {u : List ℕ} {lines : ℕ} (w : ℕ) (f : Followed·rt) → Followable m good kept count u lines
+pub going-start : {m : List ℕ} {good : Bool} {kept : List ℕ} {count : ℕ} {u : List ℕ} {lines : ℕ} (w : ℕ) (f : Followed·rt) → LinesAhead m good kept count u lines
     → Going m (take count kept) u lines w f m kept 0 (record { lines = lines; count = count; followed = f })
 unfolding followLines seenMemory
 going-start {m} {kept = kept} {count = count} {u = u} {lines = lines} w f h =
@@ -83,34 +82,18 @@ module _ {m b u : List ℕ} {lines w : ℕ} {f : Followed·rt} {m₁ kept : List
 
 module _ (m : List ℕ) (st : State·rt) {input : List ℕ} {last : ℕ} (n : ℕ) (few : st .script .lines + length input < lastNumber) (c : Cut input 0 last)
     (begins : take n (st .script .kept) ≡ keptLine (st .script)) where
-  kept-one-line : OneLine (take n (st .script .kept))
-  unfolding keptLine
-  kept-one-line = kept-one (take keptRoom (take (st .script .count) (st .script .kept))) begins
-
-  pub portion-followable : {good : Bool} → good ≡ isMemory m → keptRoom < length (st .script .kept) → n ≤ keptRoom
-      → Followable m good (st .script .kept) n (take last input) (st .script .lines)
-  portion-followable known room short =
-      record {
-        known = sym known;
-        room = room;
-        few = short;
-        one = kept-one-line;
-        cut = cut-whole kept-one-line c;
-        numbers = let l = length-take-le last input (c .inside) in let i = c .inside in omega arith;
-      }
-
   pub portion-followed : {m′ kept′ : List ℕ} {r : Lines·rt} → LinesFollowed m (take n (st .script .kept)) (take last input) (st .script .lines) (st .wanted) (st .followed) m′ kept′ r
       → (kept : List ℕ) (count : ℕ) → take count kept ≡ take keptRoom (take (r .count) kept′ ++ drop last input)
       → FollowedTo m st input m′ (record { script = record { lines = r .lines; kept = kept; count = count }; wanted = st .wanted; followed = r .followed })
   portion-followed {r = r} q kept count k =
       let b = take n (st .script .kept) in
-      let w : whole (b ++ take last input) ≡ linesBehind (keptLine (st .script)) input = portion-lines kept-one-line c ∙ ap (λ (x : List ℕ). linesBehind x input) begins in
+      let w : whole (b ++ take last input) ≡ linesBehind (keptLine (st .script)) input = portion-lines (kept-one-line (st .script) n begins) c ∙ ap (λ (x : List ℕ). linesBehind x input) begins in
       record {
         enough = λ h. record {
           memory = q .memory ∙ ap (afterLines m) w;
           counted = q .counted ∙ ap (λ (ls : List (List ℕ)). st .script .lines + length ls) w;
           kept =
-              portion-kept kept-one-line c (r .lines) kept count (k ∙ ap (λ (x : List ℕ). take keptRoom (x ++ drop last input)) (q .kept))
+              portion-kept (kept-one-line (st .script) n begins) c (r .lines) kept count (k ∙ ap (λ (x : List ℕ). take keptRoom (x ++ drop last input)) (q .kept))
               ∙ ap (λ (x : List ℕ). take keptRoom (restBehind x input)) begins;
           wanted = refl;
           followed = q .followed ∙ ap (λ (ls : List (List ℕ)). followLines (st .wanted) (st .script .lines + 1) (followedOf (st .followed)) (seenMemory m ls)) w;

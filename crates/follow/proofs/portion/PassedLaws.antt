@@ -5,20 +5,22 @@ use mathlib.Core.Bool.{Bool}
 use mathlib.Core.List.{List, [], _∷_, _++_, append-nil, append-assoc}
 use mathlib.Core.Path.{_≡_, refl, sym, ap, subst, _∙_}
 use lib.ListN.{length, take, drop, length-append, take-append-drop}
-use lib.Seq.{take-take}
+use lib.Seq.{length-take-le, take-take}
 use Rattle.rules.specs.MemoryTest.{isMemory, stepMemory}
 use Rattle.rules.specs.Script.{newline, readLine}
 use Rattle.reasons.specs.Follow.{Seen}
-use Rattle.script.specs.Feed.{Cut, keptLine, keptRoom}
+use Rattle.script.specs.Feed.{Cut, keptLine, keptRoom, lastNumber}
 use Rattle.script.specs.Feeding.{afterLines, allButLast, begun, linesBehind, restBehind, whole}
 use Rattle.script.specs.Read.{OneLine, fieldLimit, lineEnd, lineOf}
 use Rattle.script.proofs.OneLineLaws.{begun-one, ended-begun, one-append, one-begun, one-of, one-split, one-take, whole-one}
 use Rattle.script.proofs.PortionLaws.{after-append, joins}
 use Rattle.script.proofs.PortionsLaws.{begun-open, joined}
+use Rattle.script.proofs.feed.FedLaws.{kept-one}
 use Rattle.script.proofs.play.CutLaws.{grown, part-front}
 use Rattle.script.proofs.play.PlayLaws.{known-stays}
-use Rattle.follow.specs.Portion.{Goes}
+use Rattle.follow.specs.Portion.{Goes, LinesAhead}
 use Rattle.follow.specs.Seen.{LineStepped, seenMemory, seenOn}
+use Rattle.script.specs.declared.feed.State.{State as State·rt}
 use Rattle.follow.specs.declared.seen.Line.{Line as Line·rt}
 
 -- what has begun is one line
@@ -160,3 +162,22 @@ module _ {b input : List ℕ} {last : ℕ} (one : OneLine b) (c : Cut input 0 la
       let y = begun (b ++ take last input) ++ drop last input in
       ap (λ (t : List ℕ). lineOf (take keptRoom t)) k ∙ ap lineOf (take-take keptRoom keptRoom y (omega arith)) ∙ one-take keptRoom y rest-one
       ∙ ap (take keptRoom) portion-rest
+
+-- what a state of the script so far keeps is one line
+pub kept-one-line : (st : State·rt) (n : ℕ) → take n (st .kept) ≡ keptLine st → OneLine (take n (st .kept))
+unfolding keptLine
+kept-one-line st n begins = kept-one (take keptRoom (take (st .count) (st .kept))) begins
+
+-- so the lines of a portion, up to its last newline, lie ahead
+pub portion-ahead : (m : List ℕ) (st : State·rt) {input : List ℕ} {last : ℕ} (n : ℕ) → st .lines + length input < lastNumber → Cut input 0 last
+    → take n (st .kept) ≡ keptLine st → {good : Bool} → good ≡ isMemory m → keptRoom < length (st .kept) → n ≤ keptRoom
+    → LinesAhead m good (st .kept) n (take last input) (st .lines)
+portion-ahead m st {input} {last} n few c begins known room short =
+    record {
+      known = sym known;
+      room = room;
+      few = short;
+      one = kept-one-line st n begins;
+      cut = cut-whole (kept-one-line st n begins) c;
+      numbers = let l = length-take-le last input (c .inside) in let i = c .inside in omega arith;
+    }

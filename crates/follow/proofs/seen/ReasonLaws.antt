@@ -13,22 +13,22 @@ use Rattle.rules.specs.Memory.{nodeAt}
 use Rattle.rules.specs.Run.{arrivedBy, disposedBy}
 use Rattle.rules.specs.Types.{operationOf}
 use Rattle.rules.specs.declared.Operation.{Operation as Operation·rt}
-use Rattle.rules.specs.declared.Operation.the-variants.{Arrive, Schedule, Preempt, Dispatch, Tick, Poll, Peek, Dispose, BeginAtomic, EndAtomic, Describe, Launch, Unknown}
+use Rattle.rules.specs.declared.Operation.the-variants.{Arrive, Schedule, Preempt, Dispatch, Tick, Turn, Poll, Peek, Dispose, BeginAtomic, EndAtomic, Describe, Launch, Unknown}
 use Rattle.reasons.specs.ByPlace.{firstReason, laterReason}
 use Rattle.follow.specs.Seen.{Leaves, Arrival, ArrivalKnown, First, Later}
 
 -- all operations but A, but D and but T, and those at which none leaves
 abbrev pub notArrive : List ℕ
-notArrive = 1 ∷ 2 ∷ 3 ∷ 4 ∷ 5 ∷ 6 ∷ 7 ∷ 8 ∷ 9 ∷ 10 ∷ 11 ∷ 12 ∷ []
+notArrive = 1 ∷ 2 ∷ 3 ∷ 4 ∷ 5 ∷ 6 ∷ 7 ∷ 8 ∷ 9 ∷ 10 ∷ 11 ∷ 12 ∷ 13 ∷ []
 
 abbrev pub notDispose : List ℕ
-notDispose = 0 ∷ 1 ∷ 2 ∷ 3 ∷ 4 ∷ 5 ∷ 6 ∷ 8 ∷ 9 ∷ 10 ∷ 11 ∷ 12 ∷ []
+notDispose = 0 ∷ 1 ∷ 2 ∷ 3 ∷ 4 ∷ 5 ∷ 6 ∷ 7 ∷ 9 ∷ 10 ∷ 11 ∷ 12 ∷ 13 ∷ []
 
 abbrev pub notTick : List ℕ
-notTick = 0 ∷ 1 ∷ 2 ∷ 3 ∷ 5 ∷ 6 ∷ 7 ∷ 8 ∷ 9 ∷ 10 ∷ 11 ∷ 12 ∷ []
+notTick = 0 ∷ 1 ∷ 2 ∷ 3 ∷ 5 ∷ 6 ∷ 7 ∷ 8 ∷ 9 ∷ 10 ∷ 11 ∷ 12 ∷ 13 ∷ []
 
 abbrev pub quiet : List ℕ
-quiet = 3 ∷ 5 ∷ 6 ∷ 8 ∷ 9 ∷ 10 ∷ 11 ∷ 12 ∷ []
+quiet = 3 ∷ 5 ∷ 6 ∷ 7 ∷ 9 ∷ 10 ∷ 11 ∷ 12 ∷ 13 ∷ []
 
 -- none but A brings a message
 pub no-arrival : (op : Operation·rt) → OneOf notArrive (tagOf the-type op) → (ok : Bool) (ws : List ℕ) → false ≡ not (isEmpty (arrivedBy (operationOf op ws) ok))
@@ -38,6 +38,7 @@ no-arrival (Schedule g) k ok ws = refl
 no-arrival Preempt k ok ws = refl
 no-arrival (Dispatch g) k ok ws = refl
 no-arrival (Tick n) k ok ws = refl
+no-arrival Turn k ok ws = refl
 no-arrival Poll k ok ws = refl
 no-arrival (Peek i) k ok ws = refl
 no-arrival Dispose k ok ws = refl
@@ -64,9 +65,10 @@ none-disposed (Schedule g) k ok moved ws = sym (add-zero moved)
 none-disposed Preempt k ok moved ws = sym (add-zero moved)
 none-disposed (Dispatch g) k ok moved ws = sym (add-zero moved)
 none-disposed (Tick n) k ok moved ws = sym (add-zero moved)
+none-disposed Turn k ok moved ws = sym (add-zero moved)
 none-disposed Poll k ok moved ws = sym (add-zero moved)
 none-disposed (Peek i) k ok moved ws = sym (add-zero moved)
-none-disposed Dispose k ok moved ws = absurd (miss notDispose 7 tt k)
+none-disposed Dispose k ok moved ws = absurd (miss notDispose 8 tt k)
 none-disposed (BeginAtomic f) k ok moved ws = sym (add-zero moved)
 none-disposed EndAtomic k ok moved ws = sym (add-zero moved)
 none-disposed (Describe w) k ok moved ws = sym (add-zero moved)
@@ -94,6 +96,7 @@ later-other (Schedule g) k ws = refl
 later-other Preempt k ws = refl
 later-other (Dispatch g) k ws = refl
 later-other (Tick n) k ws = absurd (miss notTick 4 tt k)
+later-other Turn k ws = refl
 later-other Poll k ws = refl
 later-other (Peek i) k ws = refl
 later-other Dispose k ws = refl
@@ -126,9 +129,10 @@ first-quiet m (Schedule g) k left ws some = absurd (miss quiet 1 tt k)
 first-quiet m Preempt k left ws some = absurd (miss quiet 2 tt k)
 first-quiet m (Dispatch g) k left ws some = refl
 first-quiet m (Tick n) k left ws some = absurd (miss quiet 4 tt k)
+first-quiet m Turn k left ws some = refl
 first-quiet m Poll k left ws some = refl
 first-quiet m (Peek i) k left ws some = refl
-first-quiet m Dispose k left ws some = absurd (miss quiet 7 tt k)
+first-quiet m Dispose k left ws some = absurd (miss quiet 8 tt k)
 first-quiet m (BeginAtomic f) k left ws some = refl
 first-quiet m EndAtomic k left ws some = refl
 first-quiet m (Describe w) k left ws some = refl

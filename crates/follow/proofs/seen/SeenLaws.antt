@@ -12,7 +12,7 @@ use Rattle.rules.specs.Lists.{isEmpty}
 use Rattle.rules.specs.Memory.{nodeAt, runningAt, size, word, words}
 use Rattle.rules.specs.MemoryTest.{MemoryStep, isMemory, replaced, stepMemory}
 use Rattle.rules.specs.Node.{Message, Node, powerOn}
-use Rattle.rules.specs.Operation.{Operation, arrive, preempt, dispatch, schedule, tick, user, unknown, badGroup, notNode, refused}
+use Rattle.rules.specs.Operation.{Operation, arrive, preempt, dispatch, schedule, tick, turn, user, unknown, badGroup, notNode, refused}
 use Rattle.rules.specs.Refusal.{refusal, refuseArrive}
 use Rattle.rules.specs.Run.{arrived, arrivedBy, asked, disposedBy, leftBy, scriptLine, wasAccepted}
 use Rattle.rules.specs.Script.{readLine}
@@ -20,7 +20,7 @@ use Rattle.rules.specs.Step.{Stepped, step}
 use Rattle.rules.specs.Types.{operationOf}
 use Rattle.rules.specs.Valid.{Valid}
 use Rattle.rules.specs.declared.Operation.{Operation as Operation·rt}
-use Rattle.rules.specs.declared.Operation.the-variants.{Arrive, Schedule, Preempt, Dispatch, Tick, Poll, Peek, Dispose, BeginAtomic, EndAtomic, Describe, Launch, Unknown}
+use Rattle.rules.specs.declared.Operation.the-variants.{Arrive, Schedule, Preempt, Dispatch, Tick, Turn, Poll, Peek, Dispose, BeginAtomic, EndAtomic, Describe, Launch, Unknown}
 use Rattle.rules.specs.declared.Report.{Report as Report·rt}
 use Rattle.rules.proofs.Map.MapLaws.{read-back}
 use Rattle.rules.proofs.Map.RunMemory.{paper-sensible, power-on-tested, step-tested, step-written}
@@ -70,6 +70,7 @@ arrival-left m (Schedule g) ws ok left l = tt
 arrival-left m Preempt ws ok left l = tt
 arrival-left m (Dispatch g) ws ok left l = tt
 arrival-left m (Tick k) ws ok left l = tt
+arrival-left m Turn ws ok left l = tt
 arrival-left m Poll ws ok left l = tt
 arrival-left m (Peek i) ws ok left l = tt
 arrival-left m Dispose ws ok left l = tt
@@ -87,6 +88,7 @@ refused-none preempt = refl
 refused-none (dispatch g) = refl
 refused-none (schedule g) = refl
 refused-none (tick k) = refl
+refused-none turn = refl
 refused-none (user r) = refl
 refused-none unknown = refl
 

@@ -40,6 +40,12 @@ tick-requires c κs = search needs
 enum-told-2 : tie.Need-enum-told-2
 enum-told-2 c = search needs
 
+turn-requires : tie.Need-turn-requires
+turn-requires c κs = search needs
+
+enum-told-3 : tie.Need-enum-told-3
+enum-told-3 c = search needs
+
 refused-requires : tie.Need-refused-requires
 refused-requires c κs = search needs
 
@@ -81,15 +87,22 @@ returns-5 : tie.Need-returns-5
 unfolding operationOf
 returns-5 c n r h v = acted-named (sym (ap (λ (o : Operation·rt). operationOf o (c .before .before .before .before .before .before .before .before .before .args .words .now)) (c .before .before .before .before .before .op4 .given .1))) (c .before .before .tick .ensures n r h v)
 
-returns-6 : tie.Need-returns-6
-unfolding operationOf
-returns-6 c n r h v = acted-named (sym (ap (λ (o : Operation·rt). operationOf o (c .before .before .before .before .before .args .words .now)) (c .before .enum-told2 .given .1))) (unknown-acts h (c .refused .ensures))
-
 same-length-6 : tie.Need-same-length-6
 same-length-6 c = search needs
 
+returns-6 : tie.Need-returns-6
+unfolding operationOf
+returns-6 c n r h v = acted-named (sym (ap (λ (o : Operation·rt). operationOf o (c .before .before .before .before .before .before .args .words .now)) (c .before .before .enum-told2 .given .1))) (c .turn .ensures n r h v)
+
 returns-7 : tie.Need-returns-7
-returns-7 c n r h v = let s = (c .before .before .before .before .before .before .before) in let a = a-request (s .args .op) (c .before .before .before .before .match .keys7) (s .args .words .now) in acted-named (sym (a .beside)) (c .before .before .request .ensures (a .request) (a .alone) n r h v)
+unfolding operationOf
+returns-7 c n r h v = acted-named (sym (ap (λ (o : Operation·rt). operationOf o (c .before .before .before .before .before .args .words .now)) (c .before .enum-told3 .given .1))) (unknown-acts h (c .refused .ensures))
+
+same-length-7 : tie.Need-same-length-7
+same-length-7 c = search needs
+
+returns-8 : tie.Need-returns-8
+returns-8 c n r h v = let s = (c .before .before .before .before .before .before .before) in let a = a-request (s .args .op) (c .before .before .before .before .match .keys8) (s .args .words .now) in acted-named (sym (a .beside)) (c .before .before .request .ensures (a .request) (a .alone) n r h v)
 
 pub act-spec : {M : Type 1} → statement M
 act-spec =
@@ -106,6 +119,8 @@ act-spec =
     enum-known-op-4
     tick-requires
     enum-told-2
+    turn-requires
+    enum-told-3
     refused-requires
     request-requires
     same-length
@@ -118,6 +133,8 @@ act-spec =
     returns-4
     same-length-5
     returns-5
-    returns-6
     same-length-6
-    returns-7)
+    returns-6
+    returns-7
+    same-length-7
+    returns-8)

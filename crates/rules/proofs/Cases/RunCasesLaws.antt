@@ -2,7 +2,7 @@
 use mathlib.Core.Path.{refl}
 use Rattle.rules.specs.Private.{atFirst, told, says, refuses, unchanged, ownPoll, ownPeek, ownDispose, withAtomic, withOwnDescriptor, ownEnd, ownDescribe, ownLaunch, own, isCalled, called, afterwards, answered, unheard, joined, withHas, hear}
 use Rattle.rules.specs.Run.{wasAccepted, arrivedBy, arrived, arrivals, answerOf, answerTo, answersOf, upcallsOf, disposedBy, disposals, leftBy, left, tickedBy, ticked, listenFrom, listen}
-use Rattle.rules.specs.Cases.RunCases.{RunCases, SwitchedRunCases, ToldCases}
+use Rattle.rules.specs.Cases.RunCases.{RunCases, SwitchedRunCases, TurningRunCases, ToldCases}
 use Rattle.rules.proofs.Cases.Computes.{computes}
 
 -- a run is computed, with all that is counted of it and what a private line hears
@@ -44,6 +44,18 @@ switched-run-cases =
       switching-heard = refl;
     }
 
+pub turning-run-cases : TurningRunCases
+unfolding countsRun
+turning-run-cases =
+    record {
+      turning-arrivals = refl;
+      turning-disposals = refl;
+      turning-answers = refl;
+      turning-ticks = refl;
+      turning-left = refl;
+      turning-heard = refl;
+    }
+
 pub told-cases : ToldCases
 unfolding told
 told-cases =
@@ -52,4 +64,5 @@ told-cases =
       told-switch-to-nobody = refl;
       told-taken = refl;
       told-given = refl;
+      told-turn = refl;
     }

@@ -15,7 +15,7 @@ use Rattle.rules.specs.Build.{paper01, pageCount, groupCount, wordLimit,
 use Rattle.rules.specs.Node.{Message, Node, groupOf, withQueue, isOf, inQueue, line}
 use Rattle.rules.specs.Frames.{ceilDiv, pledge, pledges}
 use Rattle.rules.specs.Operation.{Request, poll, peek, dispose, beginAtomic, endAtomic, describe, launch}
-use Rattle.rules.specs.Operation.{Operation, arrive, schedule, preempt, dispatch, tick, user, unknown}
+use Rattle.rules.specs.Operation.{Operation, arrive, schedule, preempt, dispatch, tick, turn, user, unknown}
 use Rattle.rules.specs.Refusal.{queued, refuseArrive, refuseSchedule, refuseDispatch, refuseTick, refusePeek, refuseDispose, refuseEnd, refuseDescribe, refuseLaunch, refuseRequest, refusal}
 use Rattle.rules.specs.MemoryTest.{isMemory}
 use Rattle.rules.specs.Valid.{Valid}
@@ -140,6 +140,9 @@ module _ (m : List ℕ) (n : Node) (node : isMemory m ≡ true) (P : ℕ → Typ
   on-tick : {i : ℕ} → ((i ≡ 0) ⊎ (65535 < i) → P 15) → (k : ℕ) → Due m n (tick i) k → P k
   on-tick p k (not-node e) = no-node e
   on-tick p k (bad-ticks x) = p x
+
+  on-turn : (k : ℕ) → Due m n turn k → P k
+  on-turn k (not-node e) = no-node e
 
   on-unknown : P 2 → (k : ℕ) → Due m n unknown k → P k
   on-unknown p k (not-node e) = no-node e
@@ -316,6 +319,7 @@ module _ (m : List ℕ) (n : Node) (node : isMemory m ≡ true) (v : Valid paper
   refusal-first (dispatch g) = dispatch-first g
   refusal-first (schedule g) = schedule-first g
   refusal-first (tick k) = tick-first k
+  refusal-first turn = accept (on-turn m n node never)
   refusal-first (user r) =
       decide (eqb (n .running) 0) (eqb-tells (n .running) 0) (λ nobody. refuse (nobody-runs nobody) (user-least r)) (λ runs. request-first runs r)
   refusal-first unknown = refuse unreadable (on-unknown m n node (from 2) (omega arith))

@@ -12,7 +12,7 @@ use borrow.Author.Tests.{not-true}
 use Rattle.rules.specs.Build.{Sensible}
 use Rattle.rules.specs.Node.{Message, Place, Group, Node, withGroup, withBuffer, inBuffer, inQueue, line}
 use Rattle.rules.specs.Lists.{Every, all}
-use Rattle.rules.specs.Operation.{Operation, arrive, schedule, preempt, dispatch, tick, user, unknown}
+use Rattle.rules.specs.Operation.{Operation, arrive, schedule, preempt, dispatch, tick, turn, user, unknown}
 use Rattle.rules.specs.Memory.{nodeAt}
 use Rattle.rules.specs.Run.{Input, operation, asked, Event}
 use Rattle.rules.specs.Before.{scheduled, stepBefore, playBefore, runBefore, Old, isFull, NeverFull}
@@ -137,6 +137,7 @@ other preempt = false
 other (dispatch g) = false
 other (schedule g) = true
 other (tick k) = true
+other turn = true
 other (user r) = true
 other unknown = true
 
@@ -160,6 +161,7 @@ old-examples =
       arrival-old = λ g ws. other-old (operation (arrive g ws)) refl;
       schedule-old = λ g. other-old (operation (schedule g)) refl;
       tick-old = λ k. other-old (operation (tick k)) refl;
+      turn-old = other-old (operation turn) refl;
       request-old = λ r. other-old (operation (user r)) refl;
       unknown-old = other-old (operation unknown) refl;
       line-old = other-old _ refl;

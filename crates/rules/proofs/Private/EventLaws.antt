@@ -7,7 +7,7 @@ use mathlib.Core.List.{[]}
 use borrow.Author.Tests.{ne-eqb}
 use lib.Dec.{eqb}
 use Rattle.rules.specs.Operation.{poll, peek, dispose, beginAtomic, endAtomic, describe, launch}
-use Rattle.rules.specs.Operation.{Operation, arrive, schedule, preempt, dispatch, tick, user, unknown, accepted}
+use Rattle.rules.specs.Operation.{Operation, arrive, schedule, preempt, dispatch, tick, turn, user, unknown, accepted}
 use Rattle.rules.specs.Node.{Node}
 use Rattle.rules.specs.Step.{Stepped}
 use Rattle.rules.specs.Run.{Event, arrivedBy, disposedBy, tickedBy}
@@ -28,6 +28,7 @@ disposed-none preempt = refl
 disposed-none (dispatch g) = refl
 disposed-none (schedule g) = refl
 disposed-none (tick k) = refl
+disposed-none turn = refl
 disposed-none (user poll) = refl
 disposed-none (user (peek i)) = refl
 disposed-none (user dispose) = refl
@@ -45,6 +46,7 @@ arrived-none preempt = refl
 arrived-none (dispatch g) = refl
 arrived-none (schedule g) = refl
 arrived-none (tick k) = refl
+arrived-none turn = refl
 arrived-none (user q) = refl
 arrived-none unknown = refl
 
@@ -56,5 +58,6 @@ ticked-none preempt = refl
 ticked-none (dispatch g) = refl
 ticked-none (schedule g) = refl
 ticked-none (tick k) = refl
+ticked-none turn = refl
 ticked-none (user q) = refl
 ticked-none unknown = refl

@@ -10,7 +10,7 @@ use borrow.Author.Tests.{eqb-true, eqb-false, ne-eqb}
 use lib.Dec.{eqb}
 use Rattle.rules.specs.Build.{Build, groupCount}
 use Rattle.rules.specs.Node.{Message, Node, groupOf, withRunning, withTimer, withQueue, inBuffer, inQueue, isOf, line}
-use Rattle.rules.specs.Operation.{Request, Operation, arrive, schedule, preempt, dispatch, tick, user, unknown, Report, accepted, nobodyRuns, refused, allZero}
+use Rattle.rules.specs.Operation.{Request, Operation, arrive, schedule, preempt, dispatch, tick, turn, user, unknown, Report, accepted, nobodyRuns, refused, allZero}
 use Rattle.rules.specs.Paging.{runnerResident}
 use Rattle.rules.specs.Refusal.{refusal, refuseRequest, queued}
 use Rattle.rules.specs.Settling.{settle, drain, upcall}
@@ -125,6 +125,7 @@ refused-agrees b n preempt r e g lo = suc-zero (sym e)
 refused-agrees b n (dispatch h) r e g lo = rw (refusal-answer r) (untold g n lo)
 refused-agrees b n (schedule h) r e g lo = rw (refusal-answer r) (untold g n lo)
 refused-agrees b n (tick k) r e g lo = untold g n lo
+refused-agrees b n turn r e g lo = untold g n lo
 refused-agrees b n (user q) r e g lo = request-refused g n q r lo e
 refused-agrees b n unknown r e g lo = untold g n lo
 
@@ -231,6 +232,7 @@ accepted-agrees {b} {n} v (dispatch h) one e g lo hi =
     seen (act b n (dispatch h)) (act-sound v (dispatch h) e) g lo hi [] (withHas (eqb h g) (view g n)) (handed-view n h (n .timer) g)
 accepted-agrees {b} {n} v (schedule h) one e g lo hi = absurd one
 accepted-agrees {b} {n} v (tick k) one e g lo hi = unseen v (ticks b k (valued 0 n)) (act-sound v (tick k) e) g lo hi (tick-view v k g lo hi)
+accepted-agrees {b} {n} v turn one e g lo hi = unseen v (act b n turn) (act-sound v turn e) g lo hi refl
 accepted-agrees {b} {n} v (user q) one e g lo hi =
     let h : (1 ≤ n .running) × (refuseRequest n q ≡ 0) = user-accepted n q e in
     request-accepted v q (act-sound v (user q) e) (h .0) (h .1) g lo hi

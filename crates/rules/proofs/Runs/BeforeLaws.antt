@@ -15,7 +15,7 @@ use Rattle.rules.specs.Lists.{Every, isEmpty}
 use Rattle.rules.specs.Build.{Build, Sensible, pageCount, groupCount, wordLimit}
 use Rattle.rules.specs.Node.{Message, Node, powerOn, withRunning, withTimer, line}
 use Rattle.rules.specs.Frames.{pledges}
-use Rattle.rules.specs.Operation.{Operation, arrive, schedule, preempt, dispatch, tick, user, unknown, accepted, badGroup, badWords, queueFull, noFrames, refused}
+use Rattle.rules.specs.Operation.{Operation, arrive, schedule, preempt, dispatch, tick, turn, user, unknown, accepted, badGroup, badWords, queueFull, noFrames, refused}
 use Rattle.rules.specs.Refusal.{queued, refuseArrive, refuseSchedule, refusal}
 use Rattle.rules.specs.Step.{Stepped, valued, finish, step}
 use Rattle.rules.specs.Private.{PrivateLine, atFirst, Told, Heard, told, hear, withHas}
@@ -75,6 +75,7 @@ module _ {b : Build} {n : Node} (v : Valid b n) where
   before-valid preempt = step-valid v preempt
   before-valid (dispatch g) = step-valid v (dispatch g)
   before-valid (tick k) = step-valid v (tick k)
+  before-valid turn = step-valid v turn
   before-valid (user r) = step-valid v (user r)
   before-valid unknown = step-valid v unknown
 
@@ -89,6 +90,7 @@ module _ {b : Build} {n : Node} (v : Valid b n) where
   before-agrees preempt g lo hi = step-agrees v preempt g lo hi
   before-agrees (dispatch h) g lo hi = step-agrees v (dispatch h) g lo hi
   before-agrees (tick k) g lo hi = step-agrees v (tick k) g lo hi
+  before-agrees turn g lo hi = step-agrees v turn g lo hi
   before-agrees (user r) g lo hi = step-agrees v (user r) g lo hi
   before-agrees unknown g lo hi = step-agrees v unknown g lo hi
 
@@ -152,6 +154,7 @@ told-same b n k g (dispatch h) o d now before = absurd (d h refl)
 told-same b n k g (schedule h) o d now before =
     ap (λ (a : ℕ). told g (schedule h) (eqb a accepted)) (step-answer b n (schedule h) ∙ sym (before-answer b k h))
 told-same b n k g (tick x) o d now before = refl
+told-same b n k g turn o d now before = refl
 told-same b n k g (user r) o d now before = refl
 told-same b n k g unknown o d now before = refl
 

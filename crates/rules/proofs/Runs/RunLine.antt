@@ -10,7 +10,7 @@ use lib.ListN.{drop}
 use Rattle.rules.specs.Lists.{filter}
 use Rattle.rules.specs.Build.{Build, groupCount}
 use Rattle.rules.specs.Node.{Message, Node, withRunning, withTimer, isOf, line}
-use Rattle.rules.specs.Operation.{Operation, arrive, schedule, preempt, dispatch, tick, user, unknown, accepted}
+use Rattle.rules.specs.Operation.{Operation, arrive, schedule, preempt, dispatch, tick, turn, user, unknown, accepted}
 use Rattle.rules.specs.Refusal.{refusal, refuseRequest}
 use Rattle.rules.specs.Step.{Stepped, valued, preempted, serve, act, finish, inARow, step}
 use Rattle.rules.specs.Private.{PrivateLine, isCalled, called, withHas}
@@ -36,6 +36,7 @@ act-line {b} {n} v preempt e g lo hi = flow-kept (sym (ap (λ (p : PrivateLine).
 act-line {b} {n} v (dispatch h) e g lo hi = flow-kept (sym (ap (λ (p : PrivateLine). p .messages) (handed-view n h (n .timer) g)))
 act-line {b} {n} v (schedule h) e g lo hi = flow-kept refl
 act-line {b} {n} v (tick k) e g lo hi = flow-kept (ap (λ (p : PrivateLine). p .messages) (tick-view v k g lo hi))
+act-line {b} {n} v turn e g lo hi = flow-kept refl
 act-line {b} {n} v (user q) e g lo hi = go (eqb (n .running) g) refl
   where
     run : (1 ≤ n .running) × (refuseRequest n q ≡ 0)

@@ -12,7 +12,7 @@ use Rattle.rules.specs.Lists.{isEmpty}
 use Rattle.rules.specs.Build.{Build}
 use Rattle.rules.specs.Node.{Message, Node, withRunning, withTimer, withQueue, withGroup, bufferHolds, buffered, line}
 use Rattle.rules.specs.Operation.{poll, peek, dispose, beginAtomic, endAtomic, describe, launch}
-use Rattle.rules.specs.Operation.{Operation, arrive, schedule, preempt, dispatch, tick, user, unknown, accepted, noTrap, disposeExtend}
+use Rattle.rules.specs.Operation.{Operation, arrive, schedule, preempt, dispatch, tick, turn, user, unknown, accepted, noTrap, disposeExtend}
 use Rattle.rules.specs.Refusal.{refusal, refuseRequest, queued}
 use Rattle.rules.specs.Settling.{settle, drain}
 use Rattle.rules.specs.Step.{Effect, Stepped, valued, preempted, timerFlagged, revoke, timedOut, ticks, removed, flagged, disposed, sectionBegun, sectionEnded, extending, described, launched, serve, act, finish, inARow, step}
@@ -78,6 +78,7 @@ act-queue {b} {n} v preempt e = flow-kept refl
 act-queue {b} {n} v (dispatch h) e = flow-kept refl
 act-queue {b} {n} v (schedule h) e = flow-kept refl
 act-queue {b} {n} v (tick k) e = ticked-queue v k
+act-queue {b} {n} v turn e = flow-kept refl
 act-queue {b} {n} v (user poll) e = flow-kept refl
 act-queue {b} {n} v (user (peek i)) e = flow-kept refl
 act-queue {b} {n} v (user dispose) e =

@@ -12,7 +12,7 @@ use Rattle.rules.specs.Lists.{isEmpty}
 use Rattle.rules.specs.Build.{Build}
 use Rattle.rules.specs.Node.{Node, withRunning, withTimer, withQueue, withGroup, buffered}
 use Rattle.rules.specs.Operation.{poll, peek, dispose, beginAtomic, endAtomic, describe, launch}
-use Rattle.rules.specs.Operation.{Operation, arrive, schedule, preempt, dispatch, tick, user, unknown, accepted, refused, noTrap, disposeExtend}
+use Rattle.rules.specs.Operation.{Operation, arrive, schedule, preempt, dispatch, tick, turn, user, unknown, accepted, refused, noTrap, disposeExtend}
 use Rattle.rules.specs.Refusal.{refusal, queued}
 use Rattle.rules.specs.Settling.{settle, drain}
 use Rattle.rules.specs.Step.{Effect, Stepped, valued, preempted, timerFlagged, revoke, timedOut, ticks, flagged, disposed, sectionBegun, sectionEnded, extending, described, launched, serve, act, finish, inARow, step}
@@ -81,6 +81,7 @@ module _ {b : Build} {n : Node} (v : Valid b n) (some : isEmpty (n .queue) ≡ f
   act-timer (dispatch h) z s = absurd (queue-some (nobody-empty v (dispatched n h z .nobody)))
   act-timer (schedule h) z s = omega arith
   act-timer (tick k) z s = tick-timer k s
+  act-timer turn z s = omega arith
   act-timer (user poll) z s = omega arith
   act-timer (user (peek i)) z s = omega arith
   act-timer (user dispose) z s = dispose-timer (settle b (disposed b n) .moved)

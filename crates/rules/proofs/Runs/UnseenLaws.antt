@@ -15,7 +15,7 @@ use Rattle.rules.specs.Build.{Build, pageCount, groupCount, wordLimit}
 use Rattle.rules.specs.Node.{Message, Buffer, Group, Node, powerOn, groupOf, withTimer, withQueue, withFree, withPaging, withGroup, withFlags, withTimerFlags, withDescriptor, bufferHolds, forced, timerRuns, waiting}
 use Rattle.rules.specs.Frames.{Stock, freeFirst, useUp, removeFirst, withStock, pledges}
 use Rattle.rules.specs.Operation.{Request, poll, peek, dispose, beginAtomic, endAtomic, describe, launch}
-use Rattle.rules.specs.Operation.{Operation, arrive, schedule, preempt, dispatch, tick, user, unknown, accepted, badGroup, badWords, queueFull, noFrames, nobodyRuns, noTrap, disposeExtend, atomicityExtend}
+use Rattle.rules.specs.Operation.{Operation, arrive, schedule, preempt, dispatch, tick, turn, user, unknown, accepted, badGroup, badWords, queueFull, noFrames, nobodyRuns, noTrap, disposeExtend, atomicityExtend}
 use Rattle.rules.specs.Refusal.{queued, refuseArrive, refusePeek, refuseDispose, refuseEnd, refuseDescribe, refuseLaunch, refuseRequest, refuseDispatch, refusal}
 use Rattle.rules.specs.Settling.{settle, drain, calls, upcall}
 use Rattle.rules.specs.Step.{Effect, Stepped, valued, preempted, timerFlagged, revoke, timedOut, ticks, firstLength, firstWord, withoutFirst, removed, flagged, disposed, sectionBegun, sectionEnded, extending, described, launched, serve, act, finish, inARow, step}
@@ -32,7 +32,8 @@ use Rattle.rules.proofs.Steps.LineLaws.{timer-timed, removed-running}
 use Rattle.rules.proofs.Steps.TickLaws.{timed, leftOver, ticks-idle, ticks-counted, ticks-timeout}
 use Rattle.rules.proofs.Steps.ActLaws.{valid-ready, flagged-ready, timer-flagged-ready, removed-sound, user-accepted}
 use Rattle.rules.proofs.Steps.StepLaws.{calls-group, act-sound, step-accepted, step-refused, schedule-still, schedule-takes, taken, given, schedule-switches, step-taken, step-given, taken-valid, step-law, step-valid, power-on-valid}
-use Rattle.rules.proofs.Runs.AlikeLaws.{Alike, AlikeGroup, paged-alike, alike-queue, alike-timer, alike-running, alike-group, alike-pledges, alike-settled, alike-drained, alike-forced, alike-runs, runner-alike, runner-line, runner-holds, runner-buffered, alike-calls, alike-named, flags-sym}
+use Rattle.rules.proofs.Steps.TurnLaws.{turn-same}
+use Rattle.rules.proofs.Runs.AlikeLaws.{Alike, AlikeGroup, paged-alike, alike-queue, alike-timer, alike-running, alike-group, alike-pledges, alike-settled, alike-drained, alike-forced, alike-line, alike-runs, runner-alike, runner-line, runner-holds, runner-buffered, alike-calls, alike-named, flags-sym}
 
 -- what two operations did is alike
 record AlikeEffect (e f : Effect) : Type 0 where
@@ -400,6 +401,7 @@ module _ {b c : Build} (same : SameButFrames b c) {n k : Node} (v : Valid b n) (
   alike-refusal (dispatch g) = ap (λ (r : ℕ). refuseDispatch r g) (a .running)
   alike-refusal (schedule g) = refl
   alike-refusal (tick i) = refl
+  alike-refusal turn = refl
   alike-refusal (user r) = go (ℕ-discrete (n .running) 0)
     where
       go : Dec (n .running ≡ 0) → cond (eqb (n .running) 0) nobodyRuns (refuseRequest n r) ≡ cond (eqb (k .running) 0) nobodyRuns (refuseRequest k r)
@@ -417,6 +419,7 @@ module _ {b c : Build} (same : SameButFrames b c) {n k : Node} (v : Valid b n) (
   alike-act (dispatch g) e = alike-valued (alike-running a g) 0 0 refl
   alike-act (schedule g) e = alike-valued a 0 0 refl
   alike-act (tick i) e = alike-ticks same v w a i
+  alike-act turn e = alike-valued a _ _ (turn-same n k (a .running) (v .running-bound) (alike-line a))
   alike-act (user r) e = alike-served same v w a (user-accepted n r e .0) r
   alike-act unknown e = alike-valued a 0 0 refl
 

@@ -15,7 +15,7 @@ use Rattle.rules.specs.Build.{Build, pageCount, groupCount, wordLimit}
 use Rattle.rules.specs.Node.{Message, Group, Node, groupOf, withRunning, withTimer, withQueue, withFree, withPaging, withGroup, withFlags, withTimerFlags, withDescriptor, bufferHolds, timerRuns, isOf, inBuffer, inQueue, line}
 use Rattle.rules.specs.Frames.{pledge, Stock, removeFirst, withStock, pledges}
 use Rattle.rules.specs.Operation.{Request, poll, peek, dispose, beginAtomic, endAtomic, describe, launch}
-use Rattle.rules.specs.Operation.{Operation, arrive, schedule, preempt, dispatch, tick, user, unknown, accepted, nobodyRuns, alreadyRuns}
+use Rattle.rules.specs.Operation.{Operation, arrive, schedule, preempt, dispatch, tick, turn, user, unknown, accepted, nobodyRuns, alreadyRuns}
 use Rattle.rules.specs.Refusal.{queued, refuseArrive, refuseDispatch, refuseEnd, refuseDescribe, refuseRequest, refusal}
 use Rattle.rules.specs.Settling.{drain}
 use Rattle.rules.specs.Step.{valued, preempted, timerFlagged, revoke, timedOut, ticks, removed, flagged, disposed, sectionBegun, sectionEnded, extending, described, launched, serve, act}
@@ -343,6 +343,7 @@ module _ {b : Build} {n : Node} (v : Valid b n) where
   act-ready (dispatch g) e = handed-ready g (n .timer) (dispatched n g e .high) (v .timer-bound)
   act-ready (schedule g) e = valid-ready v
   act-ready (tick k) e = ticks-ready k
+  act-ready turn e = valid-ready v
   act-ready (user r) e =
       let runs = user-accepted n r e in
       serve-ready (runs .0) r (runs .1)

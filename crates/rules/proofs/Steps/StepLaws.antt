@@ -16,7 +16,7 @@ use Rattle.rules.specs.Lists.{Every, isEmpty, concatMap, countOf, upFrom
 use Rattle.rules.specs.Build.{Build, Sensible, pageCount, groupCount}
 use Rattle.rules.specs.Node.{Message, Buffer, Group, Node, groupOf, withRunning, withTimer, withGroup, withFlags, bufferHolds, buffered, forced, timerRuns, line, emptyGroup, emptyPaging, powerOn, waiting, unused, inQueue}
 use Rattle.rules.specs.Frames.{pledge, pledges}
-use Rattle.rules.specs.Operation.{Operation, arrive, schedule, preempt, dispatch, tick, user, unknown, accepted, refused, allZero}
+use Rattle.rules.specs.Operation.{Operation, arrive, schedule, preempt, dispatch, tick, turn, user, unknown, accepted, refused, allZero}
 use Rattle.rules.specs.Paging.{runnerResident}
 use Rattle.rules.specs.Refusal.{refuseSchedule, refuseDispatch, refusal}
 use Rattle.rules.specs.Settling.{mayStay, settle, calls, upcall}
@@ -220,6 +220,7 @@ OneAct preempt = Unit {0}
 OneAct (dispatch g) = Unit {0}
 OneAct (schedule g) = ⊥
 OneAct (tick k) = Unit {0}
+OneAct turn = Unit {0}
 OneAct (user r) = Unit {0}
 OneAct unknown = Unit {0}
 
@@ -236,6 +237,7 @@ step-accepted b n preempt one e = step-performed b n preempt e
 step-accepted b n (dispatch g) one e = step-performed b n (dispatch g) e
 step-accepted b n (schedule g) one e = absurd one
 step-accepted b n (tick k) one e = step-performed b n (tick k) e
+step-accepted b n turn one e = step-performed b n turn e
 step-accepted b n (user r) one e = step-performed b n (user r) e
 step-accepted b n unknown one e = step-performed b n unknown e
 
@@ -276,6 +278,7 @@ performed-answer b n (schedule g) = go (eqb g (n .running)) (eqb g 0)
     go false true = refl
     go false false = refl
 performed-answer b n (tick k) = refl
+performed-answer b n turn = refl
 performed-answer b n (user r) = refl
 performed-answer b n unknown = refl
 
@@ -383,6 +386,7 @@ module _ {b : Build} (P : Node → Operation → Stepped → Type 0) (l : Law b 
   accepted-law (dispatch g) e = act-law (dispatch g) tt e
   accepted-law (schedule g) e = schedule-law g (ltb-false groupCount g (failed (ltb groupCount g) _ _ e .0))
   accepted-law (tick k) e = act-law (tick k) tt e
+  accepted-law turn e = act-law turn tt e
   accepted-law (user r) e = act-law (user r) tt e
   accepted-law unknown e = act-law unknown tt e
 

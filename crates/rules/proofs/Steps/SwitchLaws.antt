@@ -27,7 +27,7 @@ use Rattle.rules.proofs.Steps.StepLaws.{taken, given, taken-valid, sche
 use Rattle.rules.proofs.Steps.StoreLaws.{store-timer}
 
 -- no head may stay
-nobody-stays : (n : Node) (m : Message) → n .running ≡ 0 → GoodMessage m → mayStay n m ≡ false
+pub nobody-stays : (n : Node) (m : Message) → n .running ≡ 0 → GoodMessage m → mayStay n m ≡ false
 unfolding mayStay
 nobody-stays n m none good = rw (none, ne-eqb (m .group) 0 (λ e. omega (arith, good .group-low)))
 

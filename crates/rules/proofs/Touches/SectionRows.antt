@@ -1,4 +1,4 @@
--- The rows of M, E, B, N, P and L. After M, E, B, P and L nothing is due, so that they touch what they do themselves; after N no message moves, since
+-- The rows of C, M, E, B, N, P and L. After C, M, E, B, P and L nothing is due, so that they touch what they do themselves; after N no message moves, since
 -- the running group's may still stay, but its timer may come to rest and an upcall may be due. Assumes nothing.
 use Prim.Native.Nat.{ℕ, pred, _≤_}
 use mathlib.Core.Bool.{Bool, true, false, true≢false, _||_, or-true}
@@ -10,9 +10,9 @@ use Rattle.rules.specs.Lists.{all}
 use Rattle.rules.specs.Build.{Build}
 use Rattle.rules.specs.Node.{Message, Group, Node, groupOf, withTimer, withGroup, withFlags, withTimerFlags, withDescriptor}
 use Rattle.rules.specs.Paging.{runnerResident}
-use Rattle.rules.specs.Operation.{poll, peek, beginAtomic, endAtomic, describe, launch, user}
+use Rattle.rules.specs.Operation.{poll, peek, beginAtomic, endAtomic, describe, launch, turn, user}
 use Rattle.rules.specs.Settling.{Moved, mayStay, restTimer, upcall}
-use Rattle.rules.specs.Step.{Effect, Stepped, valued, timerFlagged, flagged, sectionBegun, sectionEnded, extending, described, launched, serve, finish}
+use Rattle.rules.specs.Step.{Effect, Stepped, valued, timerFlagged, flagged, sectionBegun, sectionEnded, extending, described, launched, serve, act, finish}
 use Rattle.rules.specs.Valid.{FirstInFrame, Valid}
 use Rattle.rules.specs.Touches.{running, queue, atomic, pending, force, revoked, used, count, places, pages, descriptor, row, when, runs, requestRow, rowOf}
 use Rattle.rules.proofs.Steps.NodeLaws.{group-same, kept}
@@ -108,9 +108,13 @@ module _ (n : Node) (low : 1 ≤ n .running) where
       differs pages none = refl
       differs descriptor none = absurd (true≢false none)
 
--- Requests after which nothing is due.
+-- Operations after which nothing is due.
 
 module _ {b : Build} {n : Node} (v : Valid b n) where
+  pub turn-row : Rows b n turn (act b n turn)
+  unfolding rowOf act valued
+  turn-row = touched-same (quiet-left (act b n turn) (valid-quiet v))
+
   pub poll-row : Rows b n (user poll) (serve b n poll)
   unfolding rowOf requestRow serve valued
   poll-row = touched-same (quiet-left (serve b n poll) (valid-quiet v))

@@ -12,7 +12,7 @@ use borrow.Author.Tests.{eqb-true, ne-eqb}
 use Rattle.rules.specs.Lists.{Every, all}
 use Rattle.rules.specs.Build.{Build, groupCount}
 use Rattle.rules.specs.Node.{Group, Node, groupOf, withGroup, line, waiting, inBuffer, inQueue}
-use Rattle.rules.specs.Operation.{Request, poll, peek, dispose, beginAtomic, endAtomic, describe, launch, Operation, arrive, schedule, preempt, dispatch, tick, user, unknown, Report, accepted, noTrap, timeoutTrap}
+use Rattle.rules.specs.Operation.{Request, poll, peek, dispose, beginAtomic, endAtomic, describe, launch, Operation, arrive, schedule, preempt, dispatch, tick, turn, user, unknown, Report, accepted, noTrap, timeoutTrap}
 use Rattle.rules.specs.Refusal.{refusal}
 use Rattle.rules.specs.Settling.{settle, upcall}
 use Rattle.rules.specs.Step.{Effect, Stepped, valued, timerFlagged, timedOut, flagged, sectionBegun, sectionEnded, extending, serve, act, finish, inARow, step}
@@ -31,7 +31,7 @@ use Rattle.rules.proofs.Private.RequestLaws.{suc-zero}
 use Rattle.rules.proofs.Demands.DumpsLaws.{dumps}
 use Rattle.rules.proofs.Touches.PartLaws.{nodeNumber, groupNumber, among, Kept, inside-none, join-none, when-none, kept-touched}
 use Rattle.rules.proofs.Touches.TouchLaws.{Grouped, Rows, finish-touched, grouped}
-use Rattle.rules.proofs.Touches.SectionRows.{begin-row, begun-keeps, begun-leaves, describe-row, end-row, ended-force, ended-revoked, launch-row, peek-row, poll-row, quiet-left}
+use Rattle.rules.proofs.Touches.SectionRows.{begin-row, begun-keeps, begun-leaves, describe-row, end-row, ended-force, ended-revoked, launch-row, peek-row, poll-row, quiet-left, turn-row}
 use Rattle.rules.proofs.Touches.QueueRows.{arrive-row, late, late-queue, late-revoked, tick-row}
 use Rattle.rules.proofs.Touches.SwitchRows.{preempt-row, dispatch-row, still-row, takes-row, switches-row}
 use Rattle.rules.proofs.Touches.DisposeRow.{dispose-row}
@@ -55,6 +55,7 @@ accepted-row v preempt one taken = preempt-row v
 accepted-row {n = n} v (dispatch h) one taken = unfold refusal in dispatch-row v h (dispatched n h taken .nobody)
 accepted-row v (schedule h) one taken = absurd one
 accepted-row v (tick k) one taken = tick-row v k taken
+accepted-row v turn one taken = turn-row v
 accepted-row v (user q) one taken = unfold act in request-row v q taken
 accepted-row v unknown one taken = unfold refusal in suc-zero taken
 
@@ -89,6 +90,7 @@ running-named n preempt r = inr (inl refl)
 running-named n (dispatch h) r = inr (inr (inl (h, refl)))
 running-named n (schedule h) r = inr (inr (inr (h, refl)))
 running-named n (tick k) r = inl (either (λ (t : Row). among nodeNumber running (t .node) ≡ false) (eqb (r .trap) noTrap) _ _ refl refl)
+running-named n turn r = inl refl
 running-named n (user poll) r = inl refl
 running-named n (user (peek i)) r = inl refl
 running-named n (user dispose) r = inl (either (λ (t : Row). among nodeNumber running (t .node) ≡ false) (eqb (r .trap) noTrap) _ _ refl refl)
@@ -160,6 +162,7 @@ special preempt = []
 special (dispatch h) = []
 special (schedule h) = []
 special (tick k) = revoked ∷ []
+special turn = []
 special (user poll) = []
 special (user (peek i)) = []
 special (user dispose) = pending ∷ used ∷ count ∷ places ∷ pages ∷ []
@@ -177,6 +180,7 @@ module _ (p : GroupPart) (unfilled : among groupNumber p (pages ∷ count ∷ pl
   special-none n (dispatch h) r g none = dispatch-none p unfilled uncalled n r g h
   special-none n (schedule h) r g none = schedule-none p unfilled uncalled n r g h
   special-none n (tick k) r g none = tick-none p unfilled uncalled n r g k none
+  special-none n turn r g none = refl
   special-none n (user poll) r g none = refl
   special-none n (user (peek i)) r g none = refl
   special-none n (user dispose) r g none = dispose-none p unfilled uncalled n r g none
@@ -193,6 +197,7 @@ special-used preempt e = absurd (false≢true e)
 special-used (dispatch h) e = absurd (false≢true e)
 special-used (schedule h) e = absurd (false≢true e)
 special-used (tick k) e = absurd (false≢true e)
+special-used turn e = absurd (false≢true e)
 special-used (user poll) e = absurd (false≢true e)
 special-used (user (peek i)) e = absurd (false≢true e)
 special-used (user dispose) e = refl
@@ -210,6 +215,7 @@ special-descriptor preempt e = absurd (false≢true e)
 special-descriptor (dispatch h) e = absurd (false≢true e)
 special-descriptor (schedule h) e = absurd (false≢true e)
 special-descriptor (tick k) e = absurd (false≢true e)
+special-descriptor turn e = absurd (false≢true e)
 special-descriptor (user poll) e = absurd (false≢true e)
 special-descriptor (user (peek i)) e = absurd (false≢true e)
 special-descriptor (user dispose) e = absurd (false≢true e)
@@ -235,6 +241,7 @@ special-force preempt e = absurd (false≢true e)
 special-force (dispatch h) e = absurd (false≢true e)
 special-force (schedule h) e = absurd (false≢true e)
 special-force (tick k) e = absurd (false≢true e)
+special-force turn e = absurd (false≢true e)
 special-force (user poll) e = absurd (false≢true e)
 special-force (user (peek i)) e = absurd (false≢true e)
 special-force (user dispose) e = absurd (false≢true e)
@@ -260,6 +267,7 @@ special-revoked preempt e = absurd (false≢true e)
 special-revoked (dispatch h) e = absurd (false≢true e)
 special-revoked (schedule h) e = absurd (false≢true e)
 special-revoked (tick k) e = by-tick k
+special-revoked turn e = absurd (false≢true e)
 special-revoked (user poll) e = absurd (false≢true e)
 special-revoked (user (peek i)) e = absurd (false≢true e)
 special-revoked (user dispose) e = absurd (false≢true e)
@@ -279,6 +287,7 @@ told-request g preempt q = λ e. cc
 told-request g (dispatch h) q = λ e. cc
 told-request g (schedule h) q = λ e. cc
 told-request g (tick k) q = λ e. cc
+told-request g turn q = λ e. cc
 told-request g (user r) q = λ e. cc
 told-request g unknown q = λ e. cc
 

@@ -7,7 +7,7 @@ use Rattle.rules.specs.Cases.Case.{_gives_, times, Lists, crowded, Lists
 pub record AnswerCasesHold : Type 0 where
   -- "2: unknown operation or unreadable line. Next after 1, before all below.": before 3, 4, 7, 14, 15 and 16
   pub unreadable : Lists
-      ("C\n" gives "1,2,0,0,0,0\n"
+      ("R\n" gives "1,2,0,0,0,0\n"
       ∷ "X,1\n" gives "2,2,0,0,0,0\n"
       ∷ "A,9,x\n" gives "3,2,0,0,0,0\n"
       ∷ "A,1,x\n" gives "4,2,0,0,0,0\n"

@@ -49,7 +49,7 @@ pub record ScheduledBefore : Type 0 where
       ∷ "T,255\n" gives "6,0,0,0,0,0\n"
       ∷ "T,1\n" gives "7,0,0,3,0,1\n"
       ∷ [])
-  -- "To the one already running (or 0 to 0): changes nothing", the timer neither, and "14: S above 8."
+  -- "To the one already running (or 0 to 0): changes nothing", the timer neither, and "14: S above 8."; C, which came later, is as it is now
   pub same-before : ListedBefore
       ("S,0\n" gives "1,0,0,0,0,0\n"
       ∷ "S,1\n" gives "2,0,0,0,0,0\n"
@@ -58,6 +58,7 @@ pub record ScheduledBefore : Type 0 where
       ∷ "S,1\n" gives "5,0,0,0,0,0\n"
       ∷ "S,9\n" gives "6,14,0,0,0,0\n"
       ∷ "T,1\n" gives "7,0,0,3,0,1\n"
+      ∷ "C\n" gives "8,0,1,0,0,0\n"
       ∷ [])
   -- while S settled, the running group was the new one: group 2's first page, in frame 0, was spared
   pub spared-before :

@@ -1,4 +1,4 @@
--- What is counted of a run, and what a private line hears of it, in two runs: demand 3 holds these against each other, so here each is told by itself.
+-- What is counted of a run, and what a private line hears of it, in three runs: demand 3 holds these against each other, so here each is told by itself.
 -- Assumes nothing.
 use Prim.Native.Nat.{ℕ}
 use mathlib.Core.Path.{_≡_}
@@ -8,7 +8,7 @@ use lib.ListN.{replicate}
 use Rattle.rules.specs.Build.{paper01}
 use Rattle.rules.specs.Text.{bytes}
 use Rattle.rules.specs.Script.{scriptLines}
-use Rattle.rules.specs.Operation.{Operation, schedule, preempt, dispatch}
+use Rattle.rules.specs.Operation.{Operation, schedule, preempt, dispatch, turn}
 use Rattle.rules.specs.Private.{Answer, Told, processor, nothing, told}
 use Rattle.rules.specs.Run.{scriptLine, Event, run, arrivals, answersOf, upcallsOf, disposals, left, ticked, listen}
 
@@ -107,6 +107,27 @@ pub record SwitchedRunCases : Type 0 where
         line = record { has = false; atomic = true; pending = false; messages = []; descriptor = [] };
       }
 
+-- what is seen of a run of 8 steps, four of them C: with nobody running, and while group 1 has a message and disposes of it
+abbrev pub turning : List Event
+turning = run paper01 (map scriptLine (scriptLines (bytes "C\nI,1\nA,1,7\nC\nM\nC\nD\nC\n"))) .events
+
+-- C "belongs to no group"
+pub record TurningRunCases : Type 0 where
+  -- it brings no message, disposes of none, gives no group an answer, is no tick and moves none
+  pub turning-arrivals : arrivals turning ≡ record { group = 1; words = 7 ∷ [] } ∷ []
+  pub turning-disposals : disposals 1 turning ≡ 1
+  pub turning-answers : answersOf 1 turning ≡ answer 0 1 [] ∷ answer 0 0 [] ∷ []
+  pub turning-ticks : ticked turning ≡ 0
+  pub turning-left : left turning ≡ 1
+  -- the private line of group 1 over the same steps
+  pub turning-heard :
+      listen 1 turning
+      ≡ record {
+        answers = answer 0 1 [] ∷ answer 0 0 [] ∷ [];
+        upcalls = false ∷ false ∷ true ∷ replicate 5 false;
+        line = record { has = true; atomic = true; pending = false; messages = []; descriptor = [] };
+      }
+
 -- what groups 1 and 2 are told of an operation that is accepted, and of the same where it is refused
 abbrev pub toldOf : Operation → List Told
 toldOf op = told 1 op true ∷ told 2 op true ∷ told 1 op false ∷ told 2 op false ∷ []
@@ -118,3 +139,5 @@ pub record ToldCases : Type 0 where
   pub told-switch-to-nobody : toldOf (schedule 0) ≡ processor false ∷ processor false ∷ nothing ∷ nothing ∷ []
   pub told-taken : toldOf preempt ≡ processor false ∷ processor false ∷ nothing ∷ nothing ∷ []
   pub told-given : toldOf (dispatch 1) ≡ processor true ∷ processor false ∷ nothing ∷ nothing ∷ []
+  -- C "belongs to no group"
+  pub told-turn : toldOf turn ≡ nothing ∷ nothing ∷ nothing ∷ nothing ∷ []

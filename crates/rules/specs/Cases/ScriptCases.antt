@@ -36,9 +36,10 @@ pub record ScriptCasesHold : Type 0 where
       ∷ "L,0\n" gives "10,0,1,0,0,0,0,1,1\n"
       ∷ "O\n" gives "11,0,0,0,0,0\n"
       ∷ "I,1\n" gives "12,0,0,0,0,0\n"
-      ∷ "1,S\n" gives "13,2,0,0,0,0\n"
-      ∷ ",S,1\n" gives "14,2,0,0,0,0\n"
-      ∷ "7,1,A\n" gives "15,2,0,0,0,0\n"
+      ∷ "C\n" gives "13,0,0,0,0,0\n"
+      ∷ "1,S\n" gives "14,2,0,0,0,0\n"
+      ∷ ",S,1\n" gives "15,2,0,0,0,0\n"
+      ∷ "7,1,A\n" gives "16,2,0,0,0,0\n"
       ∷ [])
   -- an operation is one capital letter: small ones, others, two, none
   pub one-capital : Lists
@@ -55,21 +56,23 @@ pub record ScriptCasesHold : Type 0 where
       ∷ "l,0\n" gives "11,2,0,0,0,0\n"
       ∷ "o\n" gives "12,2,0,0,0,0\n"
       ∷ "i,1\n" gives "13,2,0,0,0,0\n"
-      ∷ "C\n" gives "14,2,0,0,0,0\n"
-      ∷ "X,1\n" gives "15,2,0,0,0,0\n"
-      ∷ "AA,1,7\n" gives "16,2,0,0,0,0\n"
-      ∷ "SS,2\n" gives "17,2,0,0,0,0\n"
-      ∷ "MM\n" gives "18,2,0,0,0,0\n"
-      ∷ "OO\n" gives "19,2,0,0,0,0\n"
-      ∷ "OI,1\n" gives "20,2,0,0,0,0\n"
-      ∷ "S2\n" gives "21,2,0,0,0,0\n"
-      ∷ "1\n" gives "22,2,0,0,0,0\n"
-      ∷ ",\n" gives "23,2,0,0,0,0\n"
+      ∷ "c\n" gives "14,2,0,0,0,0\n"
+      ∷ "R\n" gives "15,2,0,0,0,0\n"
+      ∷ "X,1\n" gives "16,2,0,0,0,0\n"
+      ∷ "AA,1,7\n" gives "17,2,0,0,0,0\n"
+      ∷ "SS,2\n" gives "18,2,0,0,0,0\n"
+      ∷ "MM\n" gives "19,2,0,0,0,0\n"
+      ∷ "OO\n" gives "20,2,0,0,0,0\n"
+      ∷ "OI,1\n" gives "21,2,0,0,0,0\n"
+      ∷ "CC\n" gives "22,2,0,0,0,0\n"
+      ∷ "S2\n" gives "23,2,0,0,0,0\n"
+      ∷ "1\n" gives "24,2,0,0,0,0\n"
+      ∷ ",\n" gives "25,2,0,0,0,0\n"
       ∷ [])
-  -- no byte but the twelve letters begins a line that is read: alone, before one number, before two
-  pub other-letters : map (λ c. readLine (c ∷ [])) (bytesBut "ASOITMEDBNPL") ≡ replicate 244 unknown
-  pub other-letters-one : map (λ c. readLine (c ∷ bytes ",1")) (bytesBut "ASOITMEDBNPL") ≡ replicate 244 unknown
-  pub other-letters-two : map (λ c. readLine (c ∷ bytes ",1,7")) (bytesBut "ASOITMEDBNPL") ≡ replicate 244 unknown
+  -- no byte but the thirteen letters begins a line that is read: alone, before one number, before two
+  pub other-letters : map (λ c. readLine (c ∷ [])) (bytesBut "ASOITCMEDBNPL") ≡ replicate 243 unknown
+  pub other-letters-one : map (λ c. readLine (c ∷ bytes ",1")) (bytesBut "ASOITCMEDBNPL") ≡ replicate 243 unknown
+  pub other-letters-two : map (λ c. readLine (c ∷ bytes ",1,7")) (bytesBut "ASOITCMEDBNPL") ≡ replicate 243 unknown
   -- "parted by commas": no other byte parts them
   pub commas : Lists
       ("S,1\n" gives "1,0,0,0,0,0\n"

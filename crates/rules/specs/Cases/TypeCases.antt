@@ -7,13 +7,13 @@ use mathlib.Core.List.{List, [], _∷_, map}
 use lib.ListN.{replicate}
 use Rattle.rules.specs.Build.{paper01}
 use Rattle.rules.specs.Operation.{poll, peek, dispose, beginAtomic, endAtomic, describe, launch}
-use Rattle.rules.specs.Operation.{Operation, arrive, schedule, preempt, dispatch, tick, user, unknown}
+use Rattle.rules.specs.Operation.{Operation, arrive, schedule, preempt, dispatch, tick, turn, user, unknown}
 use Rattle.rules.specs.Types.{operationOf, sentOf, reportOf, buildOf, limits}
 use Rattle.rules.specs.Text.{bytes}
 use Rattle.rules.specs.Script.{readLine}
-use Rattle.rules.specs.declared.Operation.the-variants.{Arrive, Schedule, Preempt, Dispatch, Tick, Poll, Peek, Dispose, BeginAtomic, EndAtomic, Describe, Launch, Unknown}
+use Rattle.rules.specs.declared.Operation.the-variants.{Arrive, Schedule, Preempt, Dispatch, Tick, Turn, Poll, Peek, Dispose, BeginAtomic, EndAtomic, Describe, Launch, Unknown}
 
--- an operation of each kind, in the order of the paper's table, O and I behind S
+-- an operation of each kind, in the order of the paper's table, O and I behind S, C behind T
 abbrev pub everyOperation : ℕ → List ℕ → List Operation
 everyOperation x ws =
     arrive x ws
@@ -21,6 +21,7 @@ everyOperation x ws =
     ∷ preempt
     ∷ dispatch x
     ∷ tick x
+    ∷ turn
     ∷ user poll
     ∷ user (peek x)
     ∷ user dispose
@@ -36,10 +37,10 @@ everyOperation x ws =
 pub record TypesHold : Type 0 where
   -- the operations by name, with words lent beside them
   pub operations : (x : ℕ) (ws : List ℕ)
-      → map (λ o. operationOf o ws) (Arrive x ∷ Schedule x ∷ Preempt ∷ Dispatch x ∷ Tick x ∷ Poll ∷ Peek x ∷ Dispose ∷ BeginAtomic false ∷ BeginAtomic true ∷ EndAtomic ∷ Describe x ∷ Launch x ∷ Unknown ∷ [])
+      → map (λ o. operationOf o ws) (Arrive x ∷ Schedule x ∷ Preempt ∷ Dispatch x ∷ Tick x ∷ Turn ∷ Poll ∷ Peek x ∷ Dispose ∷ BeginAtomic false ∷ BeginAtomic true ∷ EndAtomic ∷ Describe x ∷ Launch x ∷ Unknown ∷ [])
       ≡ everyOperation x ws
   -- and by letter
-  pub letters : map (λ l. readLine (bytes l)) ("A,3,5,6" ∷ "S,3" ∷ "O" ∷ "I,3" ∷ "T,3" ∷ "M" ∷ "E,3" ∷ "D" ∷ "B" ∷ "B,1" ∷ "N" ∷ "P,3" ∷ "L,3" ∷ "Q" ∷ [])
+  pub letters : map (λ l. readLine (bytes l)) ("A,3,5,6" ∷ "S,3" ∷ "O" ∷ "I,3" ∷ "T,3" ∷ "C" ∷ "M" ∷ "E,3" ∷ "D" ∷ "B" ∷ "B,1" ∷ "N" ∷ "P,3" ∷ "L,3" ∷ "Q" ∷ [])
       ≡ everyOperation 3 (5 ∷ 6 ∷ [])
   -- "answer .. , value, trap, upcall group or 0, moved; an accepted L adds node, group, words"
   pub reports : reportOf (record { answer = 1; value = 2; trap = 3; upcall = 4; moved = 5; sent = 6 ∷ 7 ∷ 8 ∷ 9 ∷ [] })

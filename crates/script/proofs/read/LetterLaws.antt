@@ -30,6 +30,7 @@ passed c ns (l ∷ ls) each =
 -- the letters that may stand without a field, and those that may stand with one
 pub record NotAlone (c : ℕ) : Type 0 where
   pub no-preempt : c ≡ 79 → ⊥
+  pub no-turn : c ≡ 67 → ⊥
   pub no-poll : c ≡ 77 → ⊥
   pub no-dispose : c ≡ 68 → ⊥
   pub no-begin : c ≡ 66 → ⊥
@@ -49,17 +50,17 @@ module _ (c : ℕ) where
   -- any other without a field
   none-unknown : NotAlone c → lettered c letters [] ≡ unknown
   unfolding letters groupAndWords oneField noField forceField
-  none-unknown other = passed c [] letters (λ q. refl, (λ q. refl, (λ q. absurd (other .no-preempt q), (λ q. refl, (λ q. refl, (λ q. absurd (other .no-poll q), (λ q. refl, (λ q. absurd (other .no-dispose q), (λ q. absurd (other .no-begin q), (λ q. absurd (other .no-end q), (λ q. refl, (λ q. refl, tt))))))))))))
+  none-unknown other = passed c [] letters (λ q. refl, (λ q. refl, (λ q. absurd (other .no-preempt q), (λ q. refl, (λ q. refl, (λ q. absurd (other .no-turn q), (λ q. absurd (other .no-poll q), (λ q. refl, (λ q. absurd (other .no-dispose q), (λ q. absurd (other .no-begin q), (λ q. absurd (other .no-end q), (λ q. refl, (λ q. refl, tt)))))))))))))
 
   -- any other with one field
   one-unknown : (n : ℕ) → NotOne c → lettered c letters (n ∷ []) ≡ unknown
   unfolding letters groupAndWords oneField noField forceField
-  one-unknown n other = passed c (n ∷ []) letters (λ q. absurd (other .no-arrive q), (λ q. absurd (other .no-schedule q), (λ q. refl, (λ q. absurd (other .no-dispatch q), (λ q. absurd (other .no-tick q), (λ q. refl, (λ q. absurd (other .no-peek q), (λ q. refl, (λ q. absurd (other .no-begin q), (λ q. refl, (λ q. absurd (other .no-describe q), (λ q. absurd (other .no-launch q), tt))))))))))))
+  one-unknown n other = passed c (n ∷ []) letters (λ q. absurd (other .no-arrive q), (λ q. absurd (other .no-schedule q), (λ q. refl, (λ q. absurd (other .no-dispatch q), (λ q. absurd (other .no-tick q), (λ q. refl, (λ q. refl, (λ q. absurd (other .no-peek q), (λ q. refl, (λ q. absurd (other .no-begin q), (λ q. refl, (λ q. absurd (other .no-describe q), (λ q. absurd (other .no-launch q), tt)))))))))))))
 
   -- any other with more
   more-unknown : (n m : ℕ) (ns : List ℕ) → (c ≡ 65 → ⊥) → lettered c letters (n ∷ m ∷ ns) ≡ unknown
   unfolding letters groupAndWords oneField noField forceField
-  more-unknown n m ns other = passed c (n ∷ m ∷ ns) letters (λ q. absurd (other q), (λ q. refl, (λ q. refl, (λ q. refl, (λ q. refl, (λ q. refl, (λ q. refl, (λ q. refl, (λ q. refl, (λ q. refl, (λ q. refl, (λ q. refl, tt))))))))))))
+  more-unknown n m ns other = passed c (n ∷ m ∷ ns) letters (λ q. absurd (other q), (λ q. refl, (λ q. refl, (λ q. refl, (λ q. refl, (λ q. refl, (λ q. refl, (λ q. refl, (λ q. refl, (λ q. refl, (λ q. refl, (λ q. refl, (λ q. refl, tt)))))))))))))
 
 -- a number that tells neither no nor yes
 pub begins-not : (force : ℕ) → force ≢ 0 → force ≢ 1 → BeginRead force Unknown

@@ -13,7 +13,7 @@ use borrow.Author.Tests.{eq-eqb, ne-eqb}
 use Rattle.rules.specs.Build.{Build, wordLimit}
 use Rattle.rules.specs.Lists.{pad}
 use Rattle.rules.specs.Node.{Node, groupOf, timerRuns, emptyGroup}
-use Rattle.rules.specs.Operation.{Request, poll, peek, dispose, beginAtomic, endAtomic, describe, launch, Operation, arrive, schedule, preempt, dispatch, tick, user, unknown, Report}
+use Rattle.rules.specs.Operation.{Request, poll, peek, dispose, beginAtomic, endAtomic, describe, launch, Operation, arrive, schedule, preempt, dispatch, tick, turn, user, unknown, Report}
 use Rattle.rules.specs.Refusal.{refusal, refuseRequest, refuseLaunch}
 use Rattle.rules.specs.Script.{newline, header, reportLine}
 use Rattle.rules.specs.Step.{Effect, valued, extending, launched, serve, act, finish, inARow, step, ticks, oneTick, timedOut, counted}
@@ -153,6 +153,7 @@ module _ {b : Build} {n : Node} (v : Valid b n) where
   acts-listed (dispatch g) e = silent refl
   acts-listed (schedule g) e = silent refl
   acts-listed (tick k) e = silent (ticks-sent b k (valued 0 n))
+  acts-listed turn e = silent refl
   acts-listed (user r) e = let u = user-accepted n r e in served-listed r (u .0) (u .1)
   acts-listed unknown e = silent refl
 

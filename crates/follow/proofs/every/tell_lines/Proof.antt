@@ -40,10 +40,10 @@ slice-aggregate-next : tie.Need-slice-aggregate-next Inv-loop μ-loop
 slice-aggregate-next c = search needs
 
 next-requires : tie.Need-next-requires Inv-loop μ-loop
-next-requires c κs = let v = c .before .before .before .before .before .before .before .loop .inv in let g = v .1 .1 .1 .1 .1 .1 in passed-next (g .passed) (c .before .before .before .before .before .before .before .before .before .before .before .before .before .pre .known) (let l = v .1 .0 in let r = c .before .before .before .before .before .before .before .before .before .before .before .before .before .pre .room in omega arith) (c .before .before .before .before .before .if1 .taken) (let f = v .1 .1 .1 .1 .0 in omega arith)
+next-requires c κs = let v = c .before .before .before .before .before .before .before .loop .inv in let g = v .1 .1 .1 .1 .1 .1 in passed-next (g .passed) (c .before .before .before .before .before .before .before .before .before .before .before .before .before .pre .ahead .known) (let l = v .1 .0 in let r = c .before .before .before .before .before .before .before .before .before .before .before .before .before .pre .ahead .room in omega arith) (c .before .before .before .before .before .if1 .taken) (let f = v .1 .1 .1 .1 .0 in omega arith)
 
 add-i : tie.Need-add-i Inv-loop μ-loop
-add-i c = let v = c .before .before .before .before .before .before .before .before .before .before .before .before .before .before .loop .inv in let g = v .1 .1 .1 .1 .1 .1 in let f = g .passed .few in let t = c .before .before .before .before .before .before .before .before .before .before .before .before .if1 .taken in let n = c .before .before .before .before .before .before .before .before .before .before .before .before .before .before .before .before .before .before .before .before .pre .numbers in omega arith
+add-i c = let v = c .before .before .before .before .before .before .before .before .before .before .before .before .before .before .loop .inv in let g = v .1 .1 .1 .1 .1 .1 in let f = g .passed .few in let t = c .before .before .before .before .before .before .before .before .before .before .before .before .if1 .taken in let n = c .before .before .before .before .before .before .before .before .before .before .before .before .before .before .before .before .before .before .before .before .pre .ahead .numbers in omega arith
 
 tell-line-requires : tie.Need-tell-line-requires Inv-loop μ-loop
 tell-line-requires c κs = let v = c .before .before .before .before .before .before .before .before .before .before .before .before .before .before .before .before .loop .inv in let g = v .1 .1 .1 .1 .1 .1 in record { all = v .1 .1 .0 ∙ c .before .before .before .before .before .before .before .before .before .before .before .before .before .before .before .before .before .before .before .before .before .before .pre .all; few = g .few; room = let w = g .within in let r = c .before .before .before .before .before .before .before .before .before .before .before .before .if2 .left in omega arith }

@@ -6,7 +6,8 @@ use mathlib.Core.Path.{_≡_, refl}
 use lib.ListN.{length}
 use Rattle.script.specs.Feed.{keptLine}
 use Rattle.script.proofs.feed.FeedLaws.{drop-all}
-use Rattle.follow.proofs.one.FollowLaws.{portion-followable, portion-followed}
+use Rattle.follow.proofs.one.FollowLaws.{portion-followed}
+use Rattle.follow.proofs.portion.PassedLaws.{portion-ahead}
 use borrow.Author.Needs.{needs}
 use Rattle.follow.proofs.one.follow.Statement.{statement}
 use Rattle.follow.proofs.one.follow.Tie as tie
@@ -47,7 +48,7 @@ part-follow-lines-end c = search needs
 
 follow-lines-requires : tie.Need-follow-lines-requires
 unfolding keptLine
-follow-lines-requires c κs = let z : c .before .before .before .before .behind-last .result - 0 ≡ c .before .before .before .before .behind-last .result = omega arith in rw z (portion-followable (c .before .before .before .before .before .before .before .before .before .before .before .before .before .before .args .memory .now) (c .before .before .before .before .before .before .before .before .before .before .before .before .before .before .args .state) (c .before .before .before .before .before .kept-count .result) (let t = c .before .before .before .before .before .before .before .before .before .before .if1 .left in omega arith) (c .before .before .before .before .behind-last .ensures) (c .before .before .before .before .before .kept-count .ensures .1) (c .before .before .before .before .before .before .before .before .is-node .ensures) (let l : 130 ≡ length (c .before .before .before .before .before .before .before .before .before .before .before .before .before .before .args .state .script .kept) = slice-aggregate-follow-lines (c .before) in omega arith) (c .before .before .before .before .before .kept-count .ensures .0))
+follow-lines-requires c κs = let z : c .before .before .before .before .behind-last .result - 0 ≡ c .before .before .before .before .behind-last .result = omega arith in rw z (portion-ahead (c .before .before .before .before .before .before .before .before .before .before .before .before .before .before .args .memory .now) (c .before .before .before .before .before .before .before .before .before .before .before .before .before .before .args .state .script) (c .before .before .before .before .before .kept-count .result) (let t = c .before .before .before .before .before .before .before .before .before .before .if1 .left in omega arith) (c .before .before .before .before .behind-last .ensures) (c .before .before .before .before .before .kept-count .ensures .1) (c .before .before .before .before .before .before .before .before .is-node .ensures) (let l : 130 ≡ length (c .before .before .before .before .before .before .before .before .before .before .before .before .before .before .args .state .script .kept) = slice-aggregate-follow-lines (c .before) in omega arith) (c .before .before .before .before .before .kept-count .ensures .0))
 
 slice-aggregate-keep : tie.Need-slice-aggregate-keep
 slice-aggregate-keep c = search needs

@@ -1,0 +1,2 @@
+-- The laws of C.
+pub mod MailLaws

@@ -1,6 +1,7 @@
 // C: whose turn it is, by the set of the groups with mail. The set is made where C asks for it and kept nowhere, so no other step pays for it.
 use super::acted::Act;
 use super::network;
+use memory::group;
 use memory::map;
 use rules::Report;
 ghost use mathlib.Core.Path.{_≡_};
@@ -21,10 +22,7 @@ pub fn mail(m: &[u32], g: u32) -> bool
     requires { ⌜ IsNode (now m) ⌝ }
     ensures { λ t. ⌜ ((n : Node) (r : List ℕ) → Holds (now (m .entry)) n r → Valid paper01 n → t ≡ hasMail n g) ⌝ }
 {
-    if map::group_word(m, g, map::COUNT) > 0 {
-        return true;
-    }
-    network::queued_of(m, g) > 0
+    group::holds(m, g) || network::queued_of(m, g) > 0
 }
 
 // The groups with mail, bit g - 1 for group g.

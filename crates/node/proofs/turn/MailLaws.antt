@@ -10,7 +10,7 @@ use lib.Count.{trailingZeros}
 use lib.Dec.{ltb}
 use lib.ListN.{length}
 use lib.Pow.{pow-mono}
-use borrow.Author.Tests.{le-ltb, lt-ltb}
+use borrow.Author.Tests.{lt-ltb, ltb-true}
 use Rattle.rules.specs.Build.{groupCount, paper01}
 use Rattle.rules.specs.Lists.{isEmpty}
 use Rattle.rules.specs.Node.{Message, Node, bufferHolds, groupOf, inQueue}
@@ -21,10 +21,7 @@ use Rattle.rules.specs.Turn.{hasMail, whoseTurn}
 use Rattle.rules.specs.Turns.{setFrom, mailSet, byBits}
 use Rattle.rules.specs.Types.{reportOf}
 use Rattle.rules.specs.Valid.{Valid}
-use Rattle.rules.specs.Memory.{countOffset, groupAddress, word}
 use Rattle.memory.specs.Holds.{Holds}
-use Rattle.memory.proofs.PieceLaws.{holds-pieces}
-use Rattle.memory.proofs.group.GroupLaws.{group-words}
 use Rattle.rules.proofs.Steps.LineLaws.{direct-line, line-buffered}
 use Rattle.rules.proofs.Steps.QuietLaws.{valid-quiet}
 use Rattle.rules.proofs.Steps.SoundLaws.{valid-sound}
@@ -33,21 +30,15 @@ use Rattle.node.specs.Steps.{Acted, done}
 use Rattle.node.specs.declared.acted.Act.{Act as Act·rt}
 use Rattle.node.proofs.StepMap.{acted-quiet, one-act}
 
--- a group's n stands in its record
-pub count-read : {m : List ℕ} {n : Node} {r : List ℕ} → Holds m n r → (g : ℕ) → 1 ≤ g → g ≤ groupCount
-    → word m (groupAddress g + countOffset) ≡ groupOf n g .buffer .count
-count-read h g low high = group-words (holds-pieces h) (h .mapped) g low high .count
-
 -- a group with a message in its buffer has mail
-pub buffered-mail : {n : Node} → Valid paper01 n → (g : ℕ) → 1 ≤ g → g ≤ groupCount → 1 ≤ groupOf n g .buffer .count → hasMail n g ≡ true
-unfolding hasMail
-buffered-mail v g low high some = ap not (line-buffered (valid-sound v) g low high some)
+pub buffered-mail : {n : Node} → Valid paper01 n → (g : ℕ) → 1 ≤ g → g ≤ groupCount → bufferHolds n g ≡ true → hasMail n g ≡ true
+unfolding hasMail bufferHolds
+buffered-mail {n} v g low high holds = ap not (line-buffered (valid-sound v) g low high (ltb-true 0 (groupOf n g .buffer .count) holds))
 
 -- one with none in it has mail where one of its messages is queued
-pub queued-mail : (n : Node) (g : ℕ) → groupOf n g .buffer .count ≡ 0 → ltb 0 (length (inQueue n g)) ≡ hasMail n g
-unfolding hasMail bufferHolds
-queued-mail n g none =
-    counted (inQueue n g) ∙ ap (λ (l : List Message). not (isEmpty l)) (sym (direct-line n g (le-ltb 0 (groupOf n g .buffer .count) (omega arith))))
+pub queued-mail : (n : Node) (g : ℕ) → bufferHolds n g ≡ false → ltb 0 (length (inQueue n g)) ≡ hasMail n g
+unfolding hasMail
+queued-mail n g none = counted (inQueue n g) ∙ ap (λ (l : List Message). not (isEmpty l)) (sym (direct-line n g none))
   where
     counted : (l : List Message) → ltb 0 (length l) ≡ not (isEmpty l)
     counted [] = refl

@@ -8,7 +8,7 @@ use Rattle.rules.specs.Frames.{ceilDiv, extended, takeFrame, withRoom, a
 use Rattle.rules.specs.Paging.{inFrame, traded, tradedIn, trading, more, standsFirst, spared, victim, sendOut, freed, exchange, bringIn, resident, nextPage, prepared, store, firstResident, runnerResident}
 use Rattle.rules.specs.Refusal.{queued, refuseArrive, refuseSchedule, refuseDispatch, refuseTick, refusePeek, refuseDispose, refuseEnd, refuseDescribe, refuseLaunch, refuseRequest, refusal}
 use Rattle.rules.specs.Settling.{oneMore, mayStay, pass, restTimer, settle, drain, calls, upcall, upcallGroup}
-use Rattle.rules.specs.Turn.{hasMail, turnOrder, firstOf, whoseTurn}
+use Rattle.rules.specs.Turn.{hasMail, turnOrder, whoseTurn}
 use Rattle.rules.specs.Step.{valued, preempted, timerFlagged, revoke, timedOut, counted, oneTick, ticks, firstLength, firstWord, withoutFirst, removed, flagged, disposed, sectionBegun, sectionEnded, extending, described, launched, serve, act, finish, inARow, switched, performed, step}
 use Rattle.rules.specs.Valid.{frameList, idle, frameNumbers, frameOrder, isMessage, isPlace, isWaiting, isWiped, isBuffer, onlyAtomic, isGroup, pendingHasLine, runnerAtomic, headStays, isSwap, firstInFrame, runnerInFrame, standsOnce, nodeTests, isNode}
 use Rattle.rules.specs.Memory.{frameAddress, groupAddress, flagWord, messageWords, queueWords, lineWords, listWords, groupWords, placeWords, pagesFrom, pagesOf, placesOf, allPages, frameWords, pagingWords, words, word, wordsAt, messageAt, messagesAt, placeAt, placesAt, framePlaces, flagAt, listAt, bufferAt, groupAt, groupsFrom, pagingFrom, nodeAt}
@@ -25,7 +25,7 @@ unfolding
     inFrame traded tradedIn trading more standsFirst spared victim sendOut freed exchange bringIn resident nextPage prepared store firstResident runnerResident
     queued refuseArrive refuseSchedule refuseDispatch refuseTick refusePeek refuseDispose refuseEnd refuseDescribe refuseLaunch refuseRequest refusal
     oneMore mayStay pass restTimer settle drain calls upcall upcallGroup
-    hasMail turnOrder firstOf whoseTurn
+    hasMail turnOrder whoseTurn
     valued preempted timerFlagged revoke timedOut counted oneTick ticks firstLength firstWord withoutFirst removed flagged disposed sectionBegun sectionEnded extending described launched serve act finish inARow switched performed step
     frameList idle frameNumbers frameOrder isMessage isPlace isWaiting isWiped isBuffer onlyAtomic isGroup pendingHasLine runnerAtomic headStays isSwap firstInFrame runnerInFrame standsOnce nodeTests isNode
     frameAddress groupAddress flagWord messageWords queueWords lineWords listWords groupWords placeWords pagesFrom pagesOf placesOf allPages frameWords pagingWords words word wordsAt messageAt messagesAt placeAt placesAt framePlaces flagAt listAt bufferAt groupAt groupsFrom pagingFrom nodeAt

@@ -1,24 +1,25 @@
 -- What C names: the next group with mail, by the search and by bits. Assumes nothing.
 use Prim.Native.Nat.{ℕ, zero, suc, pred, _+_, _-_, _≤_, _<_}
 use native.Mathlib.Omega.{arith}
-use mathlib.Core.Bool.{Bool, true, false, true≢false, false≢true, not, _&&_, and-eq-true-iff}
+use mathlib.Core.Bool.{Bool, true, false, false≢true, not, _&&_, and-eq-true-iff}
 use mathlib.Core.List.{List, [], _∷_, _++_, map, append-nil}
 use mathlib.Core.Logic.{_≢_}
 use mathlib.Core.Path.{_≡_, _∙_, ap, refl, subst, sym}
 use lib.Count.{trailingZeros}
 use lib.Dec.{eqb, ltb}
 use lib.ListN.{length, getD, drop}
-use borrow.Author.Tests.{lt-ltb, le-ltb, ltb-true, ltb-false, eqb-true}
+use borrow.Author.Tests.{lt-ltb, le-ltb, ltb-true, ltb-false, eqb-true, not-false}
 use Rattle.rules.specs.Lists.{all, isEmpty, upFrom}
 use Rattle.rules.specs.Build.{groupCount}
 use Rattle.rules.specs.Node.{Message, Node, line}
 use Rattle.rules.specs.Operation.{turn, noTrap, acceptedWith}
-use Rattle.rules.specs.Turn.{hasMail, turnOrder, firstOf, whoseTurn}
+use Rattle.rules.specs.Turn.{hasMail, turnOrder, whoseTurn}
 use Rattle.rules.specs.Step.{Stepped}
 use Rattle.rules.specs.Memory.{size, words, nodeAt}
 use Rattle.rules.specs.MemoryTest.{isMemory, replaced, stepMemory}
 use Rattle.rules.specs.Turns.{ahead, setFrom, mailSet, byBits, NoMail, NextWithMail, Turns}
-use Rattle.rules.proofs.Steps.TurnLaws.{Found, within, beyond, found-upward, first-same, round-groups, turn-whole}
+use Rattle.rules.proofs.Steps.ListLaws.{empty-none}
+use Rattle.rules.proofs.Steps.TurnLaws.{firstOf, Found, within, beyond, found-upward, round-same, turn-whole}
 use Rattle.rules.proofs.Map.TestLaws.{range-tells}
 use Rattle.rules.proofs.Map.MapLaws.{test-valid, test-words}
 use Rattle.rules.proofs.Map.RunMemory.{step-tested}
@@ -60,7 +61,7 @@ module _ (p : ℕ → Bool) (r : ℕ) (bound : r ≤ groupCount) where
       go false e = none h least (omega (arith, near, ahead-round r h (ltb-false r h e), ahead-round r x high))
 
   rounded : Rounded p r (firstOf p (turnOrder r))
-  unfolding turnOrder firstOf
+  unfolding turnOrder
   rounded = first (found-upward p (r + 1) (groupCount - r) (upFrom 1 r)) (subst (λ (l : List ℕ). Found p 1 r [] (firstOf p l)) (append-nil (upFrom 1 r)) (found-upward p 1 r []))
     where
       then : {x : ℕ} → x ≡ firstOf p (upFrom 1 r) → ((i : ℕ) → r + 1 ≤ i → i < r + 1 + (groupCount - r) → p i ≡ false)
@@ -82,11 +83,7 @@ module _ (p : ℕ → Bool) (r : ℕ) (bound : r ≤ groupCount) where
 -- without mail a line is empty, and with it is not
 off-empty : (n : Node) (g : ℕ) → hasMail n g ≡ false → line n g ≡ []
 unfolding hasMail
-off-empty n g = go (line n g)
-  where
-    go : (l : List Message) → not (isEmpty l) ≡ false → l ≡ []
-    go [] e = refl
-    go (m ∷ l) e = absurd (true≢false e)
+off-empty n g off = empty-none (line n g) (not-false (isEmpty (line n g)) off)
 
 on-some : (n : Node) (g : ℕ) → hasMail n g ≡ true → line n g ≢ []
 unfolding hasMail
@@ -148,11 +145,11 @@ answered bs g = getD bs (pred g) false
 
 -- of these answers the bits name what the search finds, whoever runs
 agrees : List Bool → ℕ → Bool
-unfolding byBits setFrom trailingZeros firstOf turnOrder
+unfolding byBits setFrom trailingZeros turnOrder
 agrees bs r = eqb (byBits (setFrom (answered bs) 1 groupCount) r) (firstOf (answered bs) (turnOrder r))
 
 computed : everyList groupCount (λ bs. all (agrees bs) (upFrom 0 (groupCount + 1))) ≡ true
-unfolding agrees byBits setFrom trailingZeros firstOf turnOrder
+unfolding agrees byBits setFrom trailingZeros turnOrder
 computed = refl
 
 -- a test is that of its answers
@@ -171,7 +168,7 @@ by-bits n bound =
     let bs = map p (upFrom 1 groupCount) in
     let row : agrees bs (n .running) ≡ true =
     range-tells (agrees bs) 0 (groupCount + 1) .0 (every-list groupCount (λ bs. all (agrees bs) (upFrom 0 (groupCount + 1))) computed bs refl) (n .running) (omega arith) (omega arith) in
-    eqb-true _ _ row ∙ first-same (answered bs) p (turnOrder (n .running)) (round-groups (λ g. answered bs g ≡ p g) (answered-same p) (n .running) bound)
+    eqb-true _ _ row ∙ round-same (answered bs) p (answered-same p) (n .running) bound
 
 -- The statement.
 

@@ -11,7 +11,7 @@ use native.Mathlib.Omega.{arith}
 use lib.Dec.{eqb}
 use lib.ListN.{length, take, drop, length-drop, length-take, length-map}
 use lib.Seq.{drop-append-le}
-use borrow.Author.Tests.{ltb-true, ltb-false, eqb-true, eqb-false, eq-eqb, ne-eqb, not-true}
+use borrow.Author.Tests.{ltb-true, ltb-false, eqb-true, eqb-false, eq-eqb, ne-eqb, not-true, not-false}
 use Rattle.rules.specs.Lists.{Every, filter, isEmpty}
 use Rattle.rules.specs.Build.{Build, groupCount}
 use Rattle.rules.specs.Node.{Message, Place, Buffer, Node, groupOf, withQueue, withFree, withPaging, withGroup, bufferHolds, buffered, forced, timerRuns, messageOf, waiting, isOf, inBuffer, inQueue, line}
@@ -22,7 +22,7 @@ use Rattle.rules.specs.Step.{withoutFirst, removed}
 use Rattle.rules.specs.Valid.{GoodMessage, Valid}
 use Rattle.rules.specs.Sound.{Sound}
 use Rattle.rules.proofs.Steps.SoundLaws.{SameFlags, flags-refl, valid-sound}
-use Rattle.rules.proofs.Steps.ListLaws.{some-append, length-some, filter-pass, filter-fail, filter-tail, filter-append, map-drop}
+use Rattle.rules.proofs.Steps.ListLaws.{some-append, length-some, empty-none, filter-pass, filter-fail, filter-tail, filter-append, map-drop}
 use Rattle.rules.proofs.Steps.FrameLaws.{fits, removed-first}
 use Rattle.rules.proofs.Steps.NodeLaws.{is-of, not-of, stock-same, stock-other, within, group-good, line-same, restocked-flags}
 use Rattle.rules.proofs.Steps.SettlingLaws.{runs-cases}
@@ -166,11 +166,7 @@ pub timer-rests : {b : Build} {n : Node} → Valid b n → timerRuns n ≡ false
 unfolding timerRuns
 timer-rests {b} {n} v rests =
     let t = neither (not (isEmpty (n .queue))) (forced n) rests in
-    v .timer-idle (none (n .queue) (t .0)) (t .1)
-  where
-    none : (q : List Message) → not (isEmpty q) ≡ false → q ≡ []
-    none [] e = refl
-    none (m ∷ q) e = absurd (true≢false e)
+    v .timer-idle (empty-none (n .queue) (not-false (isEmpty (n .queue)) (t .0))) (t .1)
 
 -- nor does it where nobody runs
 pub nobody-timer : {b : Build} {n : Node} → Valid b n → n .running ≡ 0 → n .timer ≡ 0

@@ -48,6 +48,13 @@ filter-drop p (suc n) (x ∷ xs) = go (p x) refl (filter-drop p n xs)
     go true e less = rw (filter-pass p x xs e) (omega arith)
     go false e less = rw (filter-fail p x xs e) less
 
+-- tests that agree on a list leave the same of it
+pub filter-agree : {A : Type 0} (p q : A → Bool) (xs : List A) → Every (λ x. p x ≡ q x) xs → filter p xs ≡ filter q xs
+filter-agree p q [] same = refl
+filter-agree {A} p q (x ∷ xs) same =
+    ap (λ (t : Bool). elim t as (λ t. List A) [ true ↦ x ∷ filter p xs | false ↦ filter p xs ]) (same .0)
+    ∙ ap (λ (l : List A). elim (q x) as (λ t. List A) [ true ↦ x ∷ l | false ↦ l ]) (filter-agree p q xs (same .1))
+
 -- a list is not empty where it has an element
 pub some-length : {A : Type 0} (xs : List A) → isEmpty xs ≡ false → 1 ≤ length xs
 some-length [] some = absurd (true≢false some)
@@ -61,6 +68,11 @@ length-some (x ∷ xs) h = refl
 pub some-last : {A : Type 0} (xs : List A) (y : A) → isEmpty (xs ++ (y ∷ [])) ≡ false
 some-last [] y = refl
 some-last (x ∷ xs) y = refl
+
+-- an empty list has no element
+pub empty-none : {A : Type 0} (xs : List A) → isEmpty xs ≡ true → xs ≡ []
+empty-none [] e = refl
+empty-none (x ∷ xs) e = absurd (true≢false (sym e))
 
 -- a list of no length is empty
 pub no-length : {A : Type 0} (xs : List A) → length xs ≡ 0 → xs ≡ []

@@ -260,3 +260,13 @@ fn a_file_without_newlines_is_told() {
         );
     }
 }
+
+#[test]
+fn the_examples_of_the_document_are_told_so() {
+    let told_lines = told(b"S, 1\na,1,7\nA,1,7\nE\n");
+    for line in told_lines.lines() {
+        assert!(LISTING.contains(&format!("`{line}`")), "{line}");
+    }
+    let windows = of_the_file(b"\xef\xbb\xbfS,1\r\nM\r\n").join("\n");
+    assert!(LISTING.contains(&format!("\n{windows}\n")), "{windows}");
+}

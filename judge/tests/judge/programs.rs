@@ -291,11 +291,15 @@ fn judge_tells_why_a_file_holds_no_node() {
 fn judge_tells_a_file_that_it_cannot_read() {
     let folder = PathBuf::from(env!("CARGO_MANIFEST_DIR"));
     let whole = file("whole", &bytes(&memory_after("S,1")));
-    for (path, why) in [
-        (folder.join("no-such-file"), "No such file or directory"),
-        (folder, "Is a directory"),
+    let empty = PathBuf::new();
+    let absent = "No such file or directory";
+    for (path, name, why) in [
+        (folder.join("no-such-file"), None, absent),
+        (folder, None, "Is a directory"),
+        (empty, Some("''"), absent),
     ] {
-        let error = format!("judge: {}: {why}\n", path.display());
+        let name = name.map_or(path.display().to_string(), str::to_string);
+        let error = format!("judge: {name}: {why}\n");
         let unread = (String::new(), error, Some(2));
         assert_eq!(told(&path), unread);
         assert_eq!(differ(&path, &whole), unread);

@@ -168,7 +168,7 @@ fn told(script: &[u8]) -> String {
 #[test]
 fn every_bad_line_is_told_with_its_number() {
     let script = FLAVOURS[0].script(3, 50);
-    assert_eq!(told(&script), "50 lines, each can be read\n");
+    assert_eq!(told(&script), "50 lines, all can be read\n");
     let long = [b"A,1".as_slice(), &b",7".repeat(100), b"\nM\n"].concat();
     let shown = format!("A,1{},..", ",7".repeat(62));
     let bytes = b"S,\x01\xff\"\\\nM";

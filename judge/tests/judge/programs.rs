@@ -474,9 +474,9 @@ fn checked(script: &[u8]) -> Streams {
 fn check_script_tells_each_line_that_cannot_be_read() {
     let told = |told: &str, code| (told.to_string(), String::new(), Some(code));
     let well = b"S,1\nA,1,7\nD";
-    assert_eq!(checked(well), told("3 lines, each can be read\n", 0));
-    assert_eq!(checked(b""), told("0 lines, each can be read\n", 0));
-    assert_eq!(checked(b"M"), told("1 line, each can be read\n", 0));
+    assert_eq!(checked(well), told("3 lines, all can be read\n", 0));
+    assert_eq!(checked(b""), told("no lines: the script is empty\n", 0));
+    assert_eq!(checked(b"M"), told("1 line, all can be read\n", 0));
     let bad = b"S, 1\n\nA,1,7\nA,1,7,x";
     let lines = "line 1, field 2: a blank: S, 1\n\
                  line 2: an empty line\n\

@@ -66,7 +66,7 @@ fn no_frames() {
     refused(
         after(&arrivals(&[], "A,1,7", 768)),
         "A,1,7",
-        answer::NO_FRAMES,
+        answer::NO_PAGES,
     );
 }
 

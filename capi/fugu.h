@@ -92,7 +92,7 @@ enum {
     FUGU_TICKS = 'T',          /* ticks pass: how many, 1 to 65,535 */
     FUGU_TURN = 'C',           /* whose turn it is: its value is the next group with a message behind the running one, 0 where none has one */
     FUGU_MESSAGE_LENGTH = 'M', /* its value is how many words the running group's first message has, 0 where there is none */
-    FUGU_MESSAGE_WORD = 'E',   /* a word of that message is its value: which, from 0 */
+    FUGU_MESSAGE_WORD = 'E',   /* its value is word i of that message, from 0: i */
     FUGU_DISPOSE = 'D',        /* that message is disposed of */
     FUGU_BEGIN_ATOMIC = 'B',   /* an atomic section begins: no number or one, 1 where it turns force on and 0 where it leaves it */
     FUGU_END_ATOMIC = 'N',     /* and ends */
@@ -120,18 +120,18 @@ enum {
     FUGU_TRAP_TIMEOUT = 3           /* a T in which the timer reached 256 */
 };
 
-/* The answers. Only the first that holds is reported, in the order that docs/LISTING.md has. */
+/* The answers, in the words of docs/LISTING.md, which has the order in which they are tried: the first that holds is reported. */
 enum {
-    FUGU_ACCEPTED = 0,
+    FUGU_ACCEPTED = 0,          /* accepted */
     FUGU_NOT_NODE = 1,          /* the memory is too short, or is no node */
     FUGU_UNREADABLE = 2,        /* unknown operation or unreadable line */
     FUGU_BAD_GROUP = 3,         /* A: the group is not 1 to 8 */
     FUGU_BAD_WORDS = 4,         /* A: no words, or more than 8 */
     FUGU_QUEUE_FULL = 5,        /* A: 16 messages are in the hardware queue already */
-    FUGU_NO_PAGES = 6,          /* A: with this message the pledges would sum to above 96, the frames and swap pages together */
+    FUGU_NO_PAGES = 6,          /* A: with this message the pledges would sum to above 96 */
     FUGU_NOBODY_RUNS = 7,       /* M, E, D, B, N, P or L: nobody runs */
-    FUGU_NO_MESSAGE = 8,        /* D or E: the running group's line is empty; for E whatever the word's place is */
-    FUGU_PAST_MESSAGE = 9,      /* E: the word's place is not below the length of the message */
+    FUGU_NO_MESSAGE = 8,        /* D or E: the line is empty; for E whatever i is */
+    FUGU_PAST_MESSAGE = 9,      /* E: i is not below the length of the message */
     FUGU_STILL_PENDING = 10,    /* N while pending: no message has been disposed of since the upcall */
     FUGU_DESCRIPTOR_FULL = 11,  /* P: the descriptor has 8 words already */
     FUGU_DESCRIPTOR_EMPTY = 12, /* L: the descriptor is empty */

@@ -35,7 +35,7 @@ uses() {
 print() {
     local message status=0
     uses output
-    { message=$(LC_ALL=C cat 2>&1 >&3 3>&-) || status=$?; } 3>&1
+    { message=$(LC_ALL=C env --default-signal=PIPE cat 2>&1 >&3 3>&-) || status=$?; } 3>&1
     [[ -z $message ]] || fail 1 "standard output: ${message##*: }"
     exit "$status"
 }

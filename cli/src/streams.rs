@@ -119,6 +119,12 @@ impl Write for Output {
     }
 }
 
+/// From now on a pipe without a reader ends the program that writes to it: the library has it spared.
+pub fn let_pipes_end_it() {
+    // A plain call; there is no handler.
+    unsafe { signal(SIGPIPE, SIG_DFL) };
+}
+
 /// Whether standard output failed since its reader has gone away.
 pub fn reader_is_gone(error: &io::Error) -> bool {
     let failed = error
@@ -127,16 +133,12 @@ pub fn reader_is_gone(error: &io::Error) -> bool {
     failed.is_some_and(|failed| failed.stream == OUTPUT) && error.kind() == ErrorKind::BrokenPipe
 }
 
-/// From now on a pipe without a reader ends the program that writes to it: the library has it spared.
-pub fn let_pipes_end_it() {
-    // A plain call; there is no handler.
-    unsafe { signal(SIGPIPE, SIG_DFL) };
-}
-
 /// Ends the program as a pipe without a reader ends one that doesn't ask to be spared.
 pub fn end_by_pipe() -> ExitCode {
-    let_pipes_end_it();
-    // A plain call; it does not come back.
-    unsafe { raise(SIGPIPE) };
+    // Both are plain calls; the second does not come back.
+    unsafe {
+        signal(SIGPIPE, SIG_DFL);
+        raise(SIGPIPE);
+    }
     ExitCode::FAILURE
 }

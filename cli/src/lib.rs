@@ -13,7 +13,7 @@ use std::ffi::OsString;
 use std::io::{self, Write};
 use std::process::ExitCode;
 
-pub use streams::{input, output, Input, Output};
+pub use streams::{input, let_pipes_end_it, output, Input, Output};
 
 /// The project's version, and behind it the identity of the toolchain that it was proved with.
 const VERSION: &str = include_str!("../../VERSION");

@@ -119,6 +119,12 @@ impl Write for Output {
     }
 }
 
+/// From now on a pipe without a reader ends the program that writes to it: the library has it spared.
+pub fn let_pipes_end_it() {
+    // A plain call; there is no handler.
+    unsafe { signal(SIGPIPE, SIG_DFL) };
+}
+
 /// Whether standard output failed since its reader has gone away.
 pub fn reader_is_gone(error: &io::Error) -> bool {
     let failed = error

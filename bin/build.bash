@@ -195,6 +195,25 @@ build() {
     fi
 }
 
+# library: makes libfugu of the proved calls, static and shared, in target/lib, where it is older. Nothing of the shared one is bound late, so that no
+# call needs the stack that binding takes.
+library() {
+    local folder=$root/target/lib version made
+    read -r version <"$root/VERSION"
+    made=$folder/libfugu.so.$version
+    if ! is_older "$made" "$archives/libcapi.a" "$root/capi/fugu.map" "$root/VERSION"; then return; fi
+    needs cc 'the C compiler, which links'
+    mkdir -p -- "$folder"
+    making=$folder/new
+    cc -shared -nostartfiles -Wl,-soname,libfugu.so.0 -Wl,--version-script="$root/capi/fugu.map" -Wl,-z,defs,-z,text,-z,now \
+        -Wl,--whole-archive "$archives/libcapi.a" -Wl,--no-whole-archive -o "$making"
+    cp -f -- "$archives/libcapi.a" "$folder/libfugu.a"
+    ln -sf -- "libfugu.so.$version" "$folder/libfugu.so.0"
+    ln -sf -- libfugu.so.0 "$folder/libfugu.so"
+    mv -f -- "$making" "$made"
+    making=
+}
+
 # run FOLDER PROGRAM ARGUMENT..: becomes a program in Rust, built first.
 run() {
     build "$1" "$2"

@@ -195,8 +195,8 @@ uint32_t fugu_paging(const uint32_t *memory, size_t memory_length, uint32_t *FUG
 uint32_t fugu_why(uint32_t *FUGU_LENT memory, size_t memory_length, const uint8_t *script, size_t script_length, uint32_t line,
                   uint32_t *FUGU_LENT part, size_t part_length);
 
-/* The header line of a listing, with its newline, into the output: returns FUGU_HEADER, the bytes that it has, or 0 where the output is shorter, and then
- * nothing has changed. */
+/* The header line of a listing, with its newline, into the output: returns FUGU_HEADER, the bytes that it has, or 0 where the output is shorter, and
+ * then nothing has changed. */
 uint32_t fugu_header(uint8_t *FUGU_LENT out, size_t out_length);
 
 /* A script in portions of any size: what holds of the two pairs of calls below, fugu_feed and fugu_feed_end, fugu_tell and fugu_tell_end.
@@ -207,11 +207,12 @@ uint32_t fugu_header(uint8_t *FUGU_LENT out, size_t out_length);
  * with FUGU_NO_ROOM, the rest of the portion, from the count used on, is for the next call; an output of FUGU_FEED_LINE or FUGU_TELL_LINE bytes has
  * room for one more line of the script at least.
  *
- * The end's call takes a line that has begun for the script's last, as if it had its newline. An output of fewer than FUGU_FEED_LINE or FUGU_TELL_OUT
- * bytes has no room for it, and nothing is done. The state stays as it was.
+ * The end's call takes a line that has begun for the script's last, as if it had its newline. Where one has begun, an output of fewer than
+ * FUGU_FEED_LINE bytes has no room for it; for fugu_tell_end it is always one of fewer than FUGU_TELL_OUT bytes. Nothing is done then. The state stays
+ * as it was.
  *
  * The state's first words are how many lines were read, and how many bytes of the kept line have begun. It may be copied, kept and handed on as words,
- * as the memory may; it may also be anything, and a count that is too large is taken for the room that there is. */
+ * as the memory may; it may also be anything: a count that is too large is taken for the room that there is, and a kept line ends before a newline. */
 
 /* The listing, on any memory, a node or not: the report of each line goes into the output, as in "3,0,0,0,1,0", its line's number first. On memory that
  * is no node each line is answered 1. Behind fugu_header's the texts of all calls are the listing of the script. */

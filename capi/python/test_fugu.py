@@ -4,6 +4,7 @@ are wrong."""
 import doctest
 import os
 import random
+import re
 import subprocess
 import sys
 import threading
@@ -240,11 +241,40 @@ class Memory(unittest.TestCase):
         self.assertTrue(node.test())
 
 
+class Header(unittest.TestCase):
+    """The names and numbers are those of fugu.h."""
+
+    text = (ROOT / "capi" / "fugu.h").read_text("ascii")
+    numbers = dict(re.findall(r"^ +FUGU_([A-Z_]+) = (\d+)", text, re.MULTILINE))
+
+    def test_names(self) -> None:
+        names = {
+            **{answer.name: answer for answer in fugu.Answer},
+            **{f"TRAP_{trap.name}": trap for trap in fugu.Trap if trap},
+            **{reason.name: reason for reason in fugu.Reason},
+        }
+        for name, number in names.items():
+            self.assertEqual(self.numbers.get(name), str(int(number)), name)
+
+    def test_sizes(self) -> None:
+        sizes = {
+            "SIZE": fugu.SIZE, "REPORT": fugu._REPORT, "HEAD": fugu._HEAD, "PAGING": fugu._PAGING, "WHY": fugu._WHY,
+            "HEADER": fugu._HEADER, "FEED_STATE": fugu._FEED_STATE, "TELL_STATE": fugu._TELL_STATE,
+            "FEED_KEPT": fugu._KEPT, "TELL_KEPT": fugu._KEPT, "FEED": fugu._PART, "TELL": fugu._PART,
+            "STOP": fugu._STOP, "WRITTEN": fugu._WRITTEN, "USED": fugu._USED,
+            "ALL_USED": fugu._ALL_USED, "NO_ROOM": fugu._NO_ROOM,
+        }
+        for name, size in sizes.items():
+            self.assertEqual(self.numbers.get(name), str(size), name)
+        self.assertGreater(fugu._ROOM, int(self.numbers["TELL_OUT"]))
+
+
 class Library(unittest.TestCase):
     def imported(self, library: str) -> "subprocess.CompletedProcess[str]":
         environment = {**os.environ, "FUGU_LIBRARY": library}
         command = [sys.executable, "-B", "-c", "import fugu"]
-        return subprocess.run(command, env=environment, cwd=ROOT / "capi" / "python", stderr=subprocess.PIPE, text=True, check=False)
+        folder = ROOT / "capi" / "python"
+        return subprocess.run(command, env=environment, cwd=folder, stderr=subprocess.PIPE, text=True, check=False)
 
     def test_not_there(self) -> None:
         done = self.imported("/nowhere/libfugu.so.0")

@@ -68,12 +68,17 @@ impl<M: AsRef<[u32]> + AsMut<[u32]>> Player<M> {
             kept,
         } = self;
         let memory = memory.as_mut();
-        feed(portion, &mut [0; LINES * FEED_LINE], out, |portion, text| {
-            let mut part = [0; FEED];
-            let told = calls::feed(memory, state, kept, portion, text, &mut part);
-            debug_assert_eq!(told as usize, FEED);
-            part
-        })
+        feed(
+            portion,
+            &mut [0; LINES * FEED_LINE],
+            out,
+            |portion, text| {
+                let mut part = [0; FEED];
+                let told = calls::feed(memory, state, kept, portion, text, &mut part);
+                debug_assert_eq!(told as usize, FEED);
+                part
+            },
+        )
     }
 
     /// The script's end: a line that has begun is its last. The memory back.

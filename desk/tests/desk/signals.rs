@@ -19,8 +19,9 @@ const ASKING: [c_int; 3] = [SIGHUP, SIGINT, SIGTERM];
 
 const F_SETPIPE_SZ: c_int = 1031;
 const FIONREAD: u64 = 0x541b;
-/// The least that a pipe can hold.
-const PIPE: c_int = 4096;
+/// A pipe of two pages: the header takes the first, where nothing else may go.
+const PAGE: c_int = 4096;
+const PIPE: c_int = 2 * PAGE;
 
 extern "C" {
     fn kill(process: c_int, signal: c_int) -> c_int;
@@ -127,7 +128,7 @@ fn held_up(options: &[&str], file: &Path) -> (Child, ChildStdout) {
         .write_all(arrivals().as_bytes())
         .expect("the desk reads");
     let mut filled: c_int = 0;
-    while filled < PIPE {
+    while filled < PAGE {
         thread::sleep(Duration::from_millis(1));
         // It asks how many bytes wait in the pipe.
         assert_eq!(unsafe { ioctl(descriptor, FIONREAD, &mut filled) }, 0);

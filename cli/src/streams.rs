@@ -19,7 +19,7 @@ const O_ACCMODE: c_int = 3;
 const O_RDONLY: c_int = 0;
 const O_WRONLY: c_int = 1;
 const EBADF: c_int = 9;
-const SIGPIPE: c_int = 13;
+pub const SIGPIPE: c_int = 13;
 const SIG_DFL: usize = 0;
 
 extern "C" {
@@ -133,12 +133,12 @@ pub fn reader_is_gone(error: &io::Error) -> bool {
     failed.is_some_and(|failed| failed.stream == OUTPUT) && error.kind() == ErrorKind::BrokenPipe
 }
 
-/// Ends the program as a pipe without a reader ends one that doesn't ask to be spared.
-pub fn end_by_pipe() -> ExitCode {
+/// Ends the program by a signal, as it ends one that doesn't ask to be spared.
+pub fn end_by(number: c_int) -> ExitCode {
     // Both are plain calls; the second does not come back.
     unsafe {
-        signal(SIGPIPE, SIG_DFL);
-        raise(SIGPIPE);
+        signal(number, SIG_DFL);
+        raise(number);
     }
     ExitCode::FAILURE
 }

@@ -59,7 +59,8 @@ impl Checked {
         let plural = if self.lines == 1 { "" } else { "s" };
         let lines = format!("{} line{plural}", self.lines);
         match self.unreadable {
-            0 => format!("{lines}, each can be read"),
+            _ if self.lines == 0 => "no lines: the script is empty".to_string(),
+            0 => format!("{lines}, all can be read"),
             all if all == self.lines => format!("{lines}, none can be read"),
             some => format!("{lines}, {some} of them can't be read"),
         }

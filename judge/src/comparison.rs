@@ -14,6 +14,7 @@ use cli::plain;
 
 use crate::feed::{feed, Feed};
 use crate::node::Report;
+use crate::program::named;
 use crate::script::{self, HEADER};
 
 /// More than the longest line of a listing; of a longer one only so much is looked at.
@@ -107,7 +108,7 @@ fn nothing_wrong(wrong: Vec<Option<String>>) -> Result<(), Difference> {
 }
 
 fn not_started(program: &Command, error: &io::Error) -> Difference {
-    let name = program.get_program().to_string_lossy();
+    let name = named(program.get_program());
     Difference::NotStarted(format!("{name}: {}", plain(error)))
 }
 

@@ -11,6 +11,7 @@ use cli::{plain, print, Command, Done, Failure, Input, Output};
 use judge::dump::{self, Dump, NoNode};
 use judge::memory::SIZE;
 use judge::node::Node;
+use judge::program::named;
 use judge::script::{self, write_listing};
 use judge::state;
 use judge::why;
@@ -159,9 +160,9 @@ fn opened(file: &Path) -> Result<Result<Dump, NoNode>, Failure> {
 }
 
 fn unread(file: &Path, error: &io::Error) -> Failure {
-    Failure::Status(UNREAD, format!("{}: {}", file.display(), plain(error)))
+    Failure::Status(UNREAD, format!("{}: {}", named(file), plain(error)))
 }
 
 fn told(file: &Path, no_node: &NoNode) -> String {
-    format!("{} is no node: {no_node}", file.display())
+    format!("{} is no node: {no_node}", named(file))
 }

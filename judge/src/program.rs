@@ -1,6 +1,7 @@
 //! What the programs share: their arguments, what they tell of a failure, where the project's own program
 //! is, and the scripts that they are measured with.
 
+use std::ffi::OsStr;
 use std::fmt::Display;
 use std::fs;
 use std::io::{self, Write};
@@ -60,9 +61,19 @@ pub fn number(argument: &str) -> Result<u64, Failure> {
         .map_err(|_| Failure::Misused(format!("not a number: {argument}")))
 }
 
-/// What failed of a file or a program, which is named.
-pub fn failed(what: impl Display) -> impl FnOnce(io::Error) -> Failure {
-    move |error| Failure::Wrong(format!("{what}: {}", plain(&error)))
+/// The name of a file or a program in a message, where an empty one can be seen, too.
+pub fn named(name: impl AsRef<OsStr>) -> String {
+    let name = name.as_ref();
+    if name.is_empty() {
+        return "''".to_string();
+    }
+    name.to_string_lossy().into_owned()
+}
+
+/// What failed of a file or a program.
+pub fn failed(name: impl AsRef<OsStr>) -> impl FnOnce(io::Error) -> Failure {
+    let name = named(name);
+    move |error| Failure::Wrong(format!("{name}: {}", plain(&error)))
 }
 
 /// The end of a run that was to meet everything of some kind, by what it missed.
@@ -98,9 +109,9 @@ pub fn fugu(project: &Path) -> Result<PathBuf, Failure> {
     let wrapper = project.join("bin/fugu");
     let mut building = Command::new(&wrapper);
     let building = building.stdin(Stdio::null()).stdout(Stdio::null());
-    let built = building.status().map_err(failed(wrapper.display()))?;
+    let built = building.status().map_err(failed(&wrapper))?;
     if !built.success() {
-        return Err(Failure::Wrong(format!("{}: {built}", wrapper.display())));
+        return Err(Failure::Wrong(format!("{}: {built}", named(&wrapper))));
     }
     Ok(project.join("programs/target/release/fugu"))
 }

@@ -121,7 +121,7 @@ fn bad_number(field: &[u8]) -> Unreadable {
     }
 }
 
-/// The byte of a field that no editor shows, if it has one.
+/// The first byte of a field that the eye doesn't see, if it has one.
 fn stray_byte(field: &[u8]) -> Option<Unreadable> {
     field.iter().find_map(|byte| match byte {
         b'\r' => Some(Unreadable::CarriageReturn),

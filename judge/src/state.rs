@@ -111,8 +111,8 @@ fn queued(place: usize, message: Option<&Message>) -> Line {
 }
 
 fn kept(of: &str, place: &Place) -> Line {
-    let told = format!("length {} words{}", place.length, numbers(&place.words));
-    let told = Some(told).filter(|_| *place != Place::default());
+    let waits = *place != Place::default();
+    let told = waits.then(|| format!("length {} words{}", place.length, numbers(&place.words)));
     Line::new(of, vec![("", Value::Message(told))])
 }
 

@@ -220,7 +220,7 @@ impl Runner {
     }
 
     fn input(&self) -> Result<File, Failure> {
-        File::open(&self.script).map_err(failed(self.script.display()))
+        File::open(&self.script).map_err(failed(&self.script))
     }
 
     /// The instructions for its script, less those for an empty one.
@@ -299,10 +299,10 @@ impl Scratch {
     fn holding(name: &str, script: &[u8]) -> Result<Self, Failure> {
         let name = format!("{}-{}-{name}.script", COMMAND.name, std::process::id());
         let path = std::env::temp_dir().join(name);
-        let mut file = File::create_new(&path).map_err(failed(path.display()))?;
+        let mut file = File::create_new(&path).map_err(failed(&path))?;
         let scratch = Scratch(path);
         let written = file.write_all(script);
-        written.map_err(failed(scratch.0.display()))?;
+        written.map_err(failed(&scratch.0))?;
         Ok(scratch)
     }
 }

@@ -168,7 +168,7 @@ fn told(script: &[u8]) -> String {
 #[test]
 fn every_bad_line_is_told_with_its_number() {
     let script = FLAVOURS[0].script(3, 50);
-    assert_eq!(told(&script), "50 lines, each can be read\n");
+    assert_eq!(told(&script), "50 lines, all can be read\n");
     let long = [b"A,1".as_slice(), &b",7".repeat(100), b"\nM\n"].concat();
     let shown = format!("A,1{},..", ",7".repeat(62));
     let bytes = b"S,\x01\xff\"\\\nM";
@@ -259,4 +259,14 @@ fn a_file_without_newlines_is_told() {
             ]
         );
     }
+}
+
+#[test]
+fn the_examples_of_the_document_are_told_so() {
+    let told_lines = told(b"S, 1\na,1,7\nA,1,7\nE\n");
+    for line in told_lines.lines() {
+        assert!(LISTING.contains(&format!("`{line}`")), "{line}");
+    }
+    let windows = of_the_file(b"\xef\xbb\xbfS,1\r\nM\r\n").join("\n");
+    assert!(LISTING.contains(&format!("\n{windows}\n")), "{windows}");
 }

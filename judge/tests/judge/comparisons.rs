@@ -204,10 +204,12 @@ fn compare_names_the_place_of_a_difference() {
 
 #[test]
 fn compare_names_what_cannot_be_run() {
-    let no_program = compared(Path::new("."), &["100", "1", "/nowhere"]);
-    assert_eq!(no_program.status.code(), Some(1));
-    let told = "compare: /nowhere: No such file or directory\n";
-    assert_eq!(text(&no_program.stderr), told);
+    for (program, name) in [("/nowhere", "/nowhere"), ("", "''")] {
+        let no_program = compared(Path::new("."), &["100", "1", program]);
+        assert_eq!(no_program.status.code(), Some(1));
+        let told = format!("compare: {name}: No such file or directory\n");
+        assert_eq!(text(&no_program.stderr), told);
+    }
     let no_project = compared(Path::new("/nowhere"), &["100", "1"]);
     assert_eq!(no_project.status.code(), Some(1));
     let told = "compare: /nowhere/bin/fugu: No such file or directory\n";

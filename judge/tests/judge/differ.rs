@@ -88,23 +88,24 @@ fn of_lists_the_part_that_differs_is_told() {
     assert!(swapped.contains(&"swap-free from place 0: 0, none".to_string()));
 }
 
-/// The example of docs/DUMPS.md.
+/// A page in another frame among them.
 #[test]
-fn a_page_in_another_frame_is_told() {
-    let rest = "A,1,8,9 S,2 D N S,1 D N";
-    assert_eq!(
-        told(
-            &format!("A,2,5,6 A,1,7 {rest}"),
-            &format!("A,1,7 A,2,5,6 {rest}")
-        ),
-        [
-            "free from place 30: 0, 1",
-            "entry from place 0: 1, 0",
-            "group 1 pages from place 0: f1, f0",
-            "f0 place 1: none, length 2 words 8 9 0 0 0 0 0 0",
-            "f1 place 1: length 2 words 8 9 0 0 0 0 0 0, none",
-        ]
-    );
+fn the_examples_of_the_document_are_told_so() {
+    let document = include_str!("../../../docs/DUMPS.md");
+    let rest = "A,1,8,9 S,2 D N S,1 D";
+    let asleep = format!("A,2,5,6 A,1,7 {rest} N");
+    let turned = format!("A,1,7 A,2,5,6 {rest} N");
+    let unended = format!("A,2,5,6 A,1,7 {rest}");
+    for (one, two, count) in [
+        ("S,1 A,1,7 P,5", "A,1,7 S,1", 7),
+        (&asleep, &turned, 5),
+        (&asleep, &unended, 1),
+    ] {
+        let told = told(one, two);
+        assert_eq!(told.len(), count);
+        let told = format!("\n{}\n```\n", told.join("\n"));
+        assert!(document.contains(&told), "{told}");
+    }
 }
 
 /// Whatever a step changes is told, and nothing else is; the other way round with the values changed about.

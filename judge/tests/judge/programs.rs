@@ -291,11 +291,15 @@ fn judge_tells_why_a_file_holds_no_node() {
 fn judge_tells_a_file_that_it_cannot_read() {
     let folder = PathBuf::from(env!("CARGO_MANIFEST_DIR"));
     let whole = file("whole", &bytes(&memory_after("S,1")));
-    for (path, why) in [
-        (folder.join("no-such-file"), "No such file or directory"),
-        (folder, "Is a directory"),
+    let empty = PathBuf::new();
+    let absent = "No such file or directory";
+    for (path, name, why) in [
+        (folder.join("no-such-file"), None, absent),
+        (folder, None, "Is a directory"),
+        (empty, Some("''"), absent),
     ] {
-        let error = format!("judge: {}: {why}\n", path.display());
+        let name = name.map_or(path.display().to_string(), str::to_string);
+        let error = format!("judge: {name}: {why}\n");
         let unread = (String::new(), error, Some(2));
         assert_eq!(told(&path), unread);
         assert_eq!(differ(&path, &whole), unread);
@@ -470,9 +474,9 @@ fn checked(script: &[u8]) -> Streams {
 fn check_script_tells_each_line_that_cannot_be_read() {
     let told = |told: &str, code| (told.to_string(), String::new(), Some(code));
     let well = b"S,1\nA,1,7\nD";
-    assert_eq!(checked(well), told("3 lines, each can be read\n", 0));
-    assert_eq!(checked(b""), told("0 lines, each can be read\n", 0));
-    assert_eq!(checked(b"M"), told("1 line, each can be read\n", 0));
+    assert_eq!(checked(well), told("3 lines, all can be read\n", 0));
+    assert_eq!(checked(b""), told("no lines: the script is empty\n", 0));
+    assert_eq!(checked(b"M"), told("1 line, all can be read\n", 0));
     let bad = b"S, 1\n\nA,1,7\nA,1,7,x";
     let lines = "line 1, field 2: a blank: S, 1\n\
                  line 2: an empty line\n\

@@ -65,7 +65,7 @@ fn broken(kept: &Kept) -> Option<String> {
     if calls::test(kept.memory()) == 1 {
         return None;
     }
-    let judged = judge::state::read(kept.bytes()).map(Result::err);
+    let judged = judge::dump::read(kept.bytes()).map(Result::err);
     let Ok(Some(no_node)) = judged else {
         return Some("the proved test says so, and the judge finds no clause that fails".into());
     };

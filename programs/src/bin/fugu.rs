@@ -19,7 +19,8 @@ fn main() -> ExitCode {
             let message = "no argument is taken: the script comes on standard input";
             return Err(Failure::Misused(message.to_string()));
         }
-        // It is the prover's.
-        unsafe { programs::play(listing_program) }
+        // It takes nothing.
+        let status = programs::play(|| unsafe { listing_program() })?;
+        Ok(status.into())
     })
 }

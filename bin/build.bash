@@ -3,6 +3,8 @@
 root=$(dirname -- "$(dirname -- "$(readlink -f -- "${BASH_SOURCE[0]}")")")
 name=$(basename -- "$(readlink -f -- "${BASH_SOURCE[1]}")")
 archives=$root/target/staticlib
+# What Rust builds names no file of this folder: a program is the same wherever it was built.
+export CARGO_ENCODED_RUSTFLAGS=--remap-path-prefix=$root=.
 
 # About how many seconds the proof of each crate takes on two cores: as .ci/run told them last, "rt: rules proved (53 s)".
 declare -A takes=([rules]=53 [reasons]=2 [memory]=52 [validate]=37 [node]=43 [script]=49 [follow]=56 [listing]=31 [capi]=31 [why]=43)

@@ -3,7 +3,7 @@
 root=$(dirname -- "$(dirname -- "$(readlink -f -- "${BASH_SOURCE[0]}")")")
 name=$(basename -- "$(readlink -f -- "${BASH_SOURCE[1]}")")
 archives=$root/target/staticlib
-# What Rust builds names no file of this folder: a program is the same wherever it was built.
+# What Rust builds names no file of this folder, which an installed program has nothing to do with.
 export CARGO_ENCODED_RUSTFLAGS=--remap-path-prefix=$root=.
 
 # About how many seconds the proof of each crate takes on two cores: as .ci/run told them last, "rt: rules proved (53 s)".

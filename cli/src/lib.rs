@@ -9,11 +9,11 @@
 mod streams;
 
 use std::env;
-use std::ffi::OsString;
+use std::ffi::{c_int, OsString};
 use std::io::{self, Write};
 use std::process::ExitCode;
 
-pub use streams::{input, output, Input, Output};
+pub use streams::{input, let_pipes_end_it, output, Input, Output};
 
 /// The project's version, and behind it the identity of the toolchain that it was proved with.
 const VERSION: &str = include_str!("../../VERSION");
@@ -35,6 +35,8 @@ pub enum Failure {
     Misused(String),
     /// Any other exit status.
     Status(u8, String),
+    /// A signal asked for the end, by its number: the command ends by it.
+    Signal(c_int),
 }
 
 impl From<io::Error> for Failure {
@@ -66,7 +68,9 @@ impl Command {
 
     fn ended(&self, failure: &Failure) -> ExitCode {
         match failure {
-            Failure::Io(error) if streams::reader_is_gone(error) => streams::end_by_pipe(),
+            Failure::Io(error) if streams::reader_is_gone(error) => {
+                streams::end_by(streams::SIGPIPE)
+            }
             Failure::Io(error) => self.tell(1, &plain(error)),
             Failure::Wrong(message) => self.tell(1, message),
             Failure::Misused(message) => {
@@ -74,13 +78,18 @@ impl Command {
                 self.tell(2, &format!("{message}\n{usage}"))
             }
             Failure::Status(status, message) => self.tell(*status, message),
+            Failure::Signal(number) => streams::end_by(*number),
         }
     }
 
-    /// If standard error fails too, the exit status is all there is to tell.
     fn tell(&self, status: u8, message: &str) -> ExitCode {
-        let _ = writeln!(io::stderr(), "{}: {}", self.name, message.trim_end());
+        self.warn(message);
         ExitCode::from(status)
+    }
+
+    /// A message on standard error. If that fails too, the exit status is all there is to tell.
+    pub fn warn(&self, message: &str) {
+        let _ = writeln!(io::stderr(), "{}: {}", self.name, message.trim_end());
     }
 }
 

@@ -19,7 +19,7 @@ const O_ACCMODE: c_int = 3;
 const O_RDONLY: c_int = 0;
 const O_WRONLY: c_int = 1;
 const EBADF: c_int = 9;
-const SIGPIPE: c_int = 13;
+pub const SIGPIPE: c_int = 13;
 const SIG_DFL: usize = 0;
 
 extern "C" {
@@ -119,6 +119,12 @@ impl Write for Output {
     }
 }
 
+/// From now on a pipe without a reader ends the program that writes to it: the library has it spared.
+pub fn let_pipes_end_it() {
+    // A plain call; there is no handler.
+    unsafe { signal(SIGPIPE, SIG_DFL) };
+}
+
 /// Whether standard output failed since its reader has gone away.
 pub fn reader_is_gone(error: &io::Error) -> bool {
     let failed = error
@@ -127,12 +133,12 @@ pub fn reader_is_gone(error: &io::Error) -> bool {
     failed.is_some_and(|failed| failed.stream == OUTPUT) && error.kind() == ErrorKind::BrokenPipe
 }
 
-/// Ends the program as a pipe without a reader ends one that doesn't ask to be spared.
-pub fn end_by_pipe() -> ExitCode {
+/// Ends the program by a signal, as it ends one that doesn't ask to be spared.
+pub fn end_by(number: c_int) -> ExitCode {
     // Both are plain calls; the second does not come back.
     unsafe {
-        signal(SIGPIPE, SIG_DFL);
-        raise(SIGPIPE);
+        signal(number, SIG_DFL);
+        raise(number);
     }
     ExitCode::FAILURE
 }

@@ -77,6 +77,33 @@ mod raw {
             part: *mut u64,
             part_length: usize,
         ) -> u32;
+        pub fn fugu_header(out: *mut u8, out_length: usize) -> u32;
+        pub fn fugu_feed(
+            memory: *mut u32,
+            memory_length: usize,
+            state: *mut u64,
+            state_length: usize,
+            kept: *mut u8,
+            kept_length: usize,
+            input: *const u8,
+            input_length: usize,
+            out: *mut u8,
+            out_length: usize,
+            part: *mut u64,
+            part_length: usize,
+        ) -> u32;
+        pub fn fugu_feed_end(
+            memory: *mut u32,
+            memory_length: usize,
+            state: *const u64,
+            state_length: usize,
+            kept: *const u8,
+            kept_length: usize,
+            out: *mut u8,
+            out_length: usize,
+            part: *mut u64,
+            part_length: usize,
+        ) -> u32;
     }
 }
 
@@ -206,6 +233,67 @@ pub fn tell_end(
 ) -> u32 {
     unsafe {
         raw::fugu_tell_end(
+            memory.as_mut_ptr(),
+            memory.len(),
+            state.as_ptr(),
+            state.len(),
+            kept.as_ptr(),
+            kept.len(),
+            out.as_mut_ptr(),
+            out.len(),
+            part.as_mut_ptr(),
+            part.len(),
+        )
+    }
+}
+
+/// The listing's first line, with its newline, goes into the output. Where that is too short, 0 is returned
+/// and nothing has changed.
+pub fn header(out: &mut [u8]) -> u32 {
+    unsafe { raw::fugu_header(out.as_mut_ptr(), out.len()) }
+}
+
+/// The next portion of a script, of which a state and a kept line of zeros have read nothing: the lines that
+/// it completes are stepped on the memory and listed in the output, and into the part go why it stopped, how
+/// many bytes were written and how many of the portion used. Where the state, the kept line or the part is too
+/// short, 0 is returned and nothing has changed.
+pub fn feed(
+    memory: &mut [u32],
+    state: &mut [u64],
+    kept: &mut [u8],
+    input: &[u8],
+    out: &mut [u8],
+    part: &mut [u64],
+) -> u32 {
+    unsafe {
+        raw::fugu_feed(
+            memory.as_mut_ptr(),
+            memory.len(),
+            state.as_mut_ptr(),
+            state.len(),
+            kept.as_mut_ptr(),
+            kept.len(),
+            input.as_ptr(),
+            input.len(),
+            out.as_mut_ptr(),
+            out.len(),
+            part.as_mut_ptr(),
+            part.len(),
+        )
+    }
+}
+
+/// The script's end: a line that has begun is its last. Into the part go why it stopped and how many bytes
+/// were written.
+pub fn feed_end(
+    memory: &mut [u32],
+    state: &[u64],
+    kept: &[u8],
+    out: &mut [u8],
+    part: &mut [u64],
+) -> u32 {
+    unsafe {
+        raw::fugu_feed_end(
             memory.as_mut_ptr(),
             memory.len(),
             state.as_ptr(),

@@ -12,10 +12,7 @@ const NEW: &str = ".node.desk-new";
 /// A desk that has played the script and waits for more.
 fn waiting(file: &Path) -> Talk {
     let mut talk = Talk::begin(file);
-    talk.say(SCRIPT.as_bytes());
-    for line in LISTING.lines().skip(1) {
-        talk.answered(line);
-    }
+    talk.plays();
     talk
 }
 

@@ -3,7 +3,9 @@
 use std::fs;
 use std::os::unix::fs::{MetadataExt, PermissionsExt};
 
-use crate::support::{after, bytes, desk, listed, Folder, LISTING, SCRIPT};
+use fugu::SIZE;
+
+use crate::support::{after, bytes, desk, desk_with, listed, told, Folder, LISTING, SCRIPT};
 
 const HEADER: &str = "line,answer,value,trap,upcall,moved\n";
 
@@ -89,43 +91,60 @@ fn words_behind_a_node_are_kept() {
     }
 }
 
-#[test]
-fn no_node_is_answered_1_and_left() {
-    let folder = Folder::new("no_node");
+/// Each line is answered 1, one line on standard error says which clause fails, and the file stays as it is.
+fn no_node(folder: &Folder, before: &[u8], clause: &str) {
     let file = folder.path("node");
-    let memory = after(SCRIPT);
-    let changed = |at: usize, word: u32| {
-        let mut memory = memory.clone();
-        memory[at] = word;
-        bytes(&memory)
-    };
-    let whole = bytes(&memory);
-    let ragged = |more: &[u8]| [&whole[..], more].concat();
-    let files = [
-        // A flag of 2, a ninth group, a frame that stands twice; a length behind the last message, a
-        // word in a free frame and one in a free swap page.
-        changed(196, 2),
-        changed(0, 9),
-        changed(164, 2),
-        changed(1101, 1),
-        changed(1165, 7),
-        changed(8003, 7),
-        vec![0; whole.len()],
-        Vec::new(),
-        vec![0],
-        whole[..whole.len() - 4].to_vec(),
-        whole[..whole.len() - 1].to_vec(),
-        ragged(&[0]),
-        ragged(&[0, 0, 0]),
-        ragged(&[0; 4001]),
-    ];
-    for before in files {
-        fs::write(&file, &before).unwrap();
-        let known = fs::metadata(&file).unwrap();
-        let refused = "1,1,0,0,0,0\n2,1,0,0,0,0\n3,1,0,0,0,0\n4,1,0,0,0,0\n";
-        listed(&desk(&file, "S,1\nM\n\nQ"), &format!("{HEADER}{refused}"));
+    fs::write(&file, before).unwrap();
+    let known = fs::metadata(&file).unwrap();
+    let refused = "1,1,0,0,0,0\n2,1,0,0,0,0\n3,1,0,0,0,0\n4,1,0,0,0,0\n";
+    for options in [&[][..], &["--keep"]] {
+        let ended = desk_with(options, &file, "S,1\nM\n\nQ");
+        told(&ended, &format!("node is no node: {clause}"));
+        assert_eq!(ended.status.code(), Some(3));
+        assert_eq!(
+            String::from_utf8_lossy(&ended.stdout),
+            format!("{HEADER}{refused}")
+        );
         assert!(fs::read(&file).unwrap() == before);
         assert_eq!(fs::metadata(&file).unwrap().ino(), known.ino());
         assert_eq!(folder.names(), ["node"]);
+    }
+}
+
+#[test]
+fn no_node_by_a_word() {
+    let folder = Folder::new("no_node_by_a_word");
+    let clause = "this does not hold: ";
+    for (at, word, broken) in [
+        (196, 2, "flags are 0 or 1 (word 196, atomic of group 1: 2)"),
+        (0, 9, "running is 0 to 8 (word 0, the running group: 9)"),
+        (
+            164,
+            2,
+            "each frame stands once (word 164, place 0 of the free line: 2; and 1 more)",
+        ),
+        (1101, 1, "places behind the last message are 0 (word 1101, "),
+        (1165, 7, "free frames are 0 (word 1165, "),
+        (8003, 7, "free swap pages are 0 (word 8003, "),
+    ] {
+        let mut memory = after(SCRIPT);
+        memory[at] = word;
+        no_node(&folder, &bytes(&memory), &format!("{clause}{broken}"));
+    }
+    no_node(&folder, &vec![0; 4 * SIZE], "this does not hold: each ");
+}
+
+#[test]
+fn no_node_by_its_length() {
+    let folder = Folder::new("no_node_by_its_length");
+    let whole = bytes(&after(SCRIPT));
+    let longer = [&whole[..], &[0; 4001]].concat();
+    for length in [0, 1, 3, 4, whole.len() - 4, whole.len() - 1] {
+        let short = format!("memory too short: {} words, a node has 8104\n", length / 4);
+        no_node(&folder, &whole[..length], &short);
+    }
+    for length in [1, 3, 4001].map(|more| whole.len() + more) {
+        let ragged = format!("the last word is cut short: {length} bytes\n");
+        no_node(&folder, &longer[..length], &ragged);
     }
 }

@@ -69,15 +69,45 @@ fn a_folder_and_a_device() {
 fn no_such_folder() {
     let folder = Folder::new("no_such_folder");
     fs::write(folder.path("node"), "").unwrap();
-    failed(&desk(&folder.path("none/node"), SCRIPT), "No such file");
+    failed(
+        &desk(&folder.path("none/node"), SCRIPT),
+        "no_such_folder/none: No such file",
+    );
     failed(&desk(&folder.path("node/node"), SCRIPT), "Not a directory");
-    failed(&desk(Path::new(""), SCRIPT), "");
+    failed(
+        &desk(Path::new(""), SCRIPT),
+        "the name of the file is empty",
+    );
     assert_eq!(folder.names(), ["node"]);
 }
 
+/// The new file beside it has 10 bytes more.
 #[test]
 fn a_name_too_long() {
     let folder = Folder::new("a_name_too_long");
-    failed(&desk(&folder.path(&"n".repeat(250)), SCRIPT), "too long");
+    for length in [246, 247, 250, 255] {
+        let file = folder.path(&"n".repeat(length));
+        failed(&desk(&file, SCRIPT), "n: the name is too long: ");
+    }
+    failed(&desk(&folder.path(&"n".repeat(256)), SCRIPT), "too long");
     assert!(folder.names().is_empty());
+    listed(&desk(&folder.path(&"n".repeat(245)), SCRIPT), LISTING);
+}
+
+/// Under the other it would stay as it is.
+#[test]
+fn two_names_of_one_file() {
+    let folder = Folder::new("two_names_of_one_file");
+    let before = bytes(&after(""));
+    fs::write(folder.path("node"), &before).unwrap();
+    fs::hard_link(folder.path("node"), folder.path("other")).unwrap();
+    for name in ["node", "other"] {
+        let refused = desk(&folder.path(name), SCRIPT);
+        failed(&refused, "has 2 names (hard links)");
+        assert!(refused.stdout.is_empty());
+        assert_eq!(fs::read(folder.path(name)).unwrap(), before);
+    }
+    assert_eq!(folder.names(), ["node", "other"]);
+    fs::remove_file(folder.path("other")).unwrap();
+    listed(&desk(&folder.path("node"), SCRIPT), LISTING);
 }

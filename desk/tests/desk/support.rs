@@ -2,6 +2,7 @@
 
 use std::fs;
 use std::io::{BufRead, BufReader, Write};
+use std::os::unix::process::ExitStatusExt;
 use std::path::{Path, PathBuf};
 use std::process::{Child, Command, Output, Stdio};
 use std::sync::mpsc::{self, Receiver};
@@ -50,9 +51,18 @@ impl Drop for Folder {
     }
 }
 
-pub fn piped(file: &Path) -> Child {
-    Command::new(DESK)
-        .arg(file)
+/// A desk that no signal is kept from, whatever runs the tests.
+pub fn command(options: &[&str], file: &Path) -> Command {
+    let mut command = Command::new("env");
+    command
+        .args(["--default-signal=HUP,INT,TERM", DESK])
+        .args(options)
+        .arg(file);
+    command
+}
+
+pub fn piped(command: &mut Command) -> Child {
+    command
         .stdin(Stdio::piped())
         .stdout(Stdio::piped())
         .stderr(Stdio::piped())
@@ -69,7 +79,11 @@ pub struct Talk {
 impl Talk {
     /// One that has its file: the header has come.
     pub fn begin(file: &Path) -> Talk {
-        let mut child = piped(file);
+        Talk::by(&mut command(&[], file))
+    }
+
+    pub fn by(command: &mut Command) -> Talk {
+        let mut child = piped(command);
         let output = BufReader::new(child.stdout.take().expect("the output is piped"));
         let (sender, lines) = mpsc::channel();
         thread::spawn(move || {
@@ -93,6 +107,22 @@ impl Talk {
         assert_eq!(line.as_deref(), Ok(listed));
     }
 
+    /// The desk plays the script, and waits for more.
+    pub fn plays(&mut self) {
+        self.say(SCRIPT.as_bytes());
+        for line in LISTING.lines().skip(1) {
+            self.answered(line);
+        }
+    }
+
+    /// The desk ends, its script open.
+    pub fn end_later(mut self) -> Output {
+        let input = self.child.stdin.take();
+        let output = self.child.wait_with_output().expect("desk ends");
+        drop(input);
+        output
+    }
+
     /// The script ends.
     pub fn end(self) -> Output {
         self.child.wait_with_output().expect("desk ends")
@@ -100,7 +130,11 @@ impl Talk {
 }
 
 pub fn desk(file: &Path, script: impl AsRef<[u8]>) -> Output {
-    let mut child = piped(file);
+    desk_with(&[], file, script)
+}
+
+pub fn desk_with(options: &[&str], file: &Path, script: impl AsRef<[u8]>) -> Output {
+    let mut child = piped(&mut command(options, file));
     let mut input = child.stdin.take().expect("the input is piped");
     // One that is refused may be gone before it is written to.
     let _ = input.write_all(script.as_ref());
@@ -115,14 +149,26 @@ pub fn listed(output: &Output, listing: &str) {
     assert_eq!(String::from_utf8_lossy(&output.stdout), listing);
 }
 
-/// Ended with status 1 and a message that says this.
+/// Ended with status 1 and one line that says this.
 pub fn failed(output: &Output, message: &str) {
+    assert_eq!(output.status.code(), Some(1));
+    told(output, message);
+}
+
+/// One line on standard error says this.
+pub fn told(output: &Output, message: &str) {
     let told = String::from_utf8_lossy(&output.stderr);
     assert!(
-        told.starts_with("desk: ") && told.contains(message),
+        told.starts_with("desk: ") && told.contains(message) && !told.contains("os error"),
         "{told}"
     );
-    assert_eq!(output.status.code(), Some(1));
+    assert_eq!(told.lines().count(), 1, "{told}");
+}
+
+/// Ended by a signal, and without a word.
+pub fn ended_by(output: &Output, signal: i32) {
+    assert_eq!(String::from_utf8_lossy(&output.stderr), "");
+    assert_eq!(output.status.signal(), Some(signal));
 }
 
 pub fn bytes(memory: &[u32]) -> Vec<u8> {

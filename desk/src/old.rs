@@ -1,0 +1,71 @@
+//! The file as it was read.
+
+use std::fs::{File, Metadata, OpenOptions};
+use std::io::{self, Read};
+use std::os::unix::fs::{FileExt, MetadataExt};
+use std::path::Path;
+
+use fugu::SIZE;
+
+use crate::kept::{existing, of, Told};
+
+const WORD_BYTES: usize = 4;
+
+/// The file as it was read, which stays open: no other file gets its number meanwhile.
+#[derive(Debug)]
+pub struct Old {
+    /// Read as far as a node goes.
+    pub file: File,
+    pub known: Metadata,
+    pub bytes: Vec<u8>,
+}
+
+impl Old {
+    /// None where there is no file. One with more names than one is refused: the others would keep the
+    /// old memory.
+    pub fn read(place: &Path, name: &str) -> Told<Option<Old>> {
+        let opened = existing(OpenOptions::new().read(true).write(true).open(place))
+            .map_err(of(format!("{name} can't be read and written")))?;
+        let Some(mut file) = opened else {
+            return Ok(None);
+        };
+        let known = file.metadata().map_err(of(name))?;
+        if known.nlink() > 1 {
+            let names = known.nlink();
+            let told = format!(
+                "{name} has {names} names (hard links): under the others it would stay as it is"
+            );
+            return Err(told);
+        }
+        let mut bytes = Vec::new();
+        let node = (WORD_BYTES * SIZE) as u64;
+        let read = file.by_ref().take(node).read_to_end(&mut bytes);
+        read.map_err(of(name))?;
+        Ok(Some(Old { file, known, bytes }))
+    }
+
+    pub fn memory(&self) -> Vec<u32> {
+        if self.known.len() % WORD_BYTES as u64 != 0 {
+            return Vec::new();
+        }
+        let words = self.bytes.chunks_exact(WORD_BYTES);
+        words
+            .map(|word| u32::from_le_bytes(word.try_into().expect("the bytes of a word")))
+            .collect()
+    }
+
+    /// Whether nothing was done to it. Its times tell of every change but one within the same tick of the
+    /// clock as the one before; its bytes tell of that one.
+    pub fn is_as_read(&self, now: &Metadata) -> io::Result<bool> {
+        let stamp = |of: &Metadata| {
+            let changed = (of.ctime(), of.ctime_nsec());
+            (of.len(), of.mtime(), of.mtime_nsec(), changed)
+        };
+        if stamp(&self.known) != stamp(now) {
+            return Ok(false);
+        }
+        let mut bytes = vec![0; self.bytes.len()];
+        self.file.read_exact_at(&mut bytes, 0)?;
+        Ok(bytes == self.bytes)
+    }
+}

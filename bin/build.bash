@@ -54,7 +54,7 @@ run() {
     local folder=$root/$1 program=$root/$1/target/release/$2 built=$root/$1/target/built before=$EPOCHREALTIME
     local sources=("$folder")
     case $1 in
-    capi/rust) sources+=("$archive") ;;
+    desk) sources+=("$archive" "$root/capi/rust" "$root/judge" "$root/cli" "$root/bin/help/desk") ;;
     trials) sources+=("$archive" "$root/capi/rust" "$root/judge") ;;
     esac
     if [[ ! -x $program ]] || is_older "$built" "${sources[@]}"; then

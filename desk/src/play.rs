@@ -21,7 +21,7 @@ pub fn play(
 ) -> (Vec<u32>, Result<(), Failure>) {
     let listed = Player::over(memory);
     let mut playing = Playing { listed, output };
-    let played = playing.to_the_end(&mut input);
+    let played = playing.run(&mut input);
     (playing.listed.into_memory(), played)
 }
 
@@ -35,7 +35,7 @@ struct Playing<O> {
 type Cut = (usize, Failure);
 
 impl<O: Write> Playing<O> {
-    fn to_the_end(&mut self, input: &mut impl Read) -> Result<(), Failure> {
+    fn run(&mut self, input: &mut impl Read) -> Result<(), Failure> {
         self.write(&header()).map_err(|(_, failure)| failure)?;
         let mut portion = vec![0; PORTION];
         loop {

@@ -98,22 +98,18 @@ impl Kept {
         }
         let old = self.old.as_mut().map(|old| &mut old.file);
         self.new.fill(memory, old).map_err(of(&self.name))?;
-        let done = self.done_to_it()?;
-        let taken = match done {
-            None => self.new.take(self.place.clone()),
-            Some(_) => self.new.set_aside(&self.place),
+        let Some(done) = self.done_to_it()? else {
+            self.new.take(&self.place).map_err(of(&self.name))?;
+            // The one failure behind which the file is the new one.
+            let told = format!("{} is written, but its folder not synced", self.name);
+            return self.folder.sync_all().map_err(of(told));
         };
-        let (name, taken) = (&self.name, taken.map_err(of(&self.name))?);
-        let taken = taken.display();
-        // The one failure behind which the file is the new one.
-        let synced = self.folder.sync_all();
-        synced.map_err(of(format!("{taken} is written, but its folder not synced")))?;
-        match done {
-            None => Ok(()),
-            Some(done) => Err(format!(
-                "{name} {done} while the desk was open: its new memory is in {taken}"
-            )),
-        }
+        let told = format!("{} {done} while the desk was open", self.name);
+        let aside = self.new.set_aside(&self.place);
+        let aside = aside.and_then(|aside| self.folder.sync_all().map(|()| aside));
+        let failed = format!("{told}, and its new memory can't be put beside it");
+        let aside = aside.map_err(of(failed))?;
+        Err(format!("{told}: its new memory is in {}", aside.display()))
     }
 
     /// What others did to the file since it was read.

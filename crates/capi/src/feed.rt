@@ -67,8 +67,8 @@ pub extern "C" fn fugu_feed_end(
     if !lent(SCRIPT, state.len(), kept.len(), part.len(), END) {
         return 0;
     }
-    let f = feed_end(memory, load_script(state, kept), out);
-    part[0] = f.stop as u64;
-    part[1] = f.written as u64;
+    let e = feed_end(memory, load_script(state, kept), out);
+    part[0] = e.stop as u64;
+    part[1] = e.written as u64;
     END
 }

@@ -6,7 +6,7 @@ use mathlib.Core.Bool.{Bool, true, false, true≢false, cond}
 use mathlib.Core.List.{List, [], _∷_, _++_, append-assoc, append-nil}
 use mathlib.Core.Path.{_≡_, _∙_, refl, sym, ap, subst}
 use lib.IntN.{ℤ, pos, negsuc}
-use lib.ListN.{length, take, drop, length-drop}
+use lib.ListN.{length, replicate, take, drop, length-drop, length-replicate}
 use lib.Seq.{take-add}
 use lib.Signed.{ltZ}
 use borrow.Author.Tests.{le-leb}
@@ -32,7 +32,7 @@ use Rattle.script.specs.declared.feed.State.{State as State·rt}
 use Rattle.script.proofs.PortionLaws.{whole-nil}
 use Rattle.script.proofs.PortionsLaws.{ended-by, feeds-append, kept-begun, listed-append, memory-append, portions-listed, state-append, used-append}
 use Rattle.script.proofs.feed.FedLaws.{fed-forward, fed-inside, fed-numbers}
-use Rattle.listing.specs.Run.{Ends, Finishes, GoesOn, Played, Plays, PlaysAll, Reaches, RunListed, Runs, TakesIn, Turns, listedBy}
+use Rattle.listing.specs.Run.{Ends, Exits, Finishes, GoesOn, Plays, PlaysAll, Reaches, RunListed, Runs, TakesIn, Turns, listedBy}
 use Rattle.listing.specs.declared.Run.{Run as Run·rt}
 
 -- no call
@@ -162,30 +162,41 @@ pub run-listed : RunListed
 unfolding listedBy reach-more
 run-listed =
     record {
-      listed = λ p.
+      listed = λ m long p.
           let e = p .ends in
           let r = e .reaches in
           let all = reach-more r (e .finishes .reaches) in
           let kept : keptLine (e .state) ≡ take keptRoom (begun (e .script)) =
-          ap keptLine (sym (r .state)) ∙ kept-begun (r .calls) (powerOnMemory (p .memory) .memory) [] (p .state) whole-nil (p .no-line) (r .fed)
+          ap keptLine (sym (r .state)) ∙ kept-begun (r .calls) (powerOnMemory m .memory) [] (p .state) whole-nil (p .no-line) (r .fed)
           ∙ ap (λ (x : List ℕ). take keptRoom (begun x)) (r .used) in
           ap (λ (x : List ℕ). header ++ x) (sym (listed-append (r .calls) (e .finishes .reaches .calls)))
-          ∙ portions-listed .listed (p .memory) (e .script) (p .state) (all .calls) (p .long) (p .no-lines) (p .no-line) (all .fed)
+          ∙ portions-listed .listed m (e .script) (p .state) (all .calls) long (p .no-lines) (p .no-line) (all .fed)
           (all .used ∙ ended-by (e .script) (e .state) kept);
     }
 
--- From power-on, where all went well up to the end of the input.
-pub played : (m : List ℕ) {m₀ m′ : List ℕ} {st : State·rt} {run : Run·rt} → size ≤ length m → m₀ ≡ replaced (powerOn paper01) m → (st .lines ≡ 0) × (keptLine st ≡ [])
-    → Runs m₀ st m′ run → run .ended ≡ true
-    → Played
-played m {m₀} {m′} {st} {run} long started new runs ended =
+-- What the exit status says.
+
+-- 0: from power-on all went well up to the end of the input
+pub exits-well : (m : List ℕ) {m₀ m′ : List ℕ} {st : State·rt} {run : Run·rt} {status : ℕ} → size ≤ length m → m₀ ≡ replaced (powerOn paper01) m
+    → (st .lines ≡ 0) × (keptLine st ≡ [])
+    → Runs m₀ st m′ run
+    → run .ended ≡ true
+    → Exits status
+exits-well m {m₀} {m′} {st} {run} long started new runs ended =
     record {
       memory = m;
       long = long;
-      state = st;
-      no-lines = new .0;
-      no-line = new .1;
-      memory′ = m′;
-      run = run;
-      ends = subst (λ (x : List ℕ). Ends x st m′ run) (started ∙ sym (power-on-tested m (le-leb size (length m) long))) (runs .ends ended);
+      played = λ _.
+          record {
+            state = st;
+            no-lines = new .0;
+            no-line = new .1;
+            memory = m′;
+            run = run;
+            ends = subst (λ (x : List ℕ). Ends x st m′ run) (started ∙ sym (power-on-tested m (le-leb size (length m) long))) (runs .ends ended);
+          };
     }
+
+-- anything else
+pub exits-badly : {status : ℕ} → 0 < status → Exits status
+exits-badly bad = let l = length-replicate {A = ℕ} size 0 in record { memory = replicate size 0; long = omega arith; played = λ e. absurd (omega arith) }

@@ -78,17 +78,21 @@ pub record Runs (m : List ℕ) (st : State·rt) (m′ : List ℕ) (run : Run·rt
 unfoldable pub listedBy : {m : List ℕ} {st : State·rt} {m′ : List ℕ} {run : Run·rt} → Ends m st m′ run → List ℕ
 listedBy e = listedBytes (e .reaches .calls) ++ listedBytes (e .finishes .reaches .calls)
 
--- from power-on and a new state, a run up to the end of its input: what the program has done where its exit status is 0
-pub record Played : Type 0 where
-  pub memory : List ℕ
-  pub long : size ≤ length memory
+-- from power-on and a new state, a run up to the end of its input
+pub record Played (m : List ℕ) : Type 0 where
   pub state : State·rt
   pub no-lines : state .lines ≡ 0
   pub no-line : keptLine state ≡ []
-  pub memory′ : List ℕ
+  pub memory : List ℕ
   pub run : Run·rt
-  pub ends : Ends (powerOnMemory memory .memory) state memory′ run
+  pub ends : Ends (powerOnMemory m .memory) state memory run
+
+-- what the program has done where its exit status is 0
+pub record Exits (status : ℕ) : Type 0 where
+  pub memory : List ℕ
+  pub long : size ≤ length memory
+  pub played : status ≡ 0 → Played memory
 
 -- "every script has its one listing": its calls have listed, behind the header, what the rules list of the script that the reads brought
 pub record RunListed : Type 0 where
-  pub listed : (p : Played) → header ++ listedBy (p .ends) ≡ listing (p .ends .script)
+  pub listed : (m : List ℕ) → size ≤ length m → (p : Played m) → header ++ listedBy (p .ends) ≡ listing (p .ends .script)

@@ -15,7 +15,7 @@ ghost use Prim.Native.Nat.{_≤_, _<_};
 ghost use lib.ListN.{length};
 ghost use Rattle.libc.specs.Io.{Moved};
 ghost use Rattle.script.specs.Written.{lineRoom};
-ghost use Rattle.listing.specs.Run.{Plays, PlaysAll, Finishes, TakesIn, Turns, Runs, Played};
+ghost use Rattle.listing.specs.Run.{Plays, PlaysAll, Finishes, TakesIn, Turns, Runs, Exits};
 
 // How many bytes are read at a time, and how many the output holds.
 const PORTION: usize = 65536;
@@ -165,7 +165,7 @@ fn play_script(memory: &mut [u32], state: State, input: &mut [u8], out: &mut [u8
 // error why not.
 #[no_mangle]
 pub extern "C" fn listing_program() -> u32
-    ensures { λ status. ⌜ (status ≡ 0 → Played) ⌝ }
+    ensures { λ status. ⌜ Exits status ⌝ }
 {
     let mut memory = [0u32; SIZE];
     let mut input = [0u8; PORTION];

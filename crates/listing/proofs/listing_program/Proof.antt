@@ -4,7 +4,7 @@ use mathlib.Core.Path.{sym}
 use lib.Seq.{length-take-le}
 use borrow.Author.Tests.{not-false}
 use Rattle.script.proofs.write.ListingLaws.{header-length}
-use Rattle.listing.proofs.RunLaws.{played}
+use Rattle.listing.proofs.RunLaws.{exits-badly, exits-well}
 use borrow.Author.Needs.{needs}
 use Rattle.listing.proofs.listing_program.Statement.{statement}
 use Rattle.listing.proofs.listing_program.Tie as tie
@@ -31,7 +31,7 @@ put-requires : tie.Need-put-requires
 put-requires c κs = search needs
 
 returns : tie.Need-returns
-returns c e = absurd (omega arith)
+returns c = exits-badly (omega arith)
 
 slice-aggregate-play-script : tie.Need-slice-aggregate-play-script
 slice-aggregate-play-script c = search needs
@@ -49,7 +49,7 @@ play-script-requires : tie.Need-play-script-requires
 play-script-requires c κs = search needs
 
 returns-2 : tie.Need-returns-2
-returns-2 c e = absurd (omega arith)
+returns-2 c = exits-badly (omega arith)
 
 slice-aggregate-write-all : tie.Need-slice-aggregate-write-all
 slice-aggregate-write-all c = search needs
@@ -58,14 +58,14 @@ write-all-requires : tie.Need-write-all-requires
 write-all-requires c κs = search needs
 
 returns-3 : tie.Need-returns-3
-returns-3 c e = absurd (omega arith)
+returns-3 c = exits-badly (omega arith)
 
 returns-4 : tie.Need-returns-4
-returns-4 c e =
+returns-4 c =
     let played-script = c .before .before .before .before .before .before .before in
     let new = played-script .before .before .before in
     let start = new .before .before .before .before .before .before .before .before .before in
-    played _ (search needs) (start .start .ensures) (new .new .ensures) (played-script .play-script .ensures (not-false _ (c .before .before .if2 .left)))
+    exits-well _ (search needs) (start .start .ensures) (new .new .ensures) (played-script .play-script .ensures (not-false _ (c .before .before .if2 .left)))
     (not-false _ (c .if3 .left))
 
 pub listing-program-spec : {M : Type 1} → statement M

@@ -11,7 +11,7 @@
 //! not as it was read is left alone, and the new file gets a name beside it instead.
 
 use std::fs::{self, File, Metadata};
-use std::io::{self, ErrorKind, Read};
+use std::io::{self, ErrorKind};
 use std::os::unix::fs::MetadataExt;
 use std::path::{Path, PathBuf};
 
@@ -79,14 +79,9 @@ impl Kept {
         &self.memory
     }
 
-    /// The bytes of the file, those behind a node as zeros; none where there is no file.
-    pub fn bytes(&self) -> impl Read + '_ {
-        let (bytes, length) = match &self.old {
-            Some(old) => (&old.bytes[..], old.known.len()),
-            None => (&[][..], 0),
-        };
-        let behind = length.saturating_sub(bytes.len() as u64);
-        bytes.chain(io::repeat(0).take(behind))
+    /// Where the file stands.
+    pub fn place(&self) -> &Path {
+        &self.place
     }
 
     /// Makes these words the file's first, and keeps those behind them. A file that has them

@@ -18,7 +18,7 @@ pub struct Old {
     /// Read as far as a node goes.
     pub file: File,
     pub known: Metadata,
-    pub bytes: Vec<u8>,
+    bytes: Vec<u8>,
 }
 
 impl Old {

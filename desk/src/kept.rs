@@ -11,7 +11,7 @@
 //! not as it was read is left alone, and the new file gets a name beside it instead.
 
 use std::fs::{self, File, Metadata};
-use std::io::{self, ErrorKind, Read};
+use std::io::{self, ErrorKind};
 use std::os::unix::fs::MetadataExt;
 use std::path::{Path, PathBuf};
 
@@ -79,14 +79,9 @@ impl Kept {
         &self.memory
     }
 
-    /// The bytes of the file, those behind a node as zeros; none where there is no file.
-    pub fn bytes(&self) -> impl Read + '_ {
-        let (bytes, length) = match &self.old {
-            Some(old) => (&old.bytes[..], old.known.len()),
-            None => (&[][..], 0),
-        };
-        let behind = length.saturating_sub(bytes.len() as u64);
-        bytes.chain(io::repeat(0).take(behind))
+    /// Where the file stands.
+    pub fn place(&self) -> &Path {
+        &self.place
     }
 
     /// Makes these words the file's first, and keeps those behind them. A file that has them
@@ -98,22 +93,18 @@ impl Kept {
         }
         let old = self.old.as_mut().map(|old| &mut old.file);
         self.new.fill(memory, old).map_err(of(&self.name))?;
-        let done = self.done_to_it()?;
-        let taken = match done {
-            None => self.new.take(self.place.clone()),
-            Some(_) => self.new.set_aside(&self.place),
+        let Some(done) = self.done_to_it()? else {
+            self.new.take(&self.place).map_err(of(&self.name))?;
+            // The one failure behind which the file is the new one.
+            let told = format!("{} is written, but its folder not synced", self.name);
+            return self.folder.sync_all().map_err(of(told));
         };
-        let (name, taken) = (&self.name, taken.map_err(of(&self.name))?);
-        let taken = taken.display();
-        // The one failure behind which the file is the new one.
-        let synced = self.folder.sync_all();
-        synced.map_err(of(format!("{taken} is written, but its folder not synced")))?;
-        match done {
-            None => Ok(()),
-            Some(done) => Err(format!(
-                "{name} {done} while the desk was open: its new memory is in {taken}"
-            )),
-        }
+        let told = format!("{} {done} while the desk was open", self.name);
+        let aside = self.new.set_aside(&self.place);
+        let aside = aside.and_then(|aside| self.folder.sync_all().map(|()| aside));
+        let failed = format!("{told}, and its new memory can't be put beside it");
+        let aside = aside.map_err(of(failed))?;
+        Err(format!("{told}: its new memory is in {}", aside.display()))
     }
 
     /// What others did to the file since it was read.

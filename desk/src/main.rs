@@ -65,11 +65,10 @@ fn broken(kept: &Kept) -> Option<String> {
     if calls::test(kept.memory()) == 1 {
         return None;
     }
-    let judged = judge::dump::read(kept.bytes()).map(Result::err);
-    let Ok(Some(no_node)) = judged else {
-        return Some("the proved test says so, and the judge finds no clause that fails".into());
-    };
-    Some(in_a_line(&no_node.to_string()))
+    Some(match judge::dump::open(kept.place()) {
+        Ok(Err(no_node)) => in_a_line(&no_node.to_string()),
+        _ => "the proved test says so, and the judge finds no clause that fails".to_string(),
+    })
 }
 
 /// The clause, the first word that breaks it, and how many more do.

@@ -88,15 +88,14 @@ impl New {
         self.file.sync_all()
     }
 
-    /// Takes a name, from whatever has it, and tells it.
-    pub fn take(&self, place: PathBuf) -> io::Result<PathBuf> {
+    /// Takes a name, from whatever has it.
+    pub fn take(&self, place: &Path) -> io::Result<()> {
         // Somebody may have tidied it away, and another desk made one of the same name.
         if !self.stands()? {
             let message = format!("{} is gone", self.path.display());
             return Err(io::Error::other(message));
         }
-        fs::rename(&self.path, &place)?;
-        Ok(place)
+        fs::rename(&self.path, place)
     }
 
     /// Takes the first name of the kind FILE.desk-1 that nothing has, and tells it.
@@ -109,9 +108,11 @@ impl New {
                 Err(error) if error.kind() == ErrorKind::AlreadyExists => number += 1,
                 made => {
                     made?;
-                    return self.take(aside.clone()).inspect_err(|_| {
+                    let taken = self.take(&aside);
+                    if taken.is_err() {
                         let _ = fs::remove_file(&aside);
-                    });
+                    }
+                    return taken.map(|()| aside);
                 }
             }
         }

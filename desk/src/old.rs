@@ -1,7 +1,7 @@
 //! The file as it was read.
 
 use std::fs::{File, Metadata, OpenOptions};
-use std::io::{self, Read};
+use std::io::{self, ErrorKind, Read};
 use std::os::unix::fs::{FileExt, MetadataExt};
 use std::path::Path;
 
@@ -10,6 +10,7 @@ use fugu::SIZE;
 use crate::kept::{existing, of, Told};
 
 const WORD_BYTES: usize = 4;
+const NODE: usize = WORD_BYTES * SIZE;
 
 /// The file as it was read, which stays open: no other file gets its number meanwhile.
 #[derive(Debug)]
@@ -17,7 +18,7 @@ pub struct Old {
     /// Read as far as a node goes.
     pub file: File,
     pub known: Metadata,
-    pub bytes: Vec<u8>,
+    bytes: Vec<u8>,
 }
 
 impl Old {
@@ -37,15 +38,14 @@ impl Old {
             );
             return Err(told);
         }
-        let mut bytes = Vec::new();
-        let node = (WORD_BYTES * SIZE) as u64;
-        let read = file.by_ref().take(node).read_to_end(&mut bytes);
+        let mut bytes = Vec::with_capacity(NODE);
+        let read = file.by_ref().take(NODE as u64).read_to_end(&mut bytes);
         read.map_err(of(name))?;
         Ok(Some(Old { file, known, bytes }))
     }
 
     pub fn memory(&self) -> Vec<u32> {
-        if self.known.len() % WORD_BYTES as u64 != 0 {
+        if !self.known.len().is_multiple_of(WORD_BYTES as u64) {
             return Vec::new();
         }
         let words = self.bytes.chunks_exact(WORD_BYTES);
@@ -65,7 +65,9 @@ impl Old {
             return Ok(false);
         }
         let mut bytes = vec![0; self.bytes.len()];
-        self.file.read_exact_at(&mut bytes, 0)?;
-        Ok(bytes == self.bytes)
+        match self.file.read_exact_at(&mut bytes, 0) {
+            Err(error) if error.kind() == ErrorKind::UnexpectedEof => Ok(false),
+            read => read.map(|()| bytes == self.bytes),
+        }
     }
 }

@@ -21,7 +21,7 @@ pub fn play(
 ) -> (Vec<u32>, Result<(), Failure>) {
     let listed = Player::over(memory);
     let mut playing = Playing { listed, output };
-    let played = playing.to_the_end(&mut input);
+    let played = playing.run(&mut input);
     (playing.listed.into_memory(), played)
 }
 
@@ -35,7 +35,7 @@ struct Playing<O> {
 type Cut = (usize, Failure);
 
 impl<O: Write> Playing<O> {
-    fn to_the_end(&mut self, input: &mut impl Read) -> Result<(), Failure> {
+    fn run(&mut self, input: &mut impl Read) -> Result<(), Failure> {
         self.write(&header()).map_err(|(_, failure)| failure)?;
         let mut portion = vec![0; PORTION];
         loop {
@@ -66,7 +66,7 @@ impl<O: Write> Playing<O> {
         let memory = self.listed.clone().finish(&mut listing)?;
         self.write(&listing).map_err(|(_, failure)| failure)?;
         self.listed = Player::over(memory);
-        Ok(())
+        go_on()
     }
 
     fn write(&mut self, bytes: &[u8]) -> Result<(), Cut> {
@@ -92,7 +92,10 @@ fn ends(lines: &[u8]) -> impl Iterator<Item = usize> + '_ {
 fn read(input: &mut impl Read, portion: &mut [u8]) -> Result<usize, Failure> {
     loop {
         go_on()?;
-        match input.read(portion) {
+        let read = input.read(portion);
+        // A hang-up is the end of what a terminal sends, too.
+        go_on()?;
+        match read {
             Err(error) if error.kind() == ErrorKind::Interrupted => {}
             read => return Ok(read?),
         }

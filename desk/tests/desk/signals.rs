@@ -128,11 +128,15 @@ fn held_up(options: &[&str], file: &Path) -> (Child, ChildStdout) {
         .write_all(arrivals().as_bytes())
         .expect("the desk reads");
     let mut filled: c_int = 0;
-    while filled < PAGE {
-        thread::sleep(Duration::from_millis(1));
+    for _ in 0..20_000 {
         // It asks how many bytes wait in the pipe.
         assert_eq!(unsafe { ioctl(descriptor, FIONREAD, &mut filled) }, 0);
+        if filled >= PAGE {
+            break;
+        }
+        thread::sleep(Duration::from_millis(1));
     }
+    assert!(filled >= PAGE, "{filled} bytes");
     child.stdin = Some(input);
     (child, output)
 }

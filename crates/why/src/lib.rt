@@ -22,9 +22,13 @@ ghost use Rattle.rules.specs.Memory.{size};
 ghost use Rattle.follow.specs.Text.{whyRoom};
 ghost use Rattle.why.specs.Program.{LineTold, Ends};
 
-// The exit status where something failed or is refused, and where the argument asks for nothing.
+// The exit status where something failed,
 const FAILED: u32 = 1;
 
+// where a line is refused,
+const REFUSED: u32 = 1;
+
+// and where the argument asks for nothing.
 const MISUSED: u32 = 2;
 
 // The answer for one line: a refusal is told on standard error.
@@ -39,7 +43,7 @@ fn tell_one(memory: &mut [u32], wanted: u64, input: &mut [u8], out: &mut [u8]) -
     }
     if t.refused {
         io::write_all(STDERR_FILENO, &out[..end]);
-        return FAILED;
+        return REFUSED;
     }
     if !put(&out[..end]) {
         return FAILED;

@@ -143,9 +143,11 @@ fn make_or_find(path: &Path, name: &str) -> Told<Option<(File, bool)>> {
             return Err(of(format!("the folder {folder} can't be written"))(error));
         }
     }
-    // A link or a pipe of this name is nobody's new file, and is not opened.
+    // A link or a pipe of this name is nobody's new file, nor is a file of another name: they are not opened.
     match existing(fs::symlink_metadata(path)).map_err(of(path.display()))? {
-        Some(known) if !known.is_file() => Err(format!("{} is in the way", path.display())),
+        Some(known) if !known.is_file() || known.nlink() > 1 => {
+            Err(format!("{} is in the way", path.display()))
+        }
         _ => {
             let found = existing(OpenOptions::new().write(true).open(path));
             let found = found.map_err(of(path.display()))?;

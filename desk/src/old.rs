@@ -71,3 +71,23 @@ impl Old {
         }
     }
 }
+
+#[cfg(test)]
+mod tests {
+    use std::{env, fs, process};
+
+    use super::Old;
+
+    /// Another byte under the same times, as a change within one tick of the clock leaves it.
+    #[test]
+    fn a_change_that_no_time_tells() {
+        let place = env::temp_dir().join(format!("desk-{}", process::id()));
+        fs::write(&place, [1; 8]).unwrap();
+        let mut old = Old::read(&place, "node").unwrap().unwrap();
+        let now = fs::metadata(&place).unwrap();
+        assert!(old.is_as_read(&now).unwrap());
+        old.bytes[7] = 2;
+        assert!(!old.is_as_read(&now).unwrap());
+        fs::remove_file(&place).unwrap();
+    }
+}

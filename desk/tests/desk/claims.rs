@@ -124,6 +124,10 @@ fn a_link_in_the_way_is_not_followed() {
         assert_eq!(folder.names(), [NEW, "other"]);
         fs::remove_file(folder.path(NEW)).unwrap();
     }
+    fs::hard_link(folder.path("other"), folder.path(NEW)).unwrap();
+    failed(&desk(&folder.path("node"), SCRIPT), "is in the way");
+    assert_eq!(fs::read(folder.path("other")).unwrap(), b"kept");
+    fs::remove_file(folder.path(NEW)).unwrap();
     fs::create_dir(folder.path(NEW)).unwrap();
     failed(&desk(&folder.path("node"), SCRIPT), "is in the way");
     assert_eq!(folder.names(), [NEW, "other"]);

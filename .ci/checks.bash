@@ -1,6 +1,8 @@
 # Sourced by the checks: the project's folder, a scratch folder, checks that are counted, what they need, crates that are thrown away, scripts
 # with their listings, and a memory with its state.
 root=$(dirname -- "$(dirname -- "$(readlink -f -- "${BASH_SOURCE[0]}")")")
+# As bin/build.bash has it, or each would build what the other built.
+export CARGO_ENCODED_RUSTFLAGS=--remap-path-prefix=$root=.
 scratch=$(mktemp -d) || exit 1
 trap 'rm -rf -- "$scratch"' EXIT
 

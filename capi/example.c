@@ -1,8 +1,14 @@
 /* A node from C: power-on, steps by letter and by line, the head message, the place that it leaves, a timer that is forced, the processor taken
- * and given, who has mail, pages sent out and brought in, why messages of a script were buffered, and what is refused.
+ * and given, who has mail, pages sent out and brought in, a script listed, why its messages were buffered, and what is refused.
  *
- *     rt staticlib capi
- *     cc -std=c11 -Icapi capi/example.c target/staticlib/libcapi.a -o example && ./example
+ * Where libfugu is installed:
+ *
+ *     cc -std=c11 example.c $(pkg-config --cflags --libs fugu) -o example && ./example
+ *
+ * and in the project's folder:
+ *
+ *     bin/library
+ *     cc -std=c11 -Icapi capi/example.c -Ltarget/lib -lfugu -Wl,-rpath,"$PWD/target/lib" -o example && ./example
  */
 #include "fugu.h"
 
@@ -71,7 +77,7 @@ static void fill_frames(void) {
     const uint32_t word[] = {2, 9};
     uint32_t report[FUGU_REPORT];
     for (int i = 0; i < 257; i++) {
-        fugu_step(memory, FUGU_SIZE, 'A', word, 2, report, FUGU_REPORT);
+        fugu_step(memory, FUGU_SIZE, FUGU_ARRIVAL, word, 2, report, FUGU_REPORT);
     }
     print_report("257 times A,2,9", report);
     print_paging();
@@ -89,7 +95,28 @@ static void why(const char *script, uint32_t number) {
     }
 }
 
-/* Every reason of a script in one pass: it is fed in portions of ten bytes, to the same memory, state and kept line. */
+/* A script fed in portions of ten bytes, to the same memory, state and kept line: its listing, from power-on. */
+static void list(const char *script) {
+    uint64_t state[FUGU_FEED_STATE] = {0};
+    uint8_t kept[FUGU_FEED_KEPT] = {0};
+    uint8_t out[10 * FUGU_FEED_LINE];
+    uint64_t fed[FUGU_FEED];
+    uint32_t report[FUGU_REPORT];
+    size_t length = strlen(script);
+
+    fugu_power_on(memory, FUGU_SIZE, report, FUGU_REPORT);
+    fwrite(out, 1, fugu_header(out, sizeof out), stdout);
+    for (size_t at = 0; at < length; at += fed[FUGU_USED]) {
+        size_t count = length - at < 10 ? length - at : 10;
+        fugu_feed(memory, FUGU_SIZE, state, FUGU_FEED_STATE, kept, FUGU_FEED_KEPT, (const uint8_t *)script + at, count, out, sizeof out, fed,
+                  FUGU_FEED);
+        fwrite(out, 1, fed[FUGU_WRITTEN], stdout);
+    }
+    fugu_feed_end(memory, FUGU_SIZE, state, FUGU_FEED_STATE, kept, FUGU_FEED_KEPT, out, sizeof out, fed, FUGU_FEED);
+    fwrite(out, 1, fed[FUGU_WRITTEN], stdout);
+}
+
+/* Every reason of a script, in one pass: it is handed over whole, and anew from where the output was full. */
 static void tell(const char *script) {
     uint64_t state[FUGU_TELL_STATE] = {0};
     uint8_t kept[FUGU_TELL_KEPT] = {0};
@@ -100,9 +127,8 @@ static void tell(const char *script) {
 
     fugu_power_on(memory, FUGU_SIZE, report, FUGU_REPORT);
     for (size_t at = 0; at < length; at += told[FUGU_USED]) {
-        size_t count = length - at < 10 ? length - at : 10;
-        fugu_tell(memory, FUGU_SIZE, state, FUGU_TELL_STATE, kept, FUGU_TELL_KEPT, (const uint8_t *)script + at, count, out, FUGU_TELL_OUT, told,
-                  FUGU_TELL);
+        fugu_tell(memory, FUGU_SIZE, state, FUGU_TELL_STATE, kept, FUGU_TELL_KEPT, (const uint8_t *)script + at, length - at, out, FUGU_TELL_OUT,
+                  told, FUGU_TELL);
         fwrite(out, 1, told[FUGU_WRITTEN], stdout);
     }
     fugu_tell_end(memory, FUGU_SIZE, state, FUGU_TELL_STATE, kept, FUGU_TELL_KEPT, out, FUGU_TELL_OUT, told, FUGU_TELL);
@@ -110,7 +136,7 @@ static void tell(const char *script) {
 }
 
 int main(void) {
-    const char *script = "S,1\nA,1,7\nA,2,5\nD\nA,1,8\nO\n";
+    const char *script = "S,1\nA,1,7\nA,2,5\nD\nA,1,8\nO";
     uint32_t report[FUGU_REPORT];
     const uint32_t group[] = {1};
     const uint32_t message[] = {1, 7, 8, 9};
@@ -119,16 +145,16 @@ int main(void) {
 
     printf("a node has %u words\n", fugu_size());
     printf("before power-on: test %u\n", fugu_test(memory, FUGU_SIZE));
-    step("S,1", 'S', group, 1);
+    step("S,1", FUGU_SWITCH, group, 1);
     fugu_power_on(memory, FUGU_SIZE, report, FUGU_REPORT);
     print_report("power-on", report);
     printf("after power-on: test %u\n", fugu_test(memory, FUGU_SIZE));
 
-    step("S,1", 'S', group, 1);
+    step("S,1", FUGU_SWITCH, group, 1);
     print_head();
-    step("A,1,7,8,9", 'A', message, 4);
+    step("A,1,7,8,9", FUGU_ARRIVAL, message, 4);
     print_head();
-    step("T,256", 'T', ticks, 1);
+    step("T,256", FUGU_TICKS, ticks, 1);
     print_head();
     line("E,2");
     print_place();
@@ -138,28 +164,29 @@ int main(void) {
     printf("with a length left there: test %u\n", fugu_test(memory, FUGU_SIZE));
     memory[PLACE] = 0;
     line("N");
-    step("B,1", 'B', force, 1);
-    step("T,256", 'T', ticks, 1);
+    step("B,1", FUGU_BEGIN_ATOMIC, force, 1);
+    step("T,256", FUGU_TICKS, ticks, 1);
     line("N");
     line("P,5");
     line("L,63");
     line("A,1,4");
     print_head();
-    step("O", 'O', group, 0);
+    step("O", FUGU_PREEMPT, NULL, 0);
     print_head();
-    step("C", 'C', group, 0);
-    step("I,1", 'I', group, 1);
+    step("C", FUGU_TURN, NULL, 0);
+    step("I,1", FUGU_DISPATCH, group, 1);
     print_head();
     line("D");
     line("N");
     print_paging();
     fill_frames();
 
-    step("I,1", 'I', group, 1);
-    step("S, no number", 'S', group, 0);
-    step("Q", 'Q', group, 0);
+    step("I,1", FUGU_DISPATCH, group, 1);
+    step("S, no number", FUGU_SWITCH, NULL, 0);
+    step("Q", 'Q', NULL, 0);
     line("S, 1");
 
+    list(script);
     why(script, 2);
     why(script, 3);
     why(script, 5);

@@ -10,9 +10,12 @@ use std::sync::mpsc::{self, Receiver, RecvTimeoutError};
 use std::thread;
 use std::time::Duration;
 
+use cli::plain;
+
 use crate::feed::{feed, Feed};
 use crate::node::Report;
-use crate::script::{self, HEADER, LONGEST_LINE};
+use crate::program::named;
+use crate::script::{self, HEADER};
 
 /// More than the longest line of a listing; of a longer one only so much is looked at.
 const LONGEST_LISTED: usize = 256;
@@ -23,27 +26,25 @@ const PATIENCE: Duration = Duration::from_secs(60);
 
 /// What a program did otherwise than the judge, in words.
 #[derive(Debug)]
-pub struct Difference {
-    told: String,
-    /// Whether the listing ended too early: how the program ended then tells more.
-    ended: bool,
-}
-
-impl Difference {
-    fn new(told: String) -> Self {
-        Difference { told, ended: false }
-    }
+pub enum Difference {
+    /// It can't be run.
+    NotStarted(String),
+    /// Its listing ended too early: how it ended then tells more.
+    Ended(String),
+    Other(String),
 }
 
 impl Display for Difference {
     fn fmt(&self, f: &mut Formatter) -> fmt::Result {
-        f.write_str(&self.told)
+        let (Difference::NotStarted(told) | Difference::Ended(told) | Difference::Other(told)) =
+            self;
+        f.write_str(told)
     }
 }
 
 impl From<io::Error> for Difference {
     fn from(error: io::Error) -> Self {
-        Difference::new(error.to_string())
+        Difference::Other(plain(&error))
     }
 }
 
@@ -66,7 +67,8 @@ fn compare_within(
     mut each: impl FnMut(u64, &[u8], &Report),
 ) -> Result<(), Difference> {
     let pipes = program.stdin(Stdio::piped()).stdout(Stdio::piped());
-    let mut child = pipes.stderr(Stdio::piped()).spawn()?;
+    let started = pipes.stderr(Stdio::piped()).spawn();
+    let mut child = started.map_err(|error| not_started(program, &error))?;
     let (feed, script) = feed(seed, child.stdin.take().expect("a pipe"));
     let listing = BufReader::new(child.stdout.take().expect("a pipe"));
     let complaints = child.stderr.take().expect("a pipe");
@@ -90,9 +92,9 @@ fn compare_within(
         drop(open);
         wrong.push(watching.join().expect("the watch ends")?);
         match compared {
+            Ok(()) | Err(Difference::Ended(_)) => nothing_wrong(wrong),
             // It has then lost its reader, and may say so.
-            Err(difference) if !difference.ended => Err(difference),
-            _ => nothing_wrong(wrong),
+            Err(difference) => Err(difference),
         }
     })
 }
@@ -102,7 +104,12 @@ fn nothing_wrong(wrong: Vec<Option<String>>) -> Result<(), Difference> {
     if wrong.is_empty() {
         return Ok(());
     }
-    Err(Difference::new(wrong.join("\n  ")))
+    Err(Difference::Other(wrong.join("\n  ")))
+}
+
+fn not_started(program: &Command, error: &io::Error) -> Difference {
+    let name = named(program.get_program());
+    Difference::NotStarted(format!("{name}: {}", plain(error)))
 }
 
 fn compare_listings(
@@ -123,7 +130,7 @@ fn compare_listings(
         script::write_report(&mut judged, number, report)?;
         next_listed(&mut listing, &mut listed)?;
         if listed != judged {
-            let place = format!("line {number}\n  script   {}", shown_script(line));
+            let place = format!("line {number}\n  script   {}", script::shown(line));
             return Err(differs(&place, &judged, &listed));
         }
         each(number, line, report);
@@ -145,10 +152,13 @@ fn next_listed(listing: &mut impl BufRead, line: &mut Vec<u8>) -> io::Result<()>
 }
 
 fn differs(place: &str, judged: &[u8], listed: &[u8]) -> Difference {
+    let ended = !listed.ends_with(b"\n") && listed.len() < LONGEST_LISTED;
     let (judged, program) = (shown(judged), shown(listed));
-    Difference {
-        told: format!("{place}\n  judge    {judged}\n  program  {program}"),
-        ended: !listed.ends_with(b"\n") && listed.len() < LONGEST_LISTED,
+    let told = format!("{place}\n  judge    {judged}\n  program  {program}");
+    if ended {
+        Difference::Ended(told)
+    } else {
+        Difference::Other(told)
     }
 }
 
@@ -160,13 +170,9 @@ fn shown(line: &[u8]) -> String {
     }
 }
 
-fn shown_script(line: &[u8]) -> String {
-    let more = if line.len() > LONGEST_LINE { ".." } else { "" };
-    format!("{}{more}", line.escape_ascii())
-}
-
 fn not_fed(feed: Feed, write: impl FnOnce(&mut Feed) -> io::Result<()>) -> Option<String> {
     let error = feed.whole(write).err()?;
+    let error = plain(&error);
     Some(format!("the script was not taken to its end: {error}"))
 }
 

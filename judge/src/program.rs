@@ -1,10 +1,14 @@
-//! What the programs share: their arguments, how they end, where the project's own program is, and
-//! the scripts that they are measured with.
+//! What the programs share: their arguments, what they tell of a failure, where the project's own program
+//! is, and the scripts that they are measured with.
 
+use std::ffi::OsStr;
+use std::fmt::Display;
 use std::fs;
-use std::io::{self, ErrorKind, Write};
+use std::io::{self, Write};
 use std::path::{Path, PathBuf};
 use std::process::{Command, ExitCode, Stdio};
+
+use cli::{plain, print, Done, Failure};
 
 use crate::generator::Flavour;
 use crate::node::{MESSAGE_WORDS, QUEUE_PLACES};
@@ -37,90 +41,79 @@ pub const TESTED_TIMES: usize = 64;
 pub const ROUNDS: u32 = 15;
 pub const JUDGE_ROUNDS: u32 = 5;
 
-/// The arguments of the call.
-pub fn arguments() -> Vec<String> {
-    std::env::args_os()
-        .skip(1)
-        .map(|argument| argument.to_string_lossy().into_owned())
-        .collect()
+/// Runs a command on its arguments as text. It may take long before it tells what it found: where it could
+/// not tell it, it says so first.
+pub fn run(command: &cli::Command, body: impl FnOnce(&[&str]) -> Done) -> ExitCode {
+    command.run(|arguments| {
+        cli::output()?;
+        let texts: Vec<_> = arguments
+            .iter()
+            .map(|text| text.to_string_lossy())
+            .collect();
+        let texts: Vec<&str> = texts.iter().map(|text| text.as_ref()).collect();
+        body(&texts)
+    })
 }
 
-pub fn number(argument: &str) -> Result<u64, String> {
+pub fn number(argument: &str) -> Result<u64, Failure> {
     argument
         .parse()
-        .map_err(|_| format!("not a number: {argument}"))
+        .map_err(|_| Failure::Misused(format!("not a number: {argument}")))
 }
 
-/// Writes a text to standard output; that is all there was to do.
-pub fn print(text: &str) -> io::Result<ExitCode> {
-    writeln!(io::stdout(), "{text}")?;
-    Ok(ExitCode::SUCCESS)
-}
-
-/// The exit code of a run. A reader that has gone away has seen what it wanted: that ends quietly.
-pub fn finish(name: &str, result: io::Result<ExitCode>) -> ExitCode {
-    match result {
-        Ok(code) => code,
-        Err(error) if error.kind() == ErrorKind::BrokenPipe => ExitCode::SUCCESS,
-        Err(error) => failed(name, &error.to_string()),
+/// The name of a file or a program in a message, where an empty one can be seen, too.
+pub fn named(name: impl AsRef<OsStr>) -> String {
+    let name = name.as_ref();
+    if name.is_empty() {
+        return "''".to_string();
     }
+    name.to_string_lossy().into_owned()
 }
 
-/// The exit code of a run that found something wrong.
-pub fn failed(name: &str, reason: &str) -> ExitCode {
-    eprintln!("{name}: {reason}");
-    ExitCode::FAILURE
+/// What failed of a file or a program.
+pub fn failed(name: impl AsRef<OsStr>) -> impl FnOnce(io::Error) -> Failure {
+    let name = named(name);
+    move |error| Failure::Wrong(format!("{name}: {}", plain(&error)))
 }
 
-/// The exit code of a call that cannot be understood.
-pub fn misused(name: &str, reason: &str, usage: &str) -> ExitCode {
-    eprintln!("{name}: {reason}\n{usage}");
-    ExitCode::from(2)
-}
-
-/// The exit code of a call whose file can't be read: nothing was found, right or wrong.
-pub fn unread(name: &str, reason: &str) -> ExitCode {
-    eprintln!("{name}: {reason}");
-    ExitCode::from(2)
-}
-
-/// The exit code of a run that was to meet everything of some kind: what it missed.
-pub fn met_all(name: &str, missing: &[String]) -> ExitCode {
+/// The end of a run that was to meet everything of some kind, by what it missed.
+pub fn met_all(missing: &[String]) -> Done {
     if missing.is_empty() {
-        return ExitCode::SUCCESS;
+        return Ok(ExitCode::SUCCESS);
     }
-    failed(name, &format!("not met: {}", missing.join(", ")))
+    Err(Failure::Wrong(format!("not met: {}", missing.join(", "))))
 }
 
-/// Tells a table of what was met; the exit code by what it was to meet and missed.
-pub fn tell_met(name: &str, table: &str, missing: &[String]) -> ExitCode {
-    match print(table) {
-        Ok(_) => met_all(name, missing),
-        Err(error) => finish(name, Err(error)),
-    }
+/// Tells a table of what was met; the end is by what it was to meet and missed.
+pub fn tell_met(table: impl Display, missing: &[String]) -> Done {
+    print(&format!("{table}\n"))?;
+    met_all(missing)
 }
 
 /// Tells how far a long run is, each time so many more are done and at its end.
 pub fn progress(name: &str, step: u64) -> impl Fn(u64, u64) + '_ {
     move |number, count| {
         if number % step == 0 || number == count {
-            eprintln!("{name}: {number} of {count}");
+            tell_progress(&format!("{name}: {number} of {count}"));
         }
     }
 }
 
+/// A line of progress. Where standard error fails, the run goes on without.
+pub fn tell_progress(line: &str) {
+    let _ = writeln!(io::stderr(), "{line}");
+}
+
 /// The project's own program. It is called by its wrapper once, which builds it if need be.
-pub fn fugu(project: &Path) -> Result<PathBuf, String> {
+pub fn fugu(project: &Path) -> Result<PathBuf, Failure> {
     let wrapper = project.join("bin/fugu");
-    let built = Command::new(&wrapper)
-        .stdin(Stdio::null())
-        .stdout(Stdio::null())
-        .status();
-    match built {
-        Ok(status) if status.success() => Ok(project.join("target/bin/fugu")),
-        Ok(status) => Err(format!("{}: {status}", wrapper.display())),
-        Err(error) => Err(format!("{}: {error}", wrapper.display())),
+    let mut building = Command::new(&wrapper);
+    let building = building.stdin(Stdio::null()).stdout(Stdio::null());
+    let built = building.status().map_err(failed(&wrapper))?;
+    if !built.success() {
+        return Err(Failure::Wrong(format!("{}: {built}", named(&wrapper))));
     }
+    Ok(project.join("programs/target/release/fugu"))
 }
 
 /// A script to measure with, and what it is called.
@@ -131,7 +124,7 @@ pub struct Measured {
 
 impl Measured {
     /// The script of a file, or random ones, a few lines in turn, E alone, and C alone.
-    pub fn scripts(path: Option<&str>) -> Result<Vec<Measured>, String> {
+    pub fn scripts(path: Option<&str>) -> Result<Vec<Measured>, Failure> {
         let Some(path) = path else {
             let random = MEASURED_FLAVOURS.into_iter().map(Measured::random);
             let (name, lines) = MEASURED_TURN;
@@ -142,7 +135,7 @@ impl Measured {
             let mail = mail.map(|(name, queued)| Measured::asking(name, queued));
             return Ok(random.chain([turn]).chain(reads).chain(mail).collect());
         };
-        let script = fs::read(path).map_err(|error| format!("{path}: {error}"))?;
+        let script = fs::read(path).map_err(failed(path))?;
         let name = path.to_string();
         Ok(vec![Measured { name, script }])
     }

@@ -77,6 +77,33 @@ mod raw {
             part: *mut u64,
             part_length: usize,
         ) -> u32;
+        pub fn fugu_header(out: *mut u8, out_length: usize) -> u32;
+        pub fn fugu_feed(
+            memory: *mut u32,
+            memory_length: usize,
+            state: *mut u64,
+            state_length: usize,
+            kept: *mut u8,
+            kept_length: usize,
+            input: *const u8,
+            input_length: usize,
+            out: *mut u8,
+            out_length: usize,
+            part: *mut u64,
+            part_length: usize,
+        ) -> u32;
+        pub fn fugu_feed_end(
+            memory: *mut u32,
+            memory_length: usize,
+            state: *const u64,
+            state_length: usize,
+            kept: *const u8,
+            kept_length: usize,
+            out: *mut u8,
+            out_length: usize,
+            part: *mut u64,
+            part_length: usize,
+        ) -> u32;
     }
 }
 
@@ -165,11 +192,38 @@ pub fn why(memory: &mut [u32], script: &[u8], line: u32, part: &mut [u32]) -> u3
     }
 }
 
-/// The next portion of a script, of which a state and a kept line of zeros have read nothing: for each
-/// message that leaves the hardware queue in it a line of text goes into the output, and into the part why
-/// it stopped, how many bytes were written and how many of the portion used. Where the state, the kept line
-/// or the part is too short, 0 is returned and nothing has changed.
-pub fn tell(
+/// What is lent to a call that takes a portion of a script: memory, state, kept line, portion, output and part.
+type Portion = unsafe extern "C" fn(
+    *mut u32,
+    usize,
+    *mut u64,
+    usize,
+    *mut u8,
+    usize,
+    *const u8,
+    usize,
+    *mut u8,
+    usize,
+    *mut u64,
+    usize,
+) -> u32;
+
+/// And to one that takes its end: the same without a portion, and a state and a kept line to look at.
+type End = unsafe extern "C" fn(
+    *mut u32,
+    usize,
+    *const u64,
+    usize,
+    *const u8,
+    usize,
+    *mut u8,
+    usize,
+    *mut u64,
+    usize,
+) -> u32;
+
+fn over_portion(
+    call: Portion,
     memory: &mut [u32],
     state: &mut [u64],
     kept: &mut [u8],
@@ -178,7 +232,7 @@ pub fn tell(
     part: &mut [u64],
 ) -> u32 {
     unsafe {
-        raw::fugu_tell(
+        call(
             memory.as_mut_ptr(),
             memory.len(),
             state.as_mut_ptr(),
@@ -195,9 +249,8 @@ pub fn tell(
     }
 }
 
-/// The script's end: a line that has begun is its last, and for each message that is still queued a line of
-/// text says so. Into the part go why it stopped and how many bytes were written.
-pub fn tell_end(
+fn over_end(
+    call: End,
     memory: &mut [u32],
     state: &[u64],
     kept: &[u8],
@@ -205,7 +258,7 @@ pub fn tell_end(
     part: &mut [u64],
 ) -> u32 {
     unsafe {
-        raw::fugu_tell_end(
+        call(
             memory.as_mut_ptr(),
             memory.len(),
             state.as_ptr(),
@@ -218,4 +271,64 @@ pub fn tell_end(
             part.len(),
         )
     }
+}
+
+/// The next portion of a script, of which a state and a kept line of zeros have read nothing: for each
+/// message that leaves the hardware queue in it a line of text goes into the output, and into the part why
+/// it stopped, how many bytes were written and how many of the portion used. Where the state, the kept line
+/// or the part is too short, 0 is returned and nothing has changed.
+pub fn tell(
+    memory: &mut [u32],
+    state: &mut [u64],
+    kept: &mut [u8],
+    input: &[u8],
+    out: &mut [u8],
+    part: &mut [u64],
+) -> u32 {
+    over_portion(raw::fugu_tell, memory, state, kept, input, out, part)
+}
+
+/// The script's end: a line that has begun is its last, and for each message that is still queued a line of
+/// text says so. Into the part go why it stopped and how many bytes were written.
+pub fn tell_end(
+    memory: &mut [u32],
+    state: &[u64],
+    kept: &[u8],
+    out: &mut [u8],
+    part: &mut [u64],
+) -> u32 {
+    over_end(raw::fugu_tell_end, memory, state, kept, out, part)
+}
+
+/// The listing's first line, with its newline, goes into the output. Where that is too short, 0 is returned
+/// and nothing has changed.
+pub fn header(out: &mut [u8]) -> u32 {
+    unsafe { raw::fugu_header(out.as_mut_ptr(), out.len()) }
+}
+
+/// The next portion of a script, of which a state and a kept line of zeros have read nothing: the lines that
+/// it completes are stepped on the memory and listed in the output, and into the part go why it stopped, how
+/// many bytes were written and how many of the portion used. Where the state, the kept line or the part is too
+/// short, 0 is returned and nothing has changed.
+pub fn feed(
+    memory: &mut [u32],
+    state: &mut [u64],
+    kept: &mut [u8],
+    input: &[u8],
+    out: &mut [u8],
+    part: &mut [u64],
+) -> u32 {
+    over_portion(raw::fugu_feed, memory, state, kept, input, out, part)
+}
+
+/// The script's end: a line that has begun is its last. Into the part go why it stopped and how many bytes
+/// were written.
+pub fn feed_end(
+    memory: &mut [u32],
+    state: &[u64],
+    kept: &[u8],
+    out: &mut [u8],
+    part: &mut [u64],
+) -> u32 {
+    over_end(raw::fugu_feed_end, memory, state, kept, out, part)
 }

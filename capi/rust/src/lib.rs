@@ -7,8 +7,7 @@
 //! - [`Paging`]: how many pages went to swap space and back.
 //! - [`why()`]: why a message of a script was buffered; [`why_all`]: why each of them was, as text, and
 //!   [`Reasons`]: the same over a script's portions.
-//! - [`listing`]: a script played on a node, with its listing.
-//! - [`kept`]: memory kept in a file. With the script it makes the program `desk`.
+//! - [`Player`]: a script played on memory in portions, with its listing, whose first line is [`header`].
 //!
 //! ```
 //! use fugu::{Node, SIZE};
@@ -22,14 +21,15 @@
 
 pub mod answer;
 pub mod calls;
-pub mod kept;
-pub mod listing;
 mod node;
+mod player;
+mod portions;
 mod reasons;
 mod report;
 mod why;
 
 pub use node::{Node, Paging};
+pub use player::{header, Player};
 pub use reasons::{why_all, Reasons};
 pub use report::{Report, Sent};
 pub use why::{why, Reason, Refused, Why};
@@ -66,3 +66,21 @@ pub const TELL: usize = 3;
 
 /// The words that say what the script's end came to.
 pub const TELL_END: usize = 2;
+
+/// The bytes of the listing's first line.
+pub const HEADER: usize = 36;
+
+/// The words that are carried from portion to portion while a script is played.
+pub const FEED_STATE: usize = 2;
+
+/// The bytes that are carried beside them: a line that has begun.
+pub const FEED_KEPT: usize = 130;
+
+/// The bytes of output that a line of the script takes, at most.
+pub const FEED_LINE: usize = 192;
+
+/// The words that say what a portion came to.
+pub const FEED: usize = 3;
+
+/// The words that say what the script's end came to.
+pub const FEED_END: usize = 2;

@@ -2,11 +2,8 @@
 
 use std::io::{self, Write};
 
+use crate::portions::{end, feed};
 use crate::{calls, Node, SIZE, TELL, TELL_END, TELL_KEPT, TELL_OUT, TELL_STATE};
-
-/// Why a call stopped, by its number: nothing is left of the portion, or the output has no room for more.
-const ALL_USED: u64 = 0;
-const NO_ROOM: u64 = 1;
 
 /// A script that is being read, from power-on, on memory of its own: for each accepted arrival a line of text
 /// is written, in their order, as soon as its message has left the hardware queue.
@@ -54,26 +51,18 @@ impl Reasons {
     /// # Errors
     ///
     /// Where the output fails, and where no line numbers of 64 bits are left.
-    pub fn feed(&mut self, mut portion: &[u8], out: &mut impl Write) -> io::Result<()> {
-        let mut text = [0; TELL_OUT];
-        loop {
+    pub fn feed(&mut self, portion: &[u8], out: &mut impl Write) -> io::Result<()> {
+        let Reasons {
+            memory,
+            state,
+            kept,
+        } = self;
+        feed(portion, &mut [0; TELL_OUT], out, |portion, text| {
             let mut part = [0; TELL];
-            let Reasons {
-                memory,
-                state,
-                kept,
-            } = self;
-            let told = calls::tell(memory, state, kept, portion, &mut text, &mut part);
+            let told = calls::tell(memory, state, kept, portion, text, &mut part);
             debug_assert_eq!(told as usize, TELL);
-            let [stop, written, used] = part;
-            out.write_all(&text[..written as usize])?;
-            match stop {
-                ALL_USED => return Ok(()),
-                // The text has room for a line of the script at least, so that some of the portion is used.
-                NO_ROOM => portion = &portion[used as usize..],
-                _ => return Err(no_numbers()),
-            }
-        }
+            part
+        })
     }
 
     /// The script's end: a line that has begun is its last, and of the messages that are still queued it is
@@ -83,25 +72,18 @@ impl Reasons {
     ///
     /// Where the output fails, and where no line number is left for a line that has begun.
     pub fn finish(mut self, out: &mut impl Write) -> io::Result<()> {
-        let mut text = [0; TELL_OUT];
-        let mut part = [0; TELL_END];
         let Reasons {
             memory,
             state,
             kept,
         } = &mut self;
-        let told = calls::tell_end(memory, state, kept, &mut text, &mut part);
-        debug_assert_eq!(told as usize, TELL_END);
-        let [stop, written] = part;
-        if stop != ALL_USED {
-            return Err(no_numbers());
-        }
-        out.write_all(&text[..written as usize])
+        end(&mut [0; TELL_OUT], out, |text| {
+            let mut part = [0; TELL_END];
+            let told = calls::tell_end(memory, state, kept, text, &mut part);
+            debug_assert_eq!(told as usize, TELL_END);
+            part
+        })
     }
-}
-
-fn no_numbers() -> io::Error {
-    io::Error::other("no line numbers are left")
 }
 
 /// Why every message of a script was buffered, or where it went instead: a line of text for each accepted

@@ -1,7 +1,5 @@
 //! What a step reported.
 
-use std::fmt;
-
 use crate::answer::ACCEPTED;
 use crate::REPORT;
 
@@ -55,28 +53,5 @@ impl Report {
 
     pub fn is_accepted(&self) -> bool {
         self.answer == ACCEPTED
-    }
-}
-
-/// As a line of a listing has it behind its number: answer, value, trap, upcall, moved, and on an
-/// accepted L node, group and words.
-impl fmt::Display for Report {
-    fn fmt(&self, f: &mut fmt::Formatter<'_>) -> fmt::Result {
-        let Report {
-            answer,
-            value,
-            trap,
-            upcall,
-            moved,
-            sent,
-        } = self;
-        write!(f, "{answer},{value},{trap},{upcall},{moved}")?;
-        if sent.count != 0 {
-            write!(f, ",{},{}", sent.node, sent.group)?;
-            for word in sent.words() {
-                write!(f, ",{word}")?;
-            }
-        }
-        Ok(())
     }
 }

@@ -3,5 +3,7 @@ pub mod NumberLaws
 pub mod HeadRange
 pub mod WhyLaws
 pub mod CarriedLaws
+pub mod FeedLaws
+pub mod FeedPortionsLaws
 pub mod TellLaws
 pub mod TellPortionsLaws

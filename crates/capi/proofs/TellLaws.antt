@@ -1,18 +1,16 @@
 -- What the calls tell by which every message is told of: the state behind a portion in the words and bytes, the numbers in the part; or nothing, where one of
 -- them is too short. Assumes nothing.
 use Prim.Native.Nat.{ℕ, _≤_}
-use native.Mathlib.Omega.{arith}
 use mathlib.Core.List.{List, _∷_}
 use mathlib.Core.Path.{_≡_, _∙_, ap, refl, subst, sym}
 use lib.ListN.{length, drop, set}
-use Rattle.memory.proofs.WriteLaws.{wrote-next, wrote-set}
 use Rattle.follow.specs.Every.{FinishedTo, ToldTo}
 use Rattle.follow.specs.declared.every.End.{End as End·rt}
 use Rattle.follow.specs.declared.every.State.{State as State·rt}
 use Rattle.follow.specs.declared.every.Told.{Told as Told·rt}
-use Rattle.capi.specs.Carried.{Carried, stateOf}
-use Rattle.capi.specs.Tell.{Lent, TellsEnd, TellsPortion, Unchanged, endOf, endRoom, portionOf, portionRoom}
-use Rattle.capi.proofs.ToldLaws.{front-written}
+use Rattle.capi.specs.Carried.{Carried, Lent, endRoom, portionRoom, stateOf, stateRoom}
+use Rattle.capi.specs.Tell.{TellsEnd, TellsPortion, endOf, portionOf}
+use Rattle.capi.proofs.CarriedLaws.{end-words, portion-words, unchanged}
 
 -- A portion's numbers, one behind the other.
 
@@ -25,11 +23,7 @@ toldAt t st = record { state = st; used = t .used; written = t .written; stop = 
 
 module _ (p : List ℕ) (t : Told·rt) (room : portionRoom ≤ length p) where
   told-words : told p t ≡ t .stop ∷ t .written ∷ t .used ∷ drop portionRoom p
-  told-words =
-      let w0 = wrote-set p 0 (t .stop) (omega arith) in
-      let w1 = wrote-next w0 1 (t .written) refl (omega arith) in
-      let w2 = wrote-next w1 2 (t .used) refl (omega arith) in
-      front-written portionRoom refl room w2
+  told-words = portion-words p (t .stop) (t .written) (t .used) room
 
   -- with the state in the words and bytes they are what the portion came to
   told-found : (w b : List ℕ) → stateOf w b ≡ t .state → t ≡ portionOf w b (told p t)
@@ -37,7 +31,7 @@ module _ (p : List ℕ) (t : Told·rt) (room : portionRoom ≤ length p) where
   told-found w b e =
       sym (ap (portionOf w b) told-words ∙ ap (toldAt t) e)
 
-pub portion-told : {m w b input out p m′ w′ b′ out′ : List ℕ} {st : State·rt} {t : Told·rt} → Lent (length w) (length b) (length p) portionRoom
+pub portion-told : {m w b input out p m′ w′ b′ out′ : List ℕ} {st : State·rt} {t : Told·rt} → Lent stateRoom (length w) (length b) (length p) portionRoom
     → st ≡ stateOf w b
     → ToldTo m st input out m′ out′ t
     → Carried w b (t .state) w′ b′
@@ -63,16 +57,13 @@ ended p e = set (set p 0 (e .stop)) 1 (e .written)
 
 module _ (p : List ℕ) (e : End·rt) (room : endRoom ≤ length p) where
   ended-words : ended p e ≡ e .stop ∷ e .written ∷ drop endRoom p
-  ended-words =
-      let w0 = wrote-set p 0 (e .stop) (omega arith) in
-      let w1 = wrote-next w0 1 (e .written) refl (omega arith) in
-      front-written endRoom refl room w1
+  ended-words = end-words p (e .stop) (e .written) room
 
   ended-found : e ≡ endOf (ended p e)
   unfolding endOf
   ended-found = sym (ap endOf ended-words)
 
-pub end-told : {m w b out p m′ out′ : List ℕ} {st : State·rt} {e : End·rt} → Lent (length w) (length b) (length p) endRoom
+pub end-told : {m w b out p m′ out′ : List ℕ} {st : State·rt} {e : End·rt} → Lent stateRoom (length w) (length b) (length p) endRoom
     → st ≡ stateOf w b
     → FinishedTo m st out m′ out′ e
     → TellsEnd m w b out p m′ out′ (ended p e) endRoom
@@ -90,12 +81,9 @@ end-told {m} {w} {b} {out} {p} {m′} {out′} {st} {e} l s h =
 
 -- Too short.
 
-unchanged : (m w b out p : List ℕ) → Unchanged m w b out p m w b out p 0
-unchanged m w b out p = record { memory = refl; words = refl; bytes = refl; output = refl; part = refl; nothing = refl }
-
-pub portion-nothing : (m w b input out p : List ℕ) → (Lent (length w) (length b) (length p) portionRoom → ⊥)
+pub portion-nothing : (m w b input out p : List ℕ) → (Lent stateRoom (length w) (length b) (length p) portionRoom → ⊥)
     → TellsPortion m w b input out p m w b out p 0
 portion-nothing m w b input out p fewer = record { room = λ l. absurd (fewer l); short = λ _. unchanged m w b out p }
 
-pub end-nothing : (m w b out p : List ℕ) → (Lent (length w) (length b) (length p) endRoom → ⊥) → TellsEnd m w b out p m out p 0
+pub end-nothing : (m w b out p : List ℕ) → (Lent stateRoom (length w) (length b) (length p) endRoom → ⊥) → TellsEnd m w b out p m out p 0
 end-nothing m w b out p fewer = record { room = λ l. absurd (fewer l); short = λ _. unchanged m w b out p }

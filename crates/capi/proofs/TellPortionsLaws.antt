@@ -10,7 +10,6 @@ use lib.ListN.{length, getD}
 use borrow.Author.Tests.{ltb-false, ltb-true}
 use Rattle.rules.specs.MemoryTest.{powerOnMemory}
 use Rattle.script.specs.Feed.{keptLine, lastNumber}
-use Rattle.script.specs.Read.{lineOf}
 use Rattle.follow.specs.Every.{FinishedTo, ToldTo, waitingOf}
 use Rattle.follow.specs.EveryPortions.{Tells, lastMemory, lastState}
 use Rattle.follow.specs.Waiting.{linesRoom}
@@ -18,9 +17,11 @@ use Rattle.follow.specs.declared.every.End.{End as End·rt}
 use Rattle.follow.specs.declared.every.State.{State as State·rt}
 use Rattle.follow.specs.declared.every.Told.{Told as Told·rt}
 use Rattle.follow.proofs.EveryPortionsLaws.{portions-all-told}
+use Rattle.capi.specs.Calls.{Call, lastBytes, lastWords}
 use Rattle.capi.specs.Carried.{stateOf}
 use Rattle.capi.specs.Tell.{endOf, portionOf}
-use Rattle.capi.specs.TellPortions.{Call, Calls, CallsTold, lastBytes, lastWords, portions}
+use Rattle.capi.specs.TellPortions.{Calls, CallsTold, portions}
+use Rattle.capi.proofs.FeedPortionsLaws.{new-line, new-lines}
 
 -- a portion that did not run out of line numbers had enough
 enough : {m input out m′ out′ : List ℕ} {st : State·rt} {t : Told·rt} → ToldTo m st input out m′ out′ t → t .stop ≤ 1
@@ -48,17 +49,17 @@ calls-state w b (c ∷ cs) = calls-state (c .state-after) (c .kept-after) cs
 
 -- a state that begins with three zeros is one of which nothing has been read
 module _ (w b : List ℕ) where
-  new-line : getD w 1 0 ≡ 0 → keptLine (stateOf w b .script) ≡ []
-  unfolding stateOf keptLine lineOf
-  new-line e = rw e
+  no-line : getD w 1 0 ≡ 0 → keptLine (stateOf w b .script) ≡ []
+  unfolding stateOf
+  no-line = new-line w b
 
   new-waiting : getD w 2 0 ≡ 0 → waitingOf (stateOf w b) ≡ []
   unfolding stateOf waitingOf
   new-waiting e = rw e
 
-  new-lines : stateOf w b .script .lines ≡ getD w 0 0
+  no-lines : stateOf w b .script .lines ≡ getD w 0 0
   unfolding stateOf
-  new-lines = refl
+  no-lines = new-lines w b
 
 -- an end that didn't stop for want of room had enough
 roomy : {m out m′ out′ : List ℕ} {st : State·rt} {e : End·rt} → FinishedTo m st out m′ out′ e → e .stop ≡ 0 → 2 * linesRoom ≤ length out
@@ -81,13 +82,13 @@ calls-told =
           portions-all-told .told m s (stateOf w b) (portions cs) out m′ out′ (endOf p′)
           (record {
             long = q .long;
-            none = new-lines w b ∙ q .no-lines;
-            empty = new-line w b (q .no-line-begun);
+            none = no-lines w b ∙ q .no-lines;
+            empty = no-line w b (q .no-line-begun);
             nobody = new-waiting w b (q .nobody);
             tells = calls-tell m₀ w b cs (q .calls);
             read = q .read;
             room = roomy ends (q .stopped);
-            number = rw (last, new-lines) (q .number);
+            number = rw (last, no-lines) (q .number);
             finishes = subst (λ (x : State·rt). FinishedTo (lastMemory m₀ (portions cs)) x out m′ out′ (endOf p′)) (sym last) ends;
           });
     }

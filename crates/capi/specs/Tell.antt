@@ -1,25 +1,12 @@
 -- What the calls promise by which every message is told of, over a script that is fed in portions. Assumes nothing.
-use Prim.Native.Nat.{ℕ, _≤_}
+use Prim.Native.Nat.{ℕ}
 use mathlib.Core.List.{List}
 use mathlib.Core.Path.{_≡_}
 use lib.ListN.{length, drop, getD}
 use Rattle.follow.specs.Every.{ToldTo, FinishedTo}
 use Rattle.follow.specs.declared.every.End.{End as End·rt}
 use Rattle.follow.specs.declared.every.Told.{Told as Told·rt}
-use Rattle.capi.specs.Carried.{lineRoom, stateOf, stateRoom}
-
--- the words that say what a portion came to, and those of the script's end
-abbrev pub portionRoom : ℕ
-portionRoom = 3
-
-abbrev pub endRoom : ℕ
-endRoom = 2
-
--- so many words and bytes hold a state, and so many a part of this count
-pub record Lent (words bytes part count : ℕ) : Type 0 where
-  pub state : stateRoom ≤ words
-  pub line : lineRoom ≤ bytes
-  pub room : count ≤ part
+use Rattle.capi.specs.Carried.{Lent, Unchanged, endRoom, lineRoom, portionRoom, stateOf, stateRoom}
 
 -- what a portion came to, by the words and bytes of the state behind it and by the part: why it stopped, how many bytes were written, and how many used
 unfoldable pub portionOf : List ℕ → List ℕ → List ℕ → Told·rt
@@ -38,19 +25,10 @@ pub record PortionIn (m w b input out p m′ w′ b′ out′ p′ : List ℕ) (
   pub part-behind : drop portionRoom p′ ≡ drop portionRoom p
   pub counted : count ≡ portionRoom
 
--- nothing has changed of these
-pub record Unchanged (m w b out p m′ w′ b′ out′ p′ : List ℕ) (count : ℕ) : Type 0 where
-  pub memory : m′ ≡ m
-  pub words : w′ ≡ w
-  pub bytes : b′ ≡ b
-  pub output : out′ ≡ out
-  pub part : p′ ≡ p
-  pub nothing : count ≡ 0
-
 -- it is fed where all are long enough
 pub record TellsPortion (m w b input out p m′ w′ b′ out′ p′ : List ℕ) (count : ℕ) : Type 0 where
-  pub room : Lent (length w) (length b) (length p) portionRoom → PortionIn m w b input out p m′ w′ b′ out′ p′ count
-  pub short : (Lent (length w) (length b) (length p) portionRoom → ⊥) → Unchanged m w b out p m′ w′ b′ out′ p′ count
+  pub room : Lent stateRoom (length w) (length b) (length p) portionRoom → PortionIn m w b input out p m′ w′ b′ out′ p′ count
+  pub short : (Lent stateRoom (length w) (length b) (length p) portionRoom → ⊥) → Unchanged m w b out p m′ w′ b′ out′ p′ count
 
 -- a call that ends the script behind the state of words w and bytes b
 pub record EndIn (m w b out p m′ out′ p′ : List ℕ) (count : ℕ) : Type 0 where
@@ -60,5 +38,5 @@ pub record EndIn (m w b out p m′ out′ p′ : List ℕ) (count : ℕ) : Type 
 
 -- it ends where all are long enough
 pub record TellsEnd (m w b out p m′ out′ p′ : List ℕ) (count : ℕ) : Type 0 where
-  pub room : Lent (length w) (length b) (length p) endRoom → EndIn m w b out p m′ out′ p′ count
-  pub short : (Lent (length w) (length b) (length p) endRoom → ⊥) → Unchanged m w b out p m′ w b out′ p′ count
+  pub room : Lent stateRoom (length w) (length b) (length p) endRoom → EndIn m w b out p m′ out′ p′ count
+  pub short : (Lent stateRoom (length w) (length b) (length p) endRoom → ⊥) → Unchanged m w b out p m′ w b out′ p′ count

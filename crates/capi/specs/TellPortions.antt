@@ -9,19 +9,9 @@ use Rattle.rules.specs.MemoryTest.{powerOnMemory}
 use Rattle.reasons.specs.Why.{whyAll}
 use Rattle.script.specs.Feed.{lastNumber}
 use Rattle.follow.specs.EveryPortions.{Portion, lastMemory, usedBytes, writtenBytes}
-use Rattle.capi.specs.Tell.{Lent, TellsEnd, TellsPortion, endRoom, portionOf, portionRoom}
-
--- one call of `fugu_tell`: what it was handed beside memory, state and kept line, and what it left
-pub record Call : Type 0 where
-  pub input : List ℕ
-  pub output : List ℕ
-  pub part : List ℕ
-  pub memory-after : List ℕ
-  pub state-after : List ℕ
-  pub kept-after : List ℕ
-  pub output-after : List ℕ
-  pub part-after : List ℕ
-  pub count : ℕ
+use Rattle.capi.specs.Calls.{Call, lastBytes, lastWords}
+use Rattle.capi.specs.Carried.{Lent, endRoom, portionRoom, stateRoom}
+use Rattle.capi.specs.Tell.{TellsEnd, TellsPortion, portionOf}
 
 -- the portions that calls were handed, and what these came to
 unfoldable pub portions : List Call → List Portion
@@ -36,21 +26,12 @@ portions (c ∷ cs) =
     }
     ∷ portions cs
 
--- the state and the kept line that calls leave
-unfoldable pub lastWords : List ℕ → List Call → List ℕ
-lastWords w [] = w
-lastWords w (c ∷ cs) = lastWords (c .state-after) cs
-
-unfoldable pub lastBytes : List ℕ → List Call → List ℕ
-lastBytes b [] = b
-lastBytes b (c ∷ cs) = lastBytes (c .kept-after) cs
-
 -- calls that keep what `fugu_tell` promises, each lent enough, and none of which ran out of line numbers
 unfoldable pub Calls : List ℕ → List ℕ → List ℕ → List Call → Type 0
 Calls m w b [] = Unit
 Calls m w b (c ∷ cs) =
     TellsPortion m w b (c .input) (c .output) (c .part) (c .memory-after) (c .state-after) (c .kept-after) (c .output-after) (c .part-after) (c .count)
-    × (Lent (length w) (length b) (length (c .part)) portionRoom
+    × (Lent stateRoom (length w) (length b) (length (c .part)) portionRoom
     × ((getD (c .part-after) 0 0 ≤ 1) × Calls (c .memory-after) (c .state-after) (c .kept-after) cs))
 
 -- from power-on on and a state that begins with three zeros, calls over a script, and its end, which didn't stop for want of room
@@ -62,7 +43,7 @@ pub record CallsScript (m w b : List ℕ) (cs : List Call) (s out p m′ out′ 
   pub calls : Calls (powerOnMemory m .memory) w b cs
   pub read : usedBytes (portions cs) ≡ s
   pub number : getD (lastWords w cs) 0 0 + 1 < lastNumber
-  pub lent : Lent (length (lastWords w cs)) (length (lastBytes b cs)) (length p) endRoom
+  pub lent : Lent stateRoom (length (lastWords w cs)) (length (lastBytes b cs)) (length p) endRoom
   pub ends : TellsEnd (lastMemory (powerOnMemory m .memory) (portions cs)) (lastWords w cs) (lastBytes b cs) out p m′ out′ p′ count
   pub stopped : getD p′ 0 0 ≡ 0
 

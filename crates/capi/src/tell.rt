@@ -1,33 +1,17 @@
 // Every message told of as it leaves the hardware queue, over a script that is fed in portions.
 use crate::carried::STATE;
+use crate::carried::lent;
 use crate::carried::load;
 use crate::carried::save;
 use follow::every::finish;
 use follow::every::tell;
-use script::feed::KEPT_LINE;
-ghost use mathlib.Core.Bool.{true, false};
-ghost use mathlib.Core.Path.{_≡_};
-ghost use lib.ListN.{length};
-ghost use Rattle.capi.specs.Tell.{Lent, TellsPortion, TellsEnd};
+ghost use Rattle.capi.specs.Tell.{TellsPortion, TellsEnd};
 
 // The words that say what a portion came to: why it stopped, how many bytes of the output were written, and how many of the portion used.
 const PORTION: u32 = 3;
 
 // Those that say what the script's end came to: the first two.
 const END: u32 = 2;
-
-// Whether the words and bytes of a state are there, and a part of so many words.
-fn lent(words: usize, bytes: usize, part: usize, count: u32) -> bool
-    ensures { λ t. ⌜ (t ≡ true → Lent words bytes part count) × (t ≡ false → Lent words bytes part count → ⊥) ⌝ }
-{
-    if words < STATE {
-        return false;
-    }
-    if bytes < KEPT_LINE {
-        return false;
-    }
-    part >= count as usize
-}
 
 // The next portion of a script: of each message that leaves the hardware queue in it the line that tells why goes into the output.
 #[no_mangle]
@@ -41,7 +25,7 @@ pub extern "C" fn fugu_tell(
 ) -> u32
     ensures { λ n. ⌜ TellsPortion (now (memory .entry)) (now (state .entry)) (now (kept .entry)) (now (input .entry)) (now (out .entry)) (now (part .entry)) (now (memory .exit)) (now (state .exit)) (now (kept .exit)) (now (out .exit)) (now (part .exit)) n ⌝ }
 {
-    if !lent(state.len(), kept.len(), part.len(), PORTION) {
+    if !lent(STATE, state.len(), kept.len(), part.len(), PORTION) {
         return 0;
     }
     let t = tell(memory, load(state, kept), input, out);
@@ -64,7 +48,7 @@ pub extern "C" fn fugu_tell_end(
 ) -> u32
     ensures { λ n. ⌜ TellsEnd (now (memory .entry)) (now (state .entry)) (now (kept .entry)) (now (out .entry)) (now (part .entry)) (now (memory .exit)) (now (out .exit)) (now (part .exit)) n ⌝ }
 {
-    if !lent(state.len(), kept.len(), part.len(), END) {
+    if !lent(STATE, state.len(), kept.len(), part.len(), END) {
         return 0;
     }
     let e = finish(memory, load(state, kept), out);

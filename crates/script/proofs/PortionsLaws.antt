@@ -2,22 +2,24 @@
 use Prim.Native.Nat.{ℕ, suc, _+_, _≤_, _<_}
 use native.Mathlib.Decide.{decLt}
 use native.Mathlib.Omega.{arith}
-use mathlib.Core.Bool.{false}
+use mathlib.Core.Bool.{Bool, true, false, cond}
 use mathlib.Core.List.{List, [], _∷_, _++_, append-nil, append-assoc}
 use mathlib.Core.Path.{_≡_, refl, sym, ap, _∙_, subst}
 use lib.Dec.{eqb}
 use lib.ListN.{length, take, length-append}
 use lib.Seq.{length-take-le, take-all, take-append-le, take-take}
+use Rattle.rules.specs.Lists.{isEmpty}
+use Rattle.rules.specs.Memory.{size}
 use Rattle.rules.specs.MemoryTest.{stepMemory, powerOnMemory}
 use Rattle.rules.specs.Operation.{Operation}
-use Rattle.rules.specs.Script.{header, newline, readLine, reportLine, scriptLines}
+use Rattle.rules.specs.Script.{header, listing, newline, readLine, reportLine, scriptLines}
 use Rattle.rules.specs.Text.{split}
 use Rattle.script.specs.Feeding.{whole, begun, lastLine, linesBehind, restBehind, joinFirst, allButLast, lastPart, afterLines, listMemory}
 use Rattle.script.specs.Feed.{keptRoom, keptLine, lastNumber, BegunFed, FedTo}
-use Rattle.script.specs.Portions.{Portion, usedOf, listedOf, usedBytes, listedBytes, lastState, Feeds, endedScript, PortionsListed}
+use Rattle.script.specs.Portions.{Portion, usedOf, listedOf, usedBytes, listedBytes, lastMemory, lastNewline, lastState, Feeds, endedScript, PortionsListed}
 use Rattle.script.specs.declared.feed.Fed.{Fed as Fed·rt}
 use Rattle.script.specs.declared.feed.State.{State as State·rt}
-use Rattle.script.proofs.feed.FedLaws.{lines-none}
+use Rattle.script.proofs.feed.FedLaws.{fed-numbers, lines-none}
 use Rattle.script.proofs.read.LineEndLaws.{by-test}
 use Rattle.script.proofs.PortionLaws.{joins, joinLines, joinRest, whole-newline, whole-other, whole-nil, begun-all, split-some, list-append, lines-ended, listing-memory}
 use Rattle.script.proofs.read.ReadLaws.{reads-long}
@@ -183,3 +185,70 @@ portions-listed =
           ∙ ap (λ (x : List ℕ). listMemory 1 (powerOnMemory m .memory) (whole x)) e ∙ ap (listMemory 1 (powerOnMemory m .memory)) (ended-lines s))
           ∙ sym (listing-memory m s long);
     }
+
+-- The calls of two lists.
+
+pub feeds-append : (m : List ℕ) (st : State·rt) (ps qs : List Portion) → Feeds m st ps → Feeds (lastMemory m ps) (lastState st ps) qs → Feeds m st (ps ++ qs)
+unfolding Feeds lastMemory lastState
+feeds-append m st [] qs f g = g
+feeds-append m st (p ∷ ps) qs f g = (f .0, (f .1 .0, feeds-append (p .memory-after) (p .fed .state) ps qs (f .1 .1) g))
+
+pub used-append : (ps qs : List Portion) → usedBytes (ps ++ qs) ≡ usedBytes ps ++ usedBytes qs
+unfolding usedBytes
+used-append [] qs = refl
+used-append (p ∷ ps) qs = ap (λ (x : List ℕ). usedOf p ++ x) (used-append ps qs) ∙ sym (append-assoc (usedOf p) (usedBytes ps) (usedBytes qs))
+
+pub memory-append : (m : List ℕ) (ps qs : List Portion) → lastMemory m (ps ++ qs) ≡ lastMemory (lastMemory m ps) qs
+unfolding lastMemory
+memory-append m [] qs = refl
+memory-append m (p ∷ ps) qs = memory-append (p .memory-after) ps qs
+
+pub state-append : (st : State·rt) (ps qs : List Portion) → lastState st (ps ++ qs) ≡ lastState (lastState st ps) qs
+unfolding lastState
+state-append st [] qs = refl
+state-append st (p ∷ ps) qs = state-append (p .fed .state) ps qs
+
+pub listed-append : (ps qs : List Portion) → listedBytes (ps ++ qs) ≡ listedBytes ps ++ listedBytes qs
+unfolding listedBytes
+listed-append [] qs = refl
+listed-append (p ∷ ps) qs = ap (λ (x : List ℕ). listedOf p ++ x) (listed-append ps qs) ∙ sym (append-assoc (listedOf p) (listedBytes ps) (listedBytes qs))
+
+-- The script's end.
+
+-- what has begun is empty where its front is
+front-empty : (b : List ℕ) → isEmpty (take keptRoom b) ≡ isEmpty b
+front-empty [] = refl
+front-empty (x ∷ b) = refl
+
+-- the newline that is fed is the script's last
+pub ended-by : (s : List ℕ) (st : State·rt) → keptLine st ≡ take keptRoom (begun s) → s ++ lastNewline st ≡ endedScript s
+unfolding lastNewline endedScript
+ended-by s st kept = go (isEmpty (begun s)) refl
+  where
+    same : isEmpty (keptLine st) ≡ isEmpty (begun s)
+    same = ap isEmpty kept ∙ front-empty (begun s)
+
+    go : (t : Bool) → isEmpty (begun s) ≡ t → s ++ cond (isEmpty (keptLine st)) [] (newline ∷ []) ≡ cond (isEmpty (begun s)) s (s ++ (newline ∷ []))
+    go true e = rw (same, e) (append-nil s)
+    go false e = rw (same, e)
+
+-- the listing of portions and of the end behind them
+pub end-listed : (m s : List ℕ) (st : State·rt) (ps : List Portion) {out m′ out′ : List ℕ} {f : Fed·rt} → size ≤ length m → st .lines ≡ 0 → keptLine st ≡ []
+    → Feeds (powerOnMemory m .memory) st ps
+    → usedBytes ps ≡ s
+    → FedTo (lastMemory (powerOnMemory m .memory) ps) (lastState st ps) (lastNewline (lastState st ps)) out m′ out′ f
+    → f .stop ≡ 0
+    → header ++ (listedBytes ps ++ take (f .written) out′) ≡ listing s
+unfolding Feeds usedBytes usedOf listedBytes listedOf
+end-listed m s st ps {out} {m′} {out′} {f} long zero none feeds used ends stop =
+    let m₀ = powerOnMemory m .memory in
+    let last = lastState st ps in
+    let few : lastState st ps .lines + length (lastNewline (lastState st ps)) < lastNumber = fed-numbers ends (λ e. omega arith) in
+    let p : Portion = record { input = lastNewline last; output = out; memory-after = m′; output-after = out′; fed = f } in
+    let all : take (f .used) (lastNewline last) ≡ lastNewline last = take-all (f .used) (lastNewline last) (let u = ends .enough few .all-used stop in omega arith) in
+    let kept : keptLine last ≡ take keptRoom (begun s) = kept-begun ps m₀ [] st whole-nil none feeds ∙ ap (λ (x : List ℕ). take keptRoom (begun x)) used in
+    ap (λ (x : List ℕ). header ++ (listedBytes ps ++ x)) (sym (append-nil (take (f .written) out′)))
+    ∙ ap (λ (x : List ℕ). header ++ x) (sym (listed-append ps (p ∷ [])))
+    ∙ portions-listed .listed m s st (ps ++ (p ∷ [])) long zero none (feeds-append m₀ st ps (p ∷ []) feeds (ends, (few, tt)))
+    (used-append ps (p ∷ []) ∙ ap (λ (x : List ℕ). x ++ (take (f .used) (lastNewline last) ++ [])) used ∙ ap (λ (x : List ℕ). s ++ x) (append-nil (take (f .used) (lastNewline last)) ∙ all)
+    ∙ ended-by s last kept)

@@ -58,6 +58,10 @@ Feeds m st (p ∷ ps) =
 unfoldable pub endedScript : List ℕ → List ℕ
 endedScript s = cond (isEmpty (begun s)) s (s ++ (newline ∷ []))
 
+-- what is fed for that behind a state
+unfoldable pub lastNewline : State·rt → List ℕ
+lastNewline st = cond (isEmpty (keptLine st)) [] (newline ∷ [])
+
 -- whatever the portions, the header and what was listed are the listing
 pub record PortionsListed : Type 1 where
   pub listed : (m s : List ℕ) (st : State·rt) (ps : List Portion) → size ≤ length m → st .lines ≡ 0 → keptLine st ≡ []

@@ -17,6 +17,7 @@ ghost use Prim.Native.Nat.{_≤_, _<_};
 ghost use lib.ListN.{length, take};
 ghost use Rattle.rules.specs.Lists.{isEmpty};
 ghost use Rattle.script.specs.Feed.{keptRoom, keptLine, Cut, LinesFeedable, LinesFed, BegunFed, FedTo};
+ghost use Rattle.script.specs.Portions.{lastNewline};
 ghost use Rattle.script.specs.Read.{OneLine, lineOf};
 
 // Feeding stopped because fewer line numbers are left than the portion has bytes.
@@ -241,4 +242,14 @@ pub fn feed(memory: &mut [u32], state: State, input: &[u8], out: &mut [u8]) -> F
         &mut digits,
         len,
     )
+}
+
+// The script's end: a line that has begun is its last, and gets its newline.
+pub fn feed_end(memory: &mut [u32], state: State, out: &mut [u8]) -> Fed
+    ensures { λ f. ⌜ FedTo (now (memory .entry)) state (lastNewline state) (now (out .entry)) (now (memory .exit)) (now (out .exit)) f ⌝ }
+{
+    if state.begun() {
+        return feed(memory, state, b"\n", out);
+    }
+    feed(memory, state, b"", out)
 }

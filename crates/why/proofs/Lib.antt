@@ -4,3 +4,4 @@ pub mod ReachLaws
 pub mod TextLaws
 pub mod RunLaws
 pub mod AllLaws
+pub mod ProgramLaws

@@ -2,3 +2,4 @@ pub mod Asked
 pub mod Reads
 pub mod One
 pub mod All
+pub mod Program

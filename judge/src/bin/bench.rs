@@ -2,43 +2,21 @@
 //! folder before the arguments.
 
 use std::fs::{self, File};
-use std::io::{self, Write};
+use std::io::Write;
 use std::path::{Path, PathBuf};
-use std::process::{Command, ExitCode, Stdio};
+use std::process::{Command, ExitCode, ExitStatus, Stdio};
 use std::time::{Duration, Instant};
 
+use cli::{print, Done, Failure};
 use judge::program::{
-    arguments, failed, finish, first_lines, fugu, misused, print, tested_lines, Measured,
-    JUDGE_ROUNDS, ROUNDS, TESTED_TIMES,
+    failed, first_lines, fugu, run, tested_lines, Measured, JUDGE_ROUNDS, ROUNDS, TESTED_TIMES,
 };
 use judge::script;
 
-const NAME: &str = "bench";
-const USAGE: &str = "\
-usage: bin/bench [--instructions] [--script FILE] [PROGRAM [ARGUMENT..]]
-       bin/bench --help
-
-Plays a script by target/bin/fugu, by the judge and by PROGRAM, which takes it on standard input and
-writes the listing to standard output; it is called with the arguments, as `--order 5` of a program
-that knows several orders. If no script is named, these are eight of a million lines: random ones of the
-flavours mixed, swap, which keeps the frames full, and switches; `S,1` `A,1,7` `D` in turn (S, A, D); two
-that bring one message and then are E alone, which reads its words in turn, over and over: in the
-hardware queue (E, direct) and in a frame (E, buffered); and two of C alone while a group runs that has
-no message (C, no mail) or alone has some, as many as the hardware queue takes (C, queue full). Then
-plays the lines of the script's first 64 KiB, at most 4096, 64 times over, by target/bin/tested, which
-tests the memory before every step, by the judge, which keeps no memory to test, and by PROGRAM with
---test behind its arguments, which is to test its own.
-
-The listings must be the judge's, else the exit status is 1. The programs then run by turns, their
-standard output to /dev/null; the time told is the best of fifteen runs, of five for the judge.
-
-Last come the calls of target/staticlib/libcapi.a on the same lines, 64 times over, against the
-judge's step on words and its memory test: PROGRAM is asked nothing there. They are left out if the
-library is not there.
-
-With --instructions nothing is timed. Told are the instructions a line of target/bin/fugu and of
-PROGRAM over the first 100000 lines of each script, as valgrind's callgrind counts them, less those for
-an empty script.";
+const COMMAND: cli::Command = cli::Command {
+    name: "bench",
+    help: include_str!("../../../bin/help/bench"),
+};
 
 /// So many lines are counted: callgrind takes some fifty times the time.
 const COUNTED_LINES: usize = 100_000;
@@ -57,21 +35,16 @@ struct Other<'a> {
 }
 
 fn main() -> ExitCode {
-    let arguments = arguments();
-    let arguments: Vec<&str> = arguments.iter().map(String::as_str).collect();
-    let Some((project, arguments)) = arguments.split_first() else {
-        return misused(NAME, "called without the project's folder", USAGE);
-    };
-    if arguments == ["--help"] {
-        return finish(NAME, print(USAGE));
-    }
-    match understand(arguments) {
-        Ok(call) => bench(Path::new(project), &call).unwrap_or_else(|reason| failed(NAME, &reason)),
-        Err(reason) => misused(NAME, &reason, USAGE),
-    }
+    run(&COMMAND, |arguments| {
+        let Some((project, arguments)) = arguments.split_first() else {
+            let folder = "called without the project's folder";
+            return Err(Failure::Misused(folder.to_string()));
+        };
+        bench(Path::new(project), &understand(arguments)?)
+    })
 }
 
-fn understand<'a>(arguments: &'a [&'a str]) -> Result<Call<'a>, String> {
+fn understand<'a>(arguments: &'a [&'a str]) -> Result<Call<'a>, Failure> {
     let (counts, arguments) = match *arguments {
         ["--instructions", ref arguments @ ..] => (true, arguments),
         ref arguments => (false, arguments),
@@ -85,7 +58,7 @@ fn understand<'a>(arguments: &'a [&'a str]) -> Result<Call<'a>, String> {
         [program, ref arguments @ ..] if !program.starts_with('-') => {
             Some(Other { program, arguments })
         }
-        _ => return Err("wrong arguments".to_string()),
+        _ => return Err(Failure::Misused("wrong arguments".to_string())),
     };
     Ok(Call {
         counts,
@@ -94,7 +67,7 @@ fn understand<'a>(arguments: &'a [&'a str]) -> Result<Call<'a>, String> {
     })
 }
 
-fn bench(project: &Path, call: &Call) -> Result<ExitCode, String> {
+fn bench(project: &Path, call: &Call) -> Done {
     let program = fugu(project)?;
     for measured in Measured::scripts(call.script)? {
         if call.counts {
@@ -107,17 +80,13 @@ fn bench(project: &Path, call: &Call) -> Result<ExitCode, String> {
 }
 
 /// The instructions a line of the project's program and of another.
-fn count_one(
-    fugu: &Path,
-    other: Option<Other>,
-    Measured { name, script }: &Measured,
-) -> Result<ExitCode, String> {
+fn count_one(fugu: &Path, other: Option<Other>, Measured { name, script }: &Measured) -> Done {
     let script = first_lines(script, COUNTED_LINES);
     let lines = script.iter().filter(|&&byte| byte == b'\n').count();
     if lines == 0 {
-        return print(&format!("{name}: no line ends with a newline")).map_err(told);
+        return print(&format!("{name}: no line ends with a newline\n"));
     }
-    let file = Scratch::holding("counted", script).map_err(told)?;
+    let file = Scratch::holding("counted", script)?;
     let mut runners = vec![Runner::new("fugu", fugu, &file)];
     runners.extend(other.map(|other| Runner::other(other, &file)));
     let listing = script::listing(script);
@@ -134,7 +103,7 @@ fn count_one(
         let (ratio, name) = (own / other, &runners[1].name);
         text += &format!("\nfugu takes {ratio:.2} times the instructions of {name}");
     }
-    print(&text).map_err(told)
+    print(&format!("{text}\n"))
 }
 
 /// Both parts: the program, and the calls that test the memory.
@@ -143,8 +112,8 @@ fn bench_one(
     fugu: &Path,
     other: Option<Other>,
     Measured { name, script }: &Measured,
-) -> Result<ExitCode, String> {
-    let whole = Scratch::holding("whole", script).map_err(told)?;
+) -> Done {
+    let whole = Scratch::holding("whole", script)?;
     race(
         name,
         Runner::new("fugu", fugu, &whole),
@@ -155,14 +124,14 @@ fn bench_one(
 
     let tested = project.join("target/bin/tested");
     if !tested.exists() {
-        let absent =
-            "target/bin/tested is not there, so the tested calls are left out: rt check builds it";
-        return print(absent).map_err(told);
+        return print(
+            "target/bin/tested is not there, so the tested calls are left out: rt check builds it\n",
+        );
     }
     let first = tested_lines(script);
     let repeated = first.repeat(TESTED_TIMES);
-    let first = Scratch::holding("first", first).map_err(told)?;
-    let whole = Scratch::holding("repeated", &repeated).map_err(told)?;
+    let first = Scratch::holding("first", first)?;
+    let whole = Scratch::holding("repeated", &repeated)?;
     race(
         name,
         Runner::new("tested", &tested, &first),
@@ -172,18 +141,8 @@ fn bench_one(
     )
 }
 
-fn told(error: io::Error) -> String {
-    error.to_string()
-}
-
 /// Runs the project's program, the judge's and another by turns, and tells their best times.
-fn race(
-    name: &str,
-    own: Runner,
-    other: Option<Runner>,
-    script: &[u8],
-    file: &Scratch,
-) -> Result<ExitCode, String> {
+fn race(name: &str, own: Runner, other: Option<Runner>, script: &[u8], file: &Scratch) -> Done {
     let mut runners = vec![own, Runner::judge(file)?];
     runners.extend(other);
     let listing = script::listing(script);
@@ -203,7 +162,7 @@ fn race(
     for runner in &runners[1..] {
         text += &format!("\n{}", runners[0].ratio(runner));
     }
-    print(&text).map_err(told)
+    print(&format!("{text}\n"))
 }
 
 /// A program, and its best time so far.
@@ -237,8 +196,8 @@ impl Runner {
     }
 
     /// The judge's program, which stands beside this one.
-    fn judge(script: &Scratch) -> Result<Self, String> {
-        let own = std::env::current_exe().map_err(told)?;
+    fn judge(script: &Scratch) -> Result<Self, Failure> {
+        let own = std::env::current_exe().map_err(failed(COMMAND.name))?;
         Ok(Runner {
             rounds: JUDGE_ROUNDS,
             ..Runner::new("judge", &own.with_file_name("judge"), script)
@@ -253,27 +212,31 @@ impl Runner {
     }
 
     /// The program on its script.
-    fn command(&self) -> Result<Command, String> {
+    fn command(&self) -> Result<Command, Failure> {
         let mut command = Command::new(&self.program);
         command.args(&self.arguments);
-        command.stdin(File::open(&self.script).map_err(told)?);
+        command.stdin(self.input()?);
         Ok(command)
     }
 
+    fn input(&self) -> Result<File, Failure> {
+        File::open(&self.script).map_err(failed(&self.script))
+    }
+
     /// The instructions for its script, less those for an empty one.
-    fn instructions(&self) -> Result<u64, String> {
-        let script = File::open(&self.script).map_err(told)?;
-        let (all, none) = (self.counted(script.into())?, self.counted(Stdio::null())?);
+    fn instructions(&self) -> Result<u64, Failure> {
+        let script = self.input()?.into();
+        let (all, none) = (self.counted(script)?, self.counted(Stdio::null())?);
         Ok(all.saturating_sub(none))
     }
 
     /// The instructions for an input, as callgrind counts them.
-    fn counted(&self, input: Stdio) -> Result<u64, String> {
+    fn counted(&self, input: Stdio) -> Result<u64, Failure> {
         let mut valgrind = Command::new("valgrind");
         valgrind.args(["--tool=callgrind", "--callgrind-out-file=/dev/null"]);
         valgrind.arg(&self.program).args(&self.arguments);
         let output = valgrind.stdin(input).stdout(Stdio::null()).output();
-        let output = output.map_err(|error| format!("valgrind: {error}"))?;
+        let output = output.map_err(failed("valgrind"))?;
         let message = String::from_utf8_lossy(&output.stderr);
         let collected = message
             .lines()
@@ -281,33 +244,36 @@ impl Runner {
         collected
             .and_then(|(_, count)| count.trim().parse().ok())
             .filter(|_| output.status.success())
-            .ok_or_else(|| format!("valgrind: {}: {message}", output.status))
+            .ok_or_else(|| Failure::Wrong(format!("valgrind: {}: {message}", output.status)))
     }
 
     /// Its listing is the judge's, or it is an error.
-    fn lists(&self, listing: &[u8]) -> Result<(), String> {
+    fn lists(&self, listing: &[u8]) -> Result<(), Failure> {
         let name = &self.name;
         let output = self.command()?.output();
-        let output = output.map_err(|error| format!("{name}: {error}"))?;
-        if !output.status.success() {
-            return Err(format!("{name}: {}", output.status));
-        }
+        let output = output.map_err(failed(name))?;
+        self.ended_well(output.status)?;
         if output.stdout != listing {
-            return Err(format!("{name}: the listing differs from the judge's"));
+            let differs = format!("{name}: the listing differs from the judge's");
+            return Err(Failure::Wrong(differs));
         }
         Ok(())
     }
 
-    fn run(&mut self) -> Result<(), String> {
+    fn run(&mut self) -> Result<(), Failure> {
         let mut command = self.command()?;
         command.stdout(Stdio::null());
         let start = Instant::now();
-        let status = command.status().map_err(told)?;
+        let status = command.status().map_err(failed(&self.name))?;
         self.best = self.best.min(start.elapsed());
-        if !status.success() {
-            return Err(format!("{}: {status}", self.name));
+        self.ended_well(status)
+    }
+
+    fn ended_well(&self, status: ExitStatus) -> Result<(), Failure> {
+        if status.success() {
+            return Ok(());
         }
-        Ok(())
+        Err(Failure::Wrong(format!("{}: {status}", self.name)))
     }
 
     fn time(&self, lines: usize) -> String {
@@ -330,11 +296,14 @@ impl Runner {
 struct Scratch(PathBuf);
 
 impl Scratch {
-    fn holding(name: &str, script: &[u8]) -> io::Result<Self> {
-        let name = format!("{NAME}-{}-{name}.script", std::process::id());
+    fn holding(name: &str, script: &[u8]) -> Result<Self, Failure> {
+        let name = format!("{}-{}-{name}.script", COMMAND.name, std::process::id());
         let path = std::env::temp_dir().join(name);
-        File::create_new(&path)?.write_all(script)?;
-        Ok(Scratch(path))
+        let mut file = File::create_new(&path).map_err(failed(&path))?;
+        let scratch = Scratch(path);
+        let written = file.write_all(script);
+        written.map_err(failed(&scratch.0))?;
+        Ok(scratch)
     }
 }
 

@@ -95,7 +95,8 @@ fn a_program_that_does_not_read_to_the_end_is_told() {
 fn a_program_that_is_not_there_is_told() {
     let mut absent = Command::new("/no/such/program");
     let told = compare(&mut absent, 1, |_| Ok(()), |_, _, _| ()).expect_err("no program");
-    assert!(told.to_string().contains("No such file"));
+    let absent = "/no/such/program: No such file or directory";
+    assert_eq!(told.to_string(), absent);
 }
 
 #[test]
@@ -139,14 +140,13 @@ fn scratch(name: &str) -> PathBuf {
     folder
 }
 
-/// A project's folder: the programs that stand for the wrapper and for those in target/bin.
-fn project(name: &str, wrapper: &str, programs: &[(&str, &str)]) -> PathBuf {
+/// A project's folder: the programs that stand for the wrapper and for what it runs.
+fn project(name: &str, wrapper: &str, fugu: &str) -> PathBuf {
     let folder = scratch(name);
-    fs::create_dir_all(folder.join("bin")).expect("made");
-    fs::create_dir_all(folder.join("target/bin")).expect("made");
-    symlink(wrapper, folder.join("bin/fugu")).expect("linked");
-    for (name, program) in programs {
-        symlink(program, folder.join("target/bin").join(name)).expect("linked");
+    for (path, program) in [("bin", wrapper), ("programs/target/release", fugu)] {
+        let path = folder.join(path);
+        fs::create_dir_all(&path).expect("made");
+        symlink(program, path.join("fugu")).expect("linked");
     }
     folder
 }
@@ -203,12 +203,49 @@ fn compare_names_the_place_of_a_difference() {
 }
 
 #[test]
+fn compare_names_what_cannot_be_run() {
+    for (program, name) in [("/nowhere", "/nowhere"), ("", "''")] {
+        let no_program = compared(Path::new("."), &["100", "1", program]);
+        assert_eq!(no_program.status.code(), Some(1));
+        let told = format!("compare: {name}: No such file or directory\n");
+        assert_eq!(text(&no_program.stderr), told);
+    }
+    let no_project = compared(Path::new("/nowhere"), &["100", "1"]);
+    assert_eq!(no_project.status.code(), Some(1));
+    let told = "compare: /nowhere/bin/fugu: No such file or directory\n";
+    assert_eq!(text(&no_project.stderr), told);
+}
+
+#[test]
+fn bench_names_what_cannot_be_read_or_run() {
+    let project = project("bench-names", "/bin/true", JUDGE);
+    let script = short_script(&project);
+    let absent = "No such file or directory\n";
+    for (arguments, told) in [
+        (["--script", "/nowhere", JUDGE], "/nowhere"),
+        (["--script", &script, "/nowhere"], "/nowhere"),
+    ] {
+        let output = benched(&project, &arguments);
+        assert_eq!(output.status.code(), Some(1));
+        assert_eq!(text(&output.stderr), format!("bench: {told}: {absent}"));
+    }
+}
+
+/// A program that goes before it has read its script is told; the comparison itself goes on.
+#[test]
+fn compare_outlives_a_program_that_goes_away() {
+    let output = compared(Path::new("."), &["100000", "1", "true"]);
+    assert_eq!(output.status.code(), Some(1));
+    assert!(text(&output.stderr).contains("the header"));
+}
+
+#[test]
 fn compare_plays_the_projects_own_program() {
-    let same = project("compare-same", "/bin/true", &[("fugu", JUDGE)]);
+    let same = project("compare-same", "/bin/true", JUDGE);
     assert!(compared(&same, &["100", "1"]).status.success());
-    let wrong = project("compare-wrong", "/bin/true", &[("fugu", "/bin/cat")]);
+    let wrong = project("compare-wrong", "/bin/true", "/bin/cat");
     assert_eq!(compared(&wrong, &["100", "1"]).status.code(), Some(1));
-    let unbuilt = project("compare-unbuilt", "/bin/false", &[("fugu", JUDGE)]);
+    let unbuilt = project("compare-unbuilt", "/bin/false", JUDGE);
     assert_eq!(compared(&unbuilt, &["100", "1"]).status.code(), Some(1));
 }
 
@@ -218,10 +255,7 @@ fn compare_and_bench_tell_how_they_are_used() {
         ("compare", compared as fn(&Path, &[&str]) -> Output),
         ("bench", benched),
     ] {
-        let usage = format!("usage: bin/{program}");
-        let help = called(Path::new("."), &["--help"]);
-        assert!(help.status.success());
-        assert!(text(&help.stdout).starts_with(&usage));
+        let usage = format!("usage: {program}");
         let wrong: &[&[&str]] = match program {
             "compare" => &[
                 &[],
@@ -256,7 +290,7 @@ fn short_script(project: &Path) -> String {
 
 #[test]
 fn bench_tells_times_and_ratios() {
-    let project = project("bench-plain", "/bin/true", &[("fugu", JUDGE)]);
+    let project = project("bench-plain", "/bin/true", JUDGE);
     let output = benched(&project, &["--script", &short_script(&project), JUDGE]);
     assert!(output.status.success(), "{}", text(&output.stderr));
     let told = text(&output.stdout);
@@ -278,11 +312,13 @@ fn shell_program(folder: &Path, name: &str, text: &str) -> String {
 
 /// A project whose tested program plays its script by the judge, so many times over.
 fn tested_project(name: &str, times: u32) -> PathBuf {
-    let project = project(name, "/bin/true", &[("fugu", JUDGE)]);
+    let project = project(name, "/bin/true", JUDGE);
     let text = format!(
         "script=$(cat)\nfor _ in $(seq {times}); do printf '%s\\n' \"$script\"; done | {JUDGE}"
     );
-    shell_program(&project.join("target/bin"), "tested", &text);
+    let folder = project.join("target/bin");
+    fs::create_dir_all(&folder).expect("made");
+    shell_program(&folder, "tested", &text);
     project
 }
 
@@ -314,7 +350,7 @@ fn noting_program(project: &Path) -> String {
 /// With a valgrind that counts 100 instructions for each of its arguments and each line, and 1000 more.
 #[test]
 fn bench_counts_instructions() {
-    let project = project("bench-counts", "/bin/true", &[("fugu", JUDGE)]);
+    let project = project("bench-counts", "/bin/true", JUDGE);
     let text = "lines=$(wc -l)\necho \"==7== Collected : $((1000 + 100 * $# * lines))\" >&2";
     shell_program(&project, "valgrind", text);
     let (other, script) = (noting_program(&project), short_script(&project));
@@ -359,11 +395,11 @@ fn bench_measures_the_calls_that_test_the_memory() {
 
 #[test]
 fn bench_refuses_another_listing() {
-    let right = project("bench-right", "/bin/true", &[("fugu", JUDGE)]);
+    let right = project("bench-right", "/bin/true", JUDGE);
     let other = benched(&right, &["--script", &short_script(&right), "cat"]);
     assert_eq!(other.status.code(), Some(1));
     assert!(text(&other.stderr).starts_with("bench: cat: the listing differs"));
-    let wrong = project("bench-wrong", "/bin/true", &[("fugu", "/bin/cat")]);
+    let wrong = project("bench-wrong", "/bin/true", "/bin/cat");
     let own = benched(&wrong, &["--script", &short_script(&wrong)]);
     assert_eq!(own.status.code(), Some(1));
     let short = tested_project("bench-short", 63);

@@ -1,19 +1,21 @@
 //! What a node holds, as text, and a node read from the bytes of its memory.
 
 use std::fs;
-use std::path::{Path, PathBuf};
+use std::io;
 
+use judge::dump;
 use judge::memory;
 use judge::node::Node;
 use judge::script;
 use judge::state;
 
-use crate::support::{bytes, memory_after, operations, power_on};
+use crate::support::{bytes, memory_after, operations, power_on, vectors};
 
 /// The node in a file of these bytes, or what is told of them.
 fn read(file: &[u8]) -> Result<Node, String> {
-    let node = state::read(file).expect("memory is read without error");
-    node.map_err(|no_node| no_node.to_string())
+    let dump = dump::read(file).expect("memory is read without error");
+    dump.map(|dump| dump.node)
+        .map_err(|no_node| no_node.to_string())
 }
 
 fn state_of(memory: &[u32]) -> String {
@@ -129,21 +131,6 @@ fn memory_of(script: &[u8]) -> Vec<u32> {
     memory
 }
 
-/// The scripts of vectors/.
-fn vectors() -> Vec<PathBuf> {
-    let vectors = Path::new(env!("CARGO_MANIFEST_DIR")).join("../vectors");
-    let folders = [
-        "base", "order1", "order2", "order3", "order4", "order5", "order6", "order7",
-    ];
-    let folders = folders.map(|name| vectors.join(name));
-    let entries = folders.map(|folder| fs::read_dir(folder).expect("a folder"));
-    let paths = entries.into_iter().flatten();
-    let paths = paths.map(|entry| entry.expect("an entry").path());
-    paths
-        .filter(|path| path.extension().is_some_and(|end| end == "script"))
-        .collect()
-}
-
 #[test]
 fn memories_after_every_script_read_back_to_the_same_state() {
     let mut states = 0;
@@ -208,4 +195,23 @@ fn a_file_with_a_ragged_end_is_no_node() {
         let told = format!("the last word is cut short: {length} bytes");
         assert_eq!(read(&bytes(&memory)[..length]), Err(told));
     }
+}
+
+/// Up to 16 MiB a stream may have an end.
+#[test]
+fn a_stream_that_does_not_end_is_no_node() {
+    let longest = 16 << 20;
+    let whole = bytes(&power_on());
+    let behind = |length: usize| io::Read::take(io::repeat(7), (length - whole.len()) as u64);
+    let streamed = |length| dump::read(io::Read::chain(whole.as_slice(), behind(length)));
+    let told = |length| match streamed(length).expect("memory is read without error") {
+        Ok(dump) => format!("a node and {} words", dump.words_behind),
+        Err(no_node) => no_node.to_string(),
+    };
+    assert_eq!(told(longest), "a node and 4186200 words");
+    let endless = "it does not end within 16777216 bytes";
+    assert_eq!(told(longest + 4), endless);
+    assert_eq!(told(longest + 1), endless);
+    let ragged = "the last word is cut short: 16777215 bytes";
+    assert_eq!(told(longest - 1), ragged);
 }

@@ -1,6 +1,8 @@
 //! What the tests share.
 
 use std::collections::VecDeque;
+use std::fs;
+use std::path::{Path, PathBuf};
 
 use judge::generator::FLAVOURS;
 use judge::memory;
@@ -116,4 +118,19 @@ pub fn pages(node: &Node, group: usize) -> &VecDeque<usize> {
 /// A memory as a file has it.
 pub fn bytes(memory: &[u32]) -> Vec<u8> {
     memory.iter().flat_map(|word| word.to_le_bytes()).collect()
+}
+
+/// The scripts of vectors/.
+pub fn vectors() -> Vec<PathBuf> {
+    let vectors = Path::new(env!("CARGO_MANIFEST_DIR")).join("../vectors");
+    let folders = [
+        "base", "order1", "order2", "order3", "order4", "order5", "order6", "order7",
+    ];
+    let folders = folders.map(|name| vectors.join(name));
+    let entries = folders.map(|folder| fs::read_dir(folder).expect("a folder"));
+    let paths = entries.into_iter().flatten();
+    let paths = paths.map(|entry| entry.expect("an entry").path());
+    paths
+        .filter(|path| path.extension().is_some_and(|end| end == "script"))
+        .collect()
 }

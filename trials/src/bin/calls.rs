@@ -5,21 +5,20 @@ use std::hint::black_box;
 use std::process::ExitCode;
 use std::time::{Duration, Instant};
 
+use cli::{print, Command, Failure};
 use fugu::{REPORT, SIZE};
 use judge::memory;
 use judge::node::Operation;
-use judge::program::{
-    arguments, failed, finish, misused, print, tested_lines, Measured, JUDGE_ROUNDS, ROUNDS,
-    TESTED_TIMES,
-};
+use judge::program::{run, tested_lines, Measured, JUDGE_ROUNDS, ROUNDS, TESTED_TIMES};
 use judge::script;
 use trials::asked::taken_apart;
 use trials::comparison::report_words;
 
-const NAME: &str = "calls";
-const USAGE: &str = "\
+const COMMAND: Command = Command {
+    name: "calls",
+    help: "\
 usage: calls [--script FILE]
-       calls --help
+       calls --help | --version
 
 Plays the lines of a script's first 64 KiB, at most 4096, 64 times over from power-on, by fugu_step,
 by fugu_line and by the judge's step on words, each of which tests the memory first; the lines are
@@ -29,26 +28,22 @@ less that of the steps; that of a step without a test is what is left of it.
 
 The reports and the memory must be the judge's, else the exit status is 1. The time of each of the 64
 passes is the best of fifteen rounds, of five for the judge, so that other work on the machine counts
-little.";
+little.
+",
+};
 
 fn main() -> ExitCode {
-    let arguments = arguments();
-    let arguments: Vec<&str> = arguments.iter().map(String::as_str).collect();
-    let script = match *arguments {
-        ["--help"] => return finish(NAME, print(USAGE)),
-        ["--script", script] => Some(script),
-        [] => None,
-        _ => return misused(NAME, "wrong arguments", USAGE),
-    };
-    match Measured::scripts(script).and_then(|scripts| all_measured(&scripts)) {
-        Ok(text) => finish(NAME, print(&text)),
-        Err(reason) => failed(NAME, &reason),
-    }
-}
-
-fn all_measured(scripts: &[Measured]) -> Result<String, String> {
-    let texts: Result<Vec<String>, String> = scripts.iter().map(measured).collect();
-    Ok(texts?.join("\n"))
+    run(&COMMAND, |arguments| {
+        let script = match *arguments {
+            ["--script", script] => Some(script),
+            [] => None,
+            _ => return Err(Failure::Misused("wrong arguments".to_string())),
+        };
+        let scripts = Measured::scripts(script)?;
+        let texts: Result<Vec<String>, String> = scripts.iter().map(measured).collect();
+        let texts = texts.map_err(Failure::Wrong)?;
+        print(&format!("{}\n", texts.join("\n")))
+    })
 }
 
 /// A line, and what it asks for in every form.

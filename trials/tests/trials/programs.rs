@@ -2,13 +2,16 @@
 
 use std::process::{Command, Output};
 
-fn run(program: &str, arguments: &str) -> Output {
-    let path = match program {
+fn path(program: &str) -> &'static str {
+    match program {
         "memories" => env!("CARGO_BIN_EXE_memories"),
         "reasons" => env!("CARGO_BIN_EXE_reasons"),
         _ => env!("CARGO_BIN_EXE_calls"),
-    };
-    let mut command = Command::new(path);
+    }
+}
+
+fn run(program: &str, arguments: &str) -> Output {
+    let mut command = Command::new(path(program));
     let output = command.args(arguments.split_whitespace()).output();
     output.expect("the program runs")
 }
@@ -63,7 +66,10 @@ fn reasons_writes_the_rows_of_a_script() {
         text(&output.stdout),
         "0 refused 17\n1 refused 17\n2 reason 1 line 4\n3 refused 2\n4 refused 17\n5 refused 17\n"
     );
-    assert_eq!(run("reasons", "--rows /nowhere").status.code(), Some(1));
+    let absent = run("reasons", "--rows /nowhere");
+    assert_eq!(absent.status.code(), Some(1));
+    let told = "reasons: /nowhere: No such file or directory\n";
+    assert_eq!(text(&absent.stderr), told);
 }
 
 #[test]
@@ -79,12 +85,17 @@ fn the_programs_tell_how_they_are_used() {
     for (program, wrong) in wrong {
         let help = run(program, "--help");
         assert!(help.status.success());
-        assert!(text(&help.stdout).starts_with("usage: "));
+        let usage = format!("usage: {program} ");
+        assert!(text(&help.stdout).starts_with(&usage));
+        assert_eq!(run(program, "-h").stdout, help.stdout);
+        let version = format!("{program} {}, proved with ", env!("CARGO_PKG_VERSION"));
+        let told = run(program, "--version").stdout;
+        assert!(text(&told).starts_with(&version));
         for arguments in wrong {
             let misused = run(program, arguments);
             assert_eq!(misused.status.code(), Some(2), "{program} {arguments}");
             assert!(misused.stdout.is_empty());
-            assert!(text(&misused.stderr).contains("usage: "));
+            assert!(text(&misused.stderr).contains(&usage));
         }
     }
 }
@@ -110,5 +121,26 @@ fn calls_needs_a_script() {
     let empty = run("calls", "--script /dev/null");
     assert!(empty.status.success());
     assert!(text(&empty.stdout).ends_with("the calls are left out\n"));
-    assert_eq!(run("calls", "--script /nowhere").status.code(), Some(1));
+    let absent = run("calls", "--script /nowhere");
+    assert_eq!(absent.status.code(), Some(1));
+    let told = "calls: /nowhere: No such file or directory\n";
+    assert_eq!(text(&absent.stderr), told);
+}
+
+/// Before anything is compared or measured.
+#[test]
+fn an_output_that_cannot_be_written_is_told_at_once() {
+    for (program, arguments) in [
+        ("memories", "1000000000 1"),
+        ("reasons", "1000000000 1"),
+        ("calls", ""),
+    ] {
+        let call = format!("exec \"$0\" {arguments} >&-");
+        let mut shell = Command::new("sh");
+        let shell = shell.args(["-c", &call, path(program)]).output();
+        let output = shell.expect("the shell runs");
+        assert_eq!(output.status.code(), Some(1));
+        let told = format!("{program}: standard output: Bad file descriptor\n");
+        assert_eq!(text(&output.stderr), told);
+    }
 }

@@ -3,7 +3,7 @@
 
 use fugu::{answer, Node, SIZE};
 
-use crate::support::{after, arrivals, only, started, taken_apart};
+use crate::support::{after, arrivals, only, report, started, taken_apart};
 
 /// The line is refused with this answer.
 fn refused(node: Node<Vec<u32>>, line: &str, answer: u32) {
@@ -21,11 +21,11 @@ fn refused(node: Node<Vec<u32>>, line: &str, answer: u32) {
 fn accepted() {
     let mut node = started();
     assert!(node.line(b"S,1").is_accepted());
-    assert_eq!(node.line(b"A,1,7").to_string(), "0,0,0,1,0");
-    assert_eq!(node.line(b"P,5").to_string(), "0,1,0,0,0");
-    let report = node.line(b"L,3");
-    assert_eq!(report.to_string(), "0,1,0,0,0,3,1,5");
-    assert_eq!(report.sent.words(), [5]);
+    assert_eq!(node.line(b"A,1,7"), report("0,0,0,1,0"));
+    assert_eq!(node.line(b"P,5"), report("0,1,0,0,0"));
+    let launched = node.line(b"L,3");
+    assert_eq!(launched, report("0,1,0,0,0,3,1,5"));
+    assert_eq!(launched.sent.words(), [5]);
 }
 
 #[test]
@@ -66,7 +66,7 @@ fn no_frames() {
     refused(
         after(&arrivals(&[], "A,1,7", 768)),
         "A,1,7",
-        answer::NO_FRAMES,
+        answer::NO_PAGES,
     );
 }
 

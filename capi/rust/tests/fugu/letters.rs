@@ -3,7 +3,7 @@
 
 use fugu::answer::{ACCEPTED, UNREADABLE};
 
-use crate::support::{after, only, started, taken_apart};
+use crate::support::{after, only, report, started, taken_apart};
 
 /// Whether a letter takes this count of numbers.
 fn taken(letter: u8, count: usize) -> bool {
@@ -115,8 +115,8 @@ fn a_line_and_its_letter_are_the_same_step() {
 fn a_switch_is_two_acts() {
     let lines = ["S,1", "A,1,7", "A,2,5"];
     let (mut by_one, mut by_two) = (after(&lines), after(&lines));
-    assert_eq!(by_one.step(b'S', &[2]).to_string(), "0,0,0,2,2");
-    assert_eq!(by_two.step(b'O', &[]).to_string(), "0,0,0,0,2");
-    assert_eq!(by_two.step(b'I', &[2]).to_string(), "0,0,0,2,0");
+    assert_eq!(by_one.step(b'S', &[2]), report("0,0,0,2,2"));
+    assert_eq!(by_two.step(b'O', &[]), report("0,0,0,0,2"));
+    assert_eq!(by_two.step(b'I', &[2]), report("0,0,0,2,0"));
     assert_eq!(by_one, by_two);
 }

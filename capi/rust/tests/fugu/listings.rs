@@ -1,63 +1,39 @@
 //! Scripts played line by line: the reports are those of the listing beside each.
 
 use std::fs;
-use std::path::{Path, PathBuf};
 
-use crate::support::{lines, started, taken_apart};
+use crate::support::{lines, listed, report, started, taken_apart};
 
-const HEADER: &str = "line,answer,value,trap,upcall,moved\n";
-
-/// The scripts of a folder of the project that have a listing.
-fn scripts(folder: &str) -> Vec<PathBuf> {
-    let folder = Path::new(env!("CARGO_MANIFEST_DIR"))
-        .join("../..")
-        .join(folder);
-    let mut scripts: Vec<_> = fs::read_dir(&folder)
-        .unwrap_or_else(|error| panic!("{}: {error}", folder.display()))
-        .map(|entry| entry.expect("the folder is read").path())
-        .filter(|path| {
-            path.extension().is_some_and(|end| end == "script")
-                && path.with_extension("listing").exists()
-        })
-        .collect();
-    scripts.sort();
-    scripts
-}
-
-/// The listing of a script, each line played by its bytes, and by its letter too where it can be
-/// taken apart.
-fn listing(script: &[u8]) -> String {
-    let mut listing = HEADER.to_string();
+/// Each line of a script by its bytes, and by its letter too where it can be taken apart, reports what the
+/// row of the listing has.
+fn reported(script: &[u8], listing: &str) {
     let mut node = started();
-    for (index, line) in lines(script).into_iter().enumerate() {
+    let mut rows = listing.lines().skip(1);
+    for (line, number) in lines(script).into_iter().zip(1..) {
+        let row = rows.next().unwrap_or_default();
+        let (listed, fields) = row.split_once(',').expect("a row");
+        assert_eq!(listed, number.to_string());
+        let expected = report(fields);
         let mut by_letter = node.clone();
-        let report = node.line(line);
+        assert_eq!(node.line(line), expected, "line {number}");
         // A line that can't be read may still be taken apart: by a sign, or too many digits.
         if let Some((letter, numbers)) =
-            taken_apart(line).filter(|_| report.answer != fugu::answer::UNREADABLE)
+            taken_apart(line).filter(|_| expected.answer != fugu::answer::UNREADABLE)
         {
-            assert_eq!(
-                by_letter.step(letter, &numbers),
-                report,
-                "line {}",
-                index + 1
-            );
-            assert_eq!(by_letter, node, "line {}", index + 1);
+            assert_eq!(by_letter.step(letter, &numbers), expected, "line {number}");
+            assert_eq!(by_letter, node, "line {number}");
         }
-        listing += &format!("{},{report}\n", index + 1);
     }
+    assert_eq!(rows.next(), None);
     assert!(node.test());
-    listing
 }
 
 fn play(folder: &str) {
-    let scripts = scripts(folder);
-    assert!(!scripts.is_empty(), "{folder} has scripts");
-    for script in scripts {
-        let expected =
-            fs::read_to_string(script.with_extension("listing")).expect("the listing is text");
-        let listed = listing(&fs::read(&script).expect("the script is read"));
-        assert!(listed == expected, "{}", script.display());
+    for path in listed(folder) {
+        println!("{}", path.display());
+        let script = fs::read(&path).expect("the script is read");
+        let listing = fs::read_to_string(path.with_extension("listing"));
+        reported(&script, &listing.expect("the listing is text"));
     }
 }
 

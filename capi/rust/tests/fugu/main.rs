@@ -7,6 +7,7 @@ mod listings;
 mod memory;
 mod paging;
 mod parts;
+mod player;
 mod reasons;
 mod support;
 mod turn;

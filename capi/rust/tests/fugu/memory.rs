@@ -2,7 +2,7 @@
 
 use fugu::{answer, calls, Node, Report, REPORT, SIZE};
 
-use crate::support::{after, only, started};
+use crate::support::{after, only, report, started};
 
 #[test]
 fn the_size_is_told() {
@@ -130,8 +130,8 @@ fn flags_and_a_forced_timer_that_a_node_may_have() {
         assert!(Node::over(&mut memory[..]).test(), "word {at}");
     }
     let mut node = Node::over(memory);
-    assert_eq!(node.line(b"T,1").to_string(), "0,0,3,0,0");
-    assert_eq!(node.line(b"N").to_string(), "0,0,2,0,0");
+    assert_eq!(node.line(b"T,1"), report("0,0,3,0,0"));
+    assert_eq!(node.line(b"N"), report("0,0,2,0,0"));
     assert_eq!(node, after(&["S,1"]));
 }
 

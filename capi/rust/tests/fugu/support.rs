@@ -3,7 +3,7 @@
 use std::fs;
 use std::path::{Path, PathBuf};
 
-use fugu::{Node, Report, SIZE};
+use fugu::{Node, Report, REPORT, SIZE};
 
 /// A node at power-on.
 pub fn started() -> Node<Vec<u32>> {
@@ -36,6 +36,22 @@ pub fn only(answer: u32) -> Report {
     }
 }
 
+/// A report as a line of a listing has it behind its number: answer, value, trap, upcall, moved, and on an
+/// accepted L node, group and words.
+pub fn report(fields: &str) -> Report {
+    let mut words = [0; REPORT];
+    let mut numbers = fields
+        .split(',')
+        .map(|field| field.parse().expect("a number"));
+    for word in words.iter_mut().take(7) {
+        *word = numbers.next().unwrap_or(0);
+    }
+    let sent: Vec<u32> = numbers.collect();
+    words[7] = sent.len() as u32;
+    words[8..][..sent.len()].copy_from_slice(&sent);
+    Report::from_words(&words)
+}
+
 /// A line's letter and numbers, where it is written with one letter and good numbers.
 pub fn taken_apart(line: &[u8]) -> Option<(u8, Vec<u32>)> {
     let mut fields = std::str::from_utf8(line).ok()?.split(',');
@@ -55,6 +71,24 @@ pub fn lines(script: &[u8]) -> Vec<&[u8]> {
         lines.pop();
     }
     lines
+}
+
+/// The scripts of a folder of the project that have a listing.
+pub fn listed(folder: &str) -> Vec<PathBuf> {
+    let folder = Path::new(env!("CARGO_MANIFEST_DIR"))
+        .join("../..")
+        .join(folder);
+    let mut scripts: Vec<_> = fs::read_dir(&folder)
+        .unwrap_or_else(|error| panic!("{}: {error}", folder.display()))
+        .map(|entry| entry.expect("the folder is read").path())
+        .filter(|path| {
+            path.extension().is_some_and(|end| end == "script")
+                && path.with_extension("listing").exists()
+        })
+        .collect();
+    scripts.sort();
+    assert!(!scripts.is_empty(), "{} has scripts", folder.display());
+    scripts
 }
 
 /// The scripts of order 6, each with its `.why` beside it.

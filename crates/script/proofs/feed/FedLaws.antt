@@ -2,7 +2,7 @@
 use Prim.Native.Nat.{ℕ, zero, suc, _+_, _≤_, _<_}
 use native.Mathlib.Decide.{decLt}
 use native.Mathlib.Omega.{arith}
-use mathlib.Core.Bool.{Bool, not}
+use mathlib.Core.Bool.{Bool, true, false, not}
 use mathlib.Core.List.{List, [], _∷_}
 use mathlib.Core.Path.{_≡_, refl, sym, ap, _∙_, subst}
 use lib.Dec.{ltb}
@@ -15,6 +15,7 @@ use Rattle.rules.specs.Text.{decimal, split}
 use Rattle.script.specs.Feeding.{whole, begun, linesBehind, restBehind, joinFirst, allButLast, lastPart, afterLines, listMemory}
 use Rattle.script.specs.Feed.{keptRoom, keptLine, lastNumber, LinesFeedable, LinesFed, BegunFed, FedTo}
 use Rattle.script.specs.Play.{part}
+use Rattle.script.specs.Portions.{lastNewline}
 use Rattle.script.specs.Read.{OneLine, lineOf}
 use Rattle.script.specs.Written.{Appended, Counts, lineRoom, places}
 use Rattle.script.specs.declared.feed.Fed.{Fed as Fed·rt}
@@ -129,3 +130,14 @@ module _ {m : List ℕ} {st : State·rt} {input out m′ out′ : List ℕ} {f :
               | no k ↦ let t = b .stops in let r = b .no-room (omega arith) in omega arith
             ])
       ]
+
+-- At the script's end a line that has begun gets its newline, and where none has nothing is fed.
+
+module _ {m : List ℕ} {st : State·rt} {out m′ out′ : List ℕ} {f : Fed·rt} where
+  pub feeds-newline : isEmpty (keptLine st) ≡ false → FedTo m st (newline ∷ []) out m′ out′ f → FedTo m st (lastNewline st) out m′ out′ f
+  unfolding lastNewline
+  feeds-newline e g = rw e g
+
+  pub feeds-nothing : isEmpty (keptLine st) ≡ true → FedTo m st [] out m′ out′ f → FedTo m st (lastNewline st) out m′ out′ f
+  unfolding lastNewline
+  feeds-nothing e g = rw e g

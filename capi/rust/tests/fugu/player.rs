@@ -6,10 +6,7 @@ use std::path::PathBuf;
 
 use fugu::{calls, header, Player, FEED, FEED_END, FEED_KEPT, FEED_LINE, FEED_STATE, HEADER, SIZE};
 
-use crate::support::{after, lines, listed, started};
-
-/// What stands in a part before a call.
-const BEFORE: u64 = 0xdead_beef_dead_beef;
+use crate::support::{after, lines, listed, started, Lent, BEFORE};
 
 fn all_listed() -> impl Iterator<Item = PathBuf> {
     let orders = (1..=7).map(|order| format!("vectors/order{order}"));
@@ -27,51 +24,6 @@ fn stepped(script: &[u8]) -> Vec<u32> {
         node.line(line);
     }
     node.into_memory()
-}
-
-/// What a call was lent beside the output.
-#[derive(Clone, PartialEq, Debug)]
-struct Lent {
-    memory: Vec<u32>,
-    state: Vec<u64>,
-    kept: Vec<u8>,
-}
-
-impl Lent {
-    /// Of a script of which nothing has been read.
-    fn new() -> Lent {
-        Lent {
-            memory: started().into_memory(),
-            state: vec![0; FEED_STATE],
-            kept: vec![0; FEED_KEPT],
-        }
-    }
-
-    /// One call.
-    fn feed(&mut self, portion: &[u8], out: &mut [u8]) -> [usize; FEED] {
-        let Lent {
-            memory,
-            state,
-            kept,
-        } = self;
-        let mut part = [BEFORE; FEED];
-        let told = calls::feed(memory, state, kept, portion, out, &mut part);
-        assert_eq!(told as usize, FEED);
-        part.map(|word| word as usize)
-    }
-
-    /// The script's end.
-    fn end(&mut self, out: &mut [u8]) -> [usize; FEED_END] {
-        let Lent {
-            memory,
-            state,
-            kept,
-        } = self;
-        let mut part = [BEFORE; FEED_END];
-        let told = calls::feed_end(memory, state, kept, out, &mut part);
-        assert_eq!(told as usize, FEED_END);
-        part.map(|word| word as usize)
-    }
 }
 
 #[test]
@@ -112,12 +64,12 @@ fn whatever_the_output() {
         let script = fs::read(&path).expect("a script");
         let expected = fs::read(path.with_extension("listing")).expect("its listing");
         for room in [FEED_LINE, FEED_LINE + 1, 3 * FEED_LINE] {
-            let mut lent = Lent::new();
+            let mut lent = Lent::new(FEED_STATE);
             let mut listing = header().to_vec();
             let mut out = vec![0; room];
             let mut portion = &script[..];
             loop {
-                let [stop, written, used] = lent.feed(portion, &mut out);
+                let [stop, written, used] = lent.portion(calls::feed, portion, &mut out);
                 listing.extend_from_slice(&out[..written]);
                 portion = &portion[used..];
                 if stop == 0 {
@@ -126,7 +78,7 @@ fn whatever_the_output() {
                 assert!(stop == 1 && used > 0 && written + FEED_LINE > room);
             }
             assert!(portion.is_empty());
-            let [stop, written] = lent.end(&mut out);
+            let [stop, written] = lent.end(calls::feed_end, &mut out);
             assert_eq!(stop, 0);
             listing.extend_from_slice(&out[..written]);
             assert!(listing == expected, "{} into {room}", path.display());
@@ -164,53 +116,62 @@ fn on_no_node_each_line_is_answered_1() {
 
 #[test]
 fn the_state_by_its_words() {
-    let mut lent = Lent::new();
+    let mut lent = Lent::new(FEED_STATE);
     let mut out = [9; 2 * FEED_LINE];
     let row = b"1,0,0,0,0,0\n";
-    assert_eq!(lent.feed(b"S,1\nA,1", &mut out), [0, row.len(), 7]);
+    assert_eq!(
+        lent.portion(calls::feed, b"S,1\nA,1", &mut out),
+        [0, row.len(), 7]
+    );
     assert_eq!(out[..row.len()], *row);
     assert_eq!(lent.state, [1, 3]);
     assert_eq!(lent.kept[..3], *b"A,1");
-    assert_eq!(lent.feed(b",7\n", &mut out), [0, 12, 3]);
+    assert_eq!(lent.portion(calls::feed, b",7\n", &mut out), [0, 12, 3]);
     assert_eq!(lent.state, [2, 0]);
     // Of a longer line one byte more than it may have.
-    assert_eq!(lent.feed(&[b'A'; 300], &mut out), [0, 0, 300]);
+    assert_eq!(
+        lent.portion(calls::feed, &[b'A'; 300], &mut out),
+        [0, 0, 300]
+    );
     assert_eq!(lent.state, [2, 129]);
     let before = (lent.state.clone(), lent.kept.clone());
-    assert_eq!(lent.end(&mut out), [0, 12]);
+    assert_eq!(lent.end(calls::feed_end, &mut out), [0, 12]);
     assert_eq!(out[..12], *b"3,2,0,0,0,0\n");
     assert_eq!((lent.state, lent.kept), before);
 }
 
 #[test]
 fn no_room_for_a_line_uses_none() {
-    let mut lent = Lent::new();
+    let mut lent = Lent::new(FEED_STATE);
     let before = lent.clone();
     for room in [0, 1, FEED_LINE - 1] {
-        assert_eq!(lent.feed(b"S,1\n", &mut vec![0; room]), [1, 0, 0]);
+        assert_eq!(
+            lent.portion(calls::feed, b"S,1\n", &mut vec![0; room]),
+            [1, 0, 0]
+        );
         assert_eq!(lent, before);
         // Where no line has begun its end takes none.
-        assert_eq!(lent.end(&mut vec![0; room])[1], 0);
+        assert_eq!(lent.end(calls::feed_end, &mut vec![0; room])[1], 0);
     }
     // A line that has only begun takes none, until the script ends.
-    assert_eq!(lent.feed(b"S,1", &mut []), [0, 0, 3]);
+    assert_eq!(lent.portion(calls::feed, b"S,1", &mut []), [0, 0, 3]);
     let before = lent.clone();
-    assert_eq!(lent.end(&mut [0; FEED_LINE - 1]), [1, 0]);
+    assert_eq!(lent.end(calls::feed_end, &mut [0; FEED_LINE - 1]), [1, 0]);
     assert_eq!(lent, before);
-    assert_eq!(lent.end(&mut [0; FEED_LINE]), [0, 12]);
+    assert_eq!(lent.end(calls::feed_end, &mut [0; FEED_LINE]), [0, 12]);
 }
 
 #[test]
 fn no_line_numbers_left_use_none() {
-    let mut lent = Lent::new();
+    let mut lent = Lent::new(FEED_STATE);
     lent.state[0] = u64::MAX - 4;
     let before = lent.clone();
     let mut out = [0; FEED_LINE];
-    assert_eq!(lent.feed(b"S,1\n", &mut out), [2, 0, 0]);
+    assert_eq!(lent.portion(calls::feed, b"S,1\n", &mut out), [2, 0, 0]);
     assert_eq!(lent, before);
-    assert_eq!(lent.feed(b"S,1", &mut out), [0, 0, 3]);
+    assert_eq!(lent.portion(calls::feed, b"S,1", &mut out), [0, 0, 3]);
     lent.state[0] = u64::MAX - 1;
-    assert_eq!(lent.end(&mut out), [2, 0]);
+    assert_eq!(lent.end(calls::feed_end, &mut out), [2, 0]);
 }
 
 #[test]

@@ -8,10 +8,7 @@ use fugu::{
     TELL_STATE,
 };
 
-use crate::support::{scripts, started};
-
-/// What stands in a part before a call.
-const BEFORE: u64 = 0xdead_beef_dead_beef;
+use crate::support::{scripts, started, Lent, BEFORE};
 
 /// The words of the vectors' rows that have a reason, as lines of text.
 fn text(rows: &str) -> String {
@@ -37,76 +34,31 @@ fn told() -> Vec<(String, Vec<u8>, String)> {
     read.collect()
 }
 
-/// What a call was lent beside the memory: a state and a kept line.
-#[derive(Clone, PartialEq, Debug)]
-struct Lent {
-    memory: Vec<u32>,
-    state: Vec<u64>,
-    kept: Vec<u8>,
+/// A portion, by calls with an output of so many bytes, and how many calls it took.
+fn feed(lent: &mut Lent, mut portion: &[u8], room: usize, told: &mut Vec<u8>) -> usize {
+    for count in 1.. {
+        let mut out = vec![0; room];
+        let [stop, written, used] = lent.portion(calls::tell, portion, &mut out);
+        told.extend_from_slice(&out[..written]);
+        portion = &portion[used..];
+        match stop {
+            0 => {
+                assert!(portion.is_empty());
+                return count;
+            }
+            1 => assert!(written + TELL_LINE > room && !portion.is_empty()),
+            _ => panic!("there are line numbers enough"),
+        }
+    }
+    unreachable!()
 }
 
-impl Lent {
-    /// Those of a script of which nothing has been read.
-    fn new() -> Self {
-        Lent {
-            memory: started().into_memory(),
-            state: vec![0; TELL_STATE],
-            kept: vec![0; TELL_KEPT],
-        }
-    }
-
-    /// A portion, by calls with an output of so many bytes, and how many calls it took.
-    fn feed(&mut self, mut portion: &[u8], room: usize, told: &mut Vec<u8>) -> usize {
-        for calls in 1.. {
-            let mut out = vec![0; room];
-            let [stop, written, used] = self.tell(portion, &mut out);
-            told.extend_from_slice(&out[..written]);
-            portion = &portion[used..];
-            match stop {
-                0 => {
-                    assert!(portion.is_empty());
-                    return calls;
-                }
-                1 => assert!(written + TELL_LINE > room && !portion.is_empty()),
-                _ => panic!("there are line numbers enough"),
-            }
-        }
-        unreachable!()
-    }
-
-    /// One call.
-    fn tell(&mut self, portion: &[u8], out: &mut [u8]) -> [usize; TELL] {
-        let Lent {
-            memory,
-            state,
-            kept,
-        } = self;
-        let mut part = [BEFORE; TELL];
-        let written = calls::tell(memory, state, kept, portion, out, &mut part);
-        assert_eq!(written as usize, TELL);
-        part.map(|word| word as usize)
-    }
-
-    /// The script's end.
-    fn end(&mut self, out: &mut [u8]) -> [usize; TELL_END] {
-        let Lent {
-            memory,
-            state,
-            kept,
-        } = self;
-        let mut part = [BEFORE; TELL_END];
-        let written = calls::tell_end(memory, state, kept, out, &mut part);
-        assert_eq!(written as usize, TELL_END);
-        part.map(|word| word as usize)
-    }
-
-    /// The text of the script's end.
-    fn finish(&mut self, told: &mut Vec<u8>) {
-        let mut out = [0; TELL_OUT];
-        let [stop, written] = self.end(&mut out);
-        assert_eq!(stop, 0);
-        told.extend_from_slice(&out[..written]);
-    }
+/// The text of the script's end.
+fn finish(lent: &mut Lent, told: &mut Vec<u8>) {
+    let mut out = [0; TELL_OUT];
+    let [stop, written] = lent.end(calls::tell_end, &mut out);
+    assert_eq!(stop, 0);
+    told.extend_from_slice(&out[..written]);
 }
 
 #[test]
@@ -143,14 +95,14 @@ fn whatever_the_portions() {
 fn whatever_the_output() {
     for (path, script, expected) in told() {
         for room in [TELL_LINE, TELL_LINE + 1, 3 * TELL_LINE] {
-            let mut lent = Lent::new();
+            let mut lent = Lent::new(TELL_STATE);
             let mut told = Vec::new();
-            let calls = lent.feed(&script, room, &mut told);
+            let calls = feed(&mut lent, &script, room, &mut told);
             assert!(
                 room > 2 * TELL_LINE || calls > expected.len() / room,
                 "{path}"
             );
-            lent.finish(&mut told);
+            finish(&mut lent, &mut told);
             assert!(told == expected.as_bytes(), "{path} into {room}");
         }
     }
@@ -158,55 +110,58 @@ fn whatever_the_output() {
 
 #[test]
 fn the_state_by_its_words() {
-    let mut lent = Lent::new();
+    let mut lent = Lent::new(TELL_STATE);
     let mut told = Vec::new();
-    lent.feed(b"S,1\nA,1,7\n?\nA,2,5\nA,1", TELL_OUT, &mut told);
+    feed(&mut lent, b"S,1\nA,1,7\n?\nA,2,5\nA,1", TELL_OUT, &mut told);
     assert!(told.is_empty());
     assert_eq!(lent.state[..5], [4, 3, 2, 2, 4]);
     assert_eq!(lent.kept[..3], *b"A,1");
-    lent.feed(b",8\nD\n", TELL_OUT, &mut told);
+    feed(&mut lent, b",8\nD\n", TELL_OUT, &mut told);
     assert_eq!(lent.state[..3], [6, 0, 1]);
     assert_eq!(lent.state[3], 5);
-    lent.finish(&mut told);
+    finish(&mut lent, &mut told);
     assert_eq!(told, why_all(b"S,1\nA,1,7\n?\nA,2,5\nA,1,8\nD"));
 }
 
 #[test]
 fn no_room_for_a_line_uses_none() {
-    let mut lent = Lent::new();
+    let mut lent = Lent::new(TELL_STATE);
     let before = lent.clone();
     for room in [0, 1, TELL_LINE - 1] {
-        assert_eq!(lent.tell(b"S,1\n", &mut vec![0; room]), [1, 0, 0]);
+        assert_eq!(
+            lent.portion(calls::tell, b"S,1\n", &mut vec![0; room]),
+            [1, 0, 0]
+        );
         assert_eq!(lent, before);
-        assert_eq!(lent.end(&mut vec![0; room]), [1, 0]);
+        assert_eq!(lent.end(calls::tell_end, &mut vec![0; room]), [1, 0]);
     }
-    assert_eq!(lent.end(&mut [0; TELL_OUT - 1]), [1, 0]);
+    assert_eq!(lent.end(calls::tell_end, &mut [0; TELL_OUT - 1]), [1, 0]);
     assert_eq!(lent, before);
     // A line that has only begun takes none.
-    assert_eq!(lent.tell(b"S,1", &mut []), [0, 0, 3]);
+    assert_eq!(lent.portion(calls::tell, b"S,1", &mut []), [0, 0, 3]);
 }
 
 #[test]
 fn no_line_numbers_left_use_none() {
-    let mut lent = Lent::new();
+    let mut lent = Lent::new(TELL_STATE);
     lent.state[0] = u64::MAX - 4;
     let before = lent.clone();
     let mut out = [0; TELL_OUT];
-    assert_eq!(lent.tell(b"S,1\n", &mut out), [2, 0, 0]);
+    assert_eq!(lent.portion(calls::tell, b"S,1\n", &mut out), [2, 0, 0]);
     assert_eq!(lent, before);
-    assert_eq!(lent.tell(b"S,1", &mut out), [0, 0, 3]);
+    assert_eq!(lent.portion(calls::tell, b"S,1", &mut out), [0, 0, 3]);
     lent.state[0] = u64::MAX - 1;
-    assert_eq!(lent.end(&mut out), [2, 0]);
+    assert_eq!(lent.end(calls::tell_end, &mut out), [2, 0]);
 }
 
 #[test]
 fn counts_too_large_are_the_room_there_is() {
-    let mut lent = Lent::new();
+    let mut lent = Lent::new(TELL_STATE);
     lent.state = vec![u64::MAX; TELL_STATE];
     lent.state[0] = 7;
     lent.kept = vec![b'A'; TELL_KEPT];
     let mut out = [0; TELL_OUT];
-    let [stop, written] = lent.end(&mut out);
+    let [stop, written] = lent.end(calls::tell_end, &mut out);
     assert_eq!(stop, 0);
     let line = format!(
         "line {}: reason 2 at line 8: still in the hardware queue\n",

@@ -3,11 +3,57 @@
 use std::fs;
 use std::path::{Path, PathBuf};
 
-use fugu::{Node, Report, REPORT, SIZE};
+use fugu::{Node, Report, FEED, FEED_END, FEED_KEPT, REPORT, SIZE};
 
 /// A node at power-on.
 pub fn started() -> Node<Vec<u32>> {
     Node::power_on(vec![0; SIZE]).expect("the memory is long enough")
+}
+
+/// What stands in a part before a call.
+pub const BEFORE: u64 = 0xdead_beef_dead_beef;
+
+type Portion = fn(&mut [u32], &mut [u64], &mut [u8], &[u8], &mut [u8], &mut [u64]) -> u32;
+type End = fn(&mut [u32], &[u64], &[u8], &mut [u8], &mut [u64]) -> u32;
+
+/// What the calls over a script's portions are lent beside the output.
+#[derive(Clone, PartialEq, Debug)]
+pub struct Lent {
+    pub memory: Vec<u32>,
+    pub state: Vec<u64>,
+    pub kept: Vec<u8>,
+}
+
+impl Lent {
+    /// Of a script of which nothing has been read, with a state of so many words.
+    pub fn new(state: usize) -> Lent {
+        Lent {
+            memory: started().into_memory(),
+            state: vec![0; state],
+            kept: vec![0; FEED_KEPT],
+        }
+    }
+
+    /// One call: why it stopped, how many bytes were written and how many used.
+    pub fn portion(&mut self, call: Portion, portion: &[u8], out: &mut [u8]) -> [usize; FEED] {
+        let Lent {
+            memory,
+            state,
+            kept,
+        } = self;
+        let mut part = [BEFORE; FEED];
+        let told = call(memory, state, kept, portion, out, &mut part);
+        assert_eq!(told as usize, FEED);
+        part.map(|word| word as usize)
+    }
+
+    /// The script's end: the first two of these.
+    pub fn end(&mut self, call: End, out: &mut [u8]) -> [usize; FEED_END] {
+        let mut part = [BEFORE; FEED_END];
+        let told = call(&mut self.memory, &self.state, &self.kept, out, &mut part);
+        assert_eq!(told as usize, FEED_END);
+        part.map(|word| word as usize)
+    }
 }
 
 /// A node after some lines of a script, each of them accepted.

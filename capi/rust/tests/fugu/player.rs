@@ -4,9 +4,9 @@
 use std::fs;
 use std::path::PathBuf;
 
-use fugu::{calls, header, Player, FEED, FEED_END, FEED_KEPT, FEED_LINE, FEED_STATE, HEADER, SIZE};
+use fugu::{calls, header, Player, FEED_LINE, FEED_STATE, HEADER, SIZE};
 
-use crate::support::{after, lines, listed, started, Lent, BEFORE};
+use crate::support::{after, lines, listed, no_line_numbers_left, started, too_short, Lent};
 
 fn all_listed() -> impl Iterator<Item = PathBuf> {
     let orders = (1..=7).map(|order| format!("vectors/order{order}"));
@@ -163,46 +163,11 @@ fn no_room_for_a_line_uses_none() {
 
 #[test]
 fn no_line_numbers_left_use_none() {
-    let mut lent = Lent::new(FEED_STATE);
-    lent.state[0] = u64::MAX - 4;
-    let before = lent.clone();
-    let mut out = [0; FEED_LINE];
-    assert_eq!(lent.portion(calls::feed, b"S,1\n", &mut out), [2, 0, 0]);
-    assert_eq!(lent, before);
-    assert_eq!(lent.portion(calls::feed, b"S,1", &mut out), [0, 0, 3]);
-    lent.state[0] = u64::MAX - 1;
-    assert_eq!(lent.end(calls::feed_end, &mut out), [2, 0]);
+    no_line_numbers_left(FEED_STATE, calls::feed, calls::feed_end, FEED_LINE);
 }
 
 #[test]
 fn what_is_too_short_changes_nothing() {
-    let long = [FEED_STATE, FEED_KEPT, FEED];
-    for (which, length) in long.into_iter().enumerate() {
-        for short in [0, length - 1] {
-            let mut lengths = long;
-            lengths[which] = short;
-            let mut memory = started().into_memory();
-            let mut state = vec![BEFORE; lengths[0]];
-            let mut kept = vec![9; lengths[1]];
-            let mut out = [9; FEED_LINE];
-            let mut part = vec![BEFORE; lengths[2]];
-            let told = calls::feed(
-                &mut memory,
-                &mut state,
-                &mut kept,
-                b"S,1\n",
-                &mut out,
-                &mut part,
-            );
-            assert_eq!(told, 0);
-            let end = &mut part[..short.min(FEED_END - 1)];
-            let told = calls::feed_end(&mut memory, &state, &kept, &mut out, end);
-            assert_eq!(told, 0);
-            assert_eq!(memory, started().into_memory());
-            assert_eq!(state, vec![BEFORE; lengths[0]]);
-            assert_eq!(kept, vec![9; lengths[1]]);
-            assert_eq!(out, [9; FEED_LINE]);
-            assert_eq!(part, vec![BEFORE; lengths[2]]);
-        }
-    }
+    let memory = started().into_memory();
+    too_short(&memory, FEED_STATE, calls::feed, calls::feed_end, FEED_LINE);
 }

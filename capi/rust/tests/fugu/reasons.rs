@@ -8,7 +8,7 @@ use fugu::{
     TELL_STATE,
 };
 
-use crate::support::{scripts, started, Lent, BEFORE};
+use crate::support::{no_line_numbers_left, scripts, started, too_short, Lent, BEFORE};
 
 /// The words of the vectors' rows that have a reason, as lines of text.
 fn text(rows: &str) -> String {
@@ -143,15 +143,7 @@ fn no_room_for_a_line_uses_none() {
 
 #[test]
 fn no_line_numbers_left_use_none() {
-    let mut lent = Lent::new(TELL_STATE);
-    lent.state[0] = u64::MAX - 4;
-    let before = lent.clone();
-    let mut out = [0; TELL_OUT];
-    assert_eq!(lent.portion(calls::tell, b"S,1\n", &mut out), [2, 0, 0]);
-    assert_eq!(lent, before);
-    assert_eq!(lent.portion(calls::tell, b"S,1", &mut out), [0, 0, 3]);
-    lent.state[0] = u64::MAX - 1;
-    assert_eq!(lent.end(calls::tell_end, &mut out), [2, 0]);
+    no_line_numbers_left(TELL_STATE, calls::tell, calls::tell_end, TELL_OUT);
 }
 
 #[test]
@@ -172,37 +164,13 @@ fn counts_too_large_are_the_room_there_is() {
 
 #[test]
 fn what_is_too_short_changes_nothing() {
-    let long = [TELL_STATE, TELL_KEPT, TELL];
-    for (which, length) in long.into_iter().enumerate() {
-        for short in [0, length - 1] {
-            let mut lengths = long;
-            lengths[which] = short;
-            let mut memory = vec![9; SIZE];
-            let mut state = vec![BEFORE; lengths[0]];
-            let mut kept = vec![9; lengths[1]];
-            let mut out = [9; TELL_OUT];
-            let mut part = vec![BEFORE; lengths[2]];
-            let told = calls::tell(
-                &mut memory,
-                &mut state,
-                &mut kept,
-                b"S,1\n",
-                &mut out,
-                &mut part,
-            );
-            assert_eq!(told, 0);
-            let end = &mut part[..short.min(TELL_END - 1)];
-            assert_eq!(
-                calls::tell_end(&mut memory, &state, &kept, &mut out, end),
-                0
-            );
-            assert_eq!(memory, vec![9; SIZE]);
-            assert_eq!(state, vec![BEFORE; lengths[0]]);
-            assert_eq!(kept, vec![9; lengths[1]]);
-            assert_eq!(out, [9; TELL_OUT]);
-            assert_eq!(part, vec![BEFORE; lengths[2]]);
-        }
-    }
+    too_short(
+        &[9; SIZE],
+        TELL_STATE,
+        calls::tell,
+        calls::tell_end,
+        TELL_OUT,
+    );
 }
 
 #[test]

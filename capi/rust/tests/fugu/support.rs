@@ -56,6 +56,50 @@ impl Lent {
     }
 }
 
+/// Where no line numbers are left, nothing is used and nothing has changed.
+pub fn no_line_numbers_left(state: usize, portion: Portion, end: End, room: usize) {
+    let mut lent = Lent::new(state);
+    lent.state[0] = u64::MAX - 4;
+    let before = lent.clone();
+    let mut out = vec![0; room];
+    assert_eq!(lent.portion(portion, b"S,1\n", &mut out), [2, 0, 0]);
+    assert_eq!(lent, before);
+    assert_eq!(lent.portion(portion, b"S,1", &mut out), [0, 0, 3]);
+    lent.state[0] = u64::MAX - 1;
+    assert_eq!(lent.end(end, &mut out), [2, 0]);
+}
+
+/// Where the state, the kept line or the part is too short, nothing has changed of all that is lent.
+pub fn too_short(memory: &[u32], state: usize, portion: Portion, end: End, room: usize) {
+    let long = [state, FEED_KEPT, FEED];
+    for (which, length) in long.into_iter().enumerate() {
+        for short in [0, length - 1] {
+            let mut lengths = long;
+            lengths[which] = short;
+            let mut lent = Lent {
+                memory: memory.to_vec(),
+                state: vec![BEFORE; lengths[0]],
+                kept: vec![9; lengths[1]],
+            };
+            let before = lent.clone();
+            let Lent {
+                memory,
+                state,
+                kept,
+            } = &mut lent;
+            let mut out = vec![9; room];
+            let mut part = vec![BEFORE; lengths[2]];
+            let told = portion(memory, state, kept, b"S,1\n", &mut out, &mut part);
+            assert_eq!(told, 0);
+            let two = &mut part[..short.min(FEED_END - 1)];
+            assert_eq!(end(memory, state, kept, &mut out, two), 0);
+            assert_eq!(lent, before);
+            assert_eq!(out, vec![9; room]);
+            assert_eq!(part, vec![BEFORE; lengths[2]]);
+        }
+    }
+}
+
 /// A node after some lines of a script, each of them accepted.
 pub fn after(lines: &[&str]) -> Node<Vec<u32>> {
     let mut node = started();

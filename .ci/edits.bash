@@ -42,9 +42,10 @@ definitions() {
         }' "$1" | sort -u
 }
 
-# errors FOLDER: what the prover refused in the proofs of the tried crate for a reason of its own, as 'FILE:LINE MESSAGE'.
+# errors FOLDER: what the prover refused in the proofs of the tried crate for a reason of its own, as 'FILE:LINE MESSAGE'. A long message is folded:
+# what stands in its second line belongs to it.
 errors() {
-    sed -nE 's|^.*/must-fail/[^/]+/[^/]+/(proofs/[^:]+:[0-9]+):[0-9]+: error: |\1 |p' "$1/.log" | grep -v 'was not admitted'
+    sed -nE 'N; s|\n  | |; P; D' "$1/.log" | sed -nE 's|^.*/must-fail/[^/]+/[^/]+/(proofs/[^:]+:[0-9]+):[0-9]+: error: |\1 |p' | grep -v 'was not admitted'
 }
 
 # refused_function FOLDER CRATE NAME: by its proof, or, where it has none, by the one that the prover looked for.

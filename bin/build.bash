@@ -187,6 +187,7 @@ build() {
     programs/fugu) sources+=("$archives/liblisting.a") ;;
     programs/why) sources+=("$archives/libwhy.a") ;;
     desk/* | trials/*) sources+=("$archives/libcapi.a" "$root/capi/rust" "$root/judge") ;;
+    replay/*) sources+=("$archives/libcapi.a" "$root/capi/rust" "$root/target/wasm/fugu.wasm") ;;
     esac
     program=$folder/target/release/$2
     if [[ ! -x $program ]] || is_older "$built" "${sources[@]}"; then
@@ -214,6 +215,91 @@ library() {
     ln -sf -- libfugu.so.0 "$folder/libfugu.so"
     mv -f -- "$making" "$made"
     making=
+}
+
+# calls: those that the header declares, one to a line.
+calls() {
+    sed -nE 's/^uint32_t (fugu_[a-z_]+)\(.*/\1/p' "$root/capi/fugu.h"
+}
+
+# find_kit: leaves in `kit` the Rattle toolchain's folder, which rt is of, in `own` what it has for this machine, and in `clang` its compiler.
+find_kit() {
+    local part
+    needs rt "the Rattle toolchain's command, which proves"
+    kit=${RATTLE_HOME:-$(dirname -- "$(dirname -- "$(readlink -f -- "$(command -v rt)")")")}
+    own=$kit/on/$(uname -m)
+    clang=$own/toolchain/bin/clang
+    for part in "$own/bin/rattle" "$clang"; do
+        [[ -x $part ]] || fail 1 "$part is not there: this is another toolchain than VERSION names"
+    done
+}
+
+# compiling LINE: what prover and compiler said is of interest only where they fail.
+compiling() {
+    show "$name: compiling the proved calls for a page, $(of_about $((SECONDS - began)) "${takes[capi]}")"
+}
+
+# keeping_toolchain: a folder as the kit's, but that the compiler keeps the module that it is handed.
+keeping_toolchain() {
+    mkdir -p -- "$parts/toolchain/bin"
+    ln -s -- "$own/toolchain/lib" "$parts/toolchain"
+    ln -s -- "$own/toolchain/bin"/* "$parts/toolchain/bin"
+    rm -f -- "$parts/toolchain/bin/clang"
+    # shellcheck disable=SC2016 # the words are those of the compiler's own call
+    printf '#!/usr/bin/env bash\nfor word; do case $word in *.bc) cp -- "$word" %q ;; esac; done\nexec %q "$@"\n' "$parts/module.bc" "$clang" \
+        >"$parts/toolchain/bin/clang"
+    chmod +x -- "$parts/toolchain/bin/clang"
+}
+
+# keep_module: has the prover build the archive of the calls once more, and keeps the module that it hands its compiler, module.bc. The archive is
+# the one that programs are linked with, to the byte, so the module is theirs.
+keep_module() {
+    local crates crate externs=()
+    needed_by capi
+    for crate in "${crates[@]:0:${#crates[@]}-1}"; do externs+=(--extern "$crate=$root/target/rlib/$crate.rlib"); done
+    watch compiling "$parts" "$own/bin/rattle" build --crate-name capi "$root/crates/capi/src/lib.rt" \
+        --extern "std=$own/rlib/std.rlib" "${externs[@]}" -L "dependency=$root/target/rlib" -L "dependency=$own/rlib" \
+        --antt-project "$kit/logic/antt-project.json" --logic-built "$own/logic-built" \
+        --toolchain "$parts/toolchain" --crate-type staticlib -o libcapi.a
+    cmp -s -- "$parts/libcapi.a" "$archives/libcapi.a" ||
+        fail 1 'the prover builds another archive now than target/staticlib/libcapi.a: remove that one'
+    [[ -s $parts/module.bc ]] || fail 1 'the prover handed its compiler no module'
+}
+
+# retarget: leaves the module as text, native.ll, and the same for the other machine, wasm.ll: the two lines that name the machine exchanged and two
+# attributes taken off. Where something is left that only the one has, or that depends on how wide a pointer is, this fails.
+retarget() {
+    local layout changed found
+    watch compiling "$parts" "$clang" -S -emit-llvm -Xclang -disable-llvm-passes -x ir module.bc -o native.ll
+    layout=$("$clang" --target=wasm32-unknown-unknown -S -emit-llvm -x c /dev/null -o - | grep '^target datalayout = ') ||
+        fail 1 "$clang can't compile for WebAssembly: this is another toolchain than VERSION names"
+    sed -E -e "s|^target datalayout = .*|$layout|" -e 's|^(target triple = ).*|\1"wasm32-unknown-unknown"|' \
+        -e '/^attributes /s| "probe-stack"="inline-asm" "target-cpu"="x86-64"||' "$parts/native.ll" >"$parts/wasm.ll"
+    changed=$(diff -- "$parts/native.ll" "$parts/wasm.ll" | grep -c '^<') || true
+    ((changed == 3)) || fail 1 "$changed lines of the module name its machine, and not 3: diff $parts/native.ll $parts/wasm.ll"
+    if found=$(grep -nEm 1 'ptrtoint|ptrtoaddr|inttoptr|\<asm\>|x86|addrspace|x ptr\]|getelementptr( [a-z]+)* ptr,' "$parts/wasm.ll"); then
+        fail 1 "the module is bound to its machine: $parts/wasm.ll:$found"
+    fi
+}
+
+# wasm: makes the proved calls for a page, target/wasm/fugu.wasm, where they are older. The compiler has the flags that the prover gives it, and may
+# use of the new machine what its first version has and the moving of memory. The stack stands below all else, so that a call that ran out of it
+# would end and overwrite nothing.
+wasm() {
+    local made=$root/target/wasm/fugu.wasm parts=$root/target/wasm/parts began=$SECONDS kit own clang exports
+    if ! is_older "$made" "$archives/libcapi.a" "$root/capi/fugu.h"; then return; fi
+    find_kit
+    rm -rf -- "$parts"
+    keeping_toolchain
+    keep_module
+    retarget
+    watch compiling "$parts" "$clang" --target=wasm32-unknown-unknown -mcpu=mvp -mbulk-memory \
+        -mllvm -trap-unreachable -mllvm -no-trap-after-noreturn --no-default-config -Werror -O3 -c -x ir wasm.ll -o wasm.o
+    mapfile -t exports < <(calls)
+    ln -s -- "$clang" "$parts/wasm-ld"
+    watch compiling "$parts" ./wasm-ld --no-entry "${exports[@]/#/--export=}" --export=__heap_base \
+        --stack-first -z stack-size=65536 wasm.o -o fugu.wasm
+    mv -f -- "$parts/fugu.wasm" "$made"
 }
 
 # run FOLDER PROGRAM ARGUMENT..: becomes a program in Rust, built first.

@@ -12,8 +12,8 @@ const PACE = 900;
 
 const element = id => document.getElementById(id);
 
-/* What is shown: a run, the line at which it is, whether it is the file's own, and the lines that the score shows. */
-const view = { run: null, at: 0, own: true, from: 0, to: 0, timer: 0 };
+/* What is shown: a run, what is counted of it, the line at which it is, the lines that the score shows, and what plays it on. */
+const view = { run: null, counts: '', at: 0, from: 0, to: 0, timer: 0 };
 
 const viewer = () => Number(element('viewer').value);
 const isEmpty = run => run.last < run.first;
@@ -80,7 +80,7 @@ const beforeFirst = run => (run.begin === 'power-on' && run.first === 1 ? 'at po
 
 function drawNow() {
   const { run, at } = view;
-  element('counts').textContent = viewer() ? privateCounts(viewer()) : countsWords(run);
+  element('counts').textContent = viewer() ? privateCounts(viewer()) : view.counts;
   const line = at >= run.first ? run.line(at) : null;
   const hidden = line && isHidden(run, at);
   const where = line ? `line ${thousands(at)} of ${thousands(run.total)}` : isEmpty(run) ? '' : `before line ${thousands(run.first)}`;
@@ -181,8 +181,8 @@ function windowWords(quiet, part) {
 function drawOverview(room, part) {
   const { run, at, from, to } = view;
   const box = element('overview');
-  box.hidden = !part || viewer() > 0;
-  if (box.hidden) return;
+  box.hidden = !part;
+  if (!part) return;
   const drawn = `${room} ${viewer()}`;
   if (box.dataset.drawn !== drawn) {
     box.innerHTML = overviewPicture(run, room, viewer()) + '<div id="frame"></div><div id="cursor"></div>';
@@ -243,7 +243,7 @@ function drawControls() {
 /* ---- another run: the file's own, or the reader's ---- */
 
 function show(run, own) {
-  Object.assign(view, { run, own });
+  Object.assign(view, { run, counts: countsWords(run) });
   delete element('overview').dataset.drawn;
   delete element('rows').dataset.shown;
   element('title').textContent = run.title;

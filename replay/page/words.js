@@ -230,7 +230,7 @@ function reasonWords(reason) {
   const { number, line } = reason;
   if (number === 1) return `Reason 1: ${REASONS[1]} at line ${line}.`;
   if (number === 2) return `Reason 2: ${REASONS[2]} at line ${line}, the script's last.`;
-  return `It was buffered at line ${line}, reason ${number}: ${REASONS[number]}.`;
+  return `It is buffered at line ${line}, reason ${number}: ${REASONS[number]}.`;
 }
 
 /* Whether group g takes part in line i: by an operation of its own, or by an upcall. */

@@ -84,7 +84,8 @@ def steps(world: World) -> None:
     for key, line in (("ArrowRight", 1), ("n", 4), ("End", 13)):
         world.browser.key(key)
         same(world.at(), line, f"the line after {key}")
-    holds("The node after line 13" in str(world.browser.js("document.querySelector('#node svg').getAttribute('aria-label')")), "the node is not drawn")
+    label = world.browser.js("document.querySelector('#node svg').getAttribute('aria-label')")
+    holds("The node after line 13" in str(label), "the node is not drawn")
 
 
 def without_code(world: World, edit: Edit) -> None:

@@ -21,7 +21,8 @@ OF_THE_KERNEL = re.compile(r"\b(traps?|moved?|kernel|queue\w*|frames?|swap|buffe
 
 SEEN = """(() => {
     const shown = element => !element.matches('#key, option, kbd, footer') && (element.matches('title') || element.checkVisibility());
-    const heard = element => [element.getAttribute('aria-label'), element.getAttribute('aria-valuetext'), element.matches('textarea') ? element.value : null];
+    const typed = element => (element.matches('textarea') ? element.value : null);
+    const heard = element => [element.getAttribute('aria-label'), element.getAttribute('aria-valuetext'), typed(element)];
     const texts = element => [...element.childNodes].filter(({ nodeType }) => nodeType === Node.TEXT_NODE).map(node => node.data);
     const walk = element => (shown(element) ? [...heard(element), ...texts(element), ...[...element.children].flatMap(walk)] : []);
     return walk(document.querySelector('main')).map(text => text?.trim()).filter(Boolean);
@@ -107,7 +108,8 @@ def only_its_own(world: World, script: bytes, group: int) -> None:
         texts = world.browser.js(SEEN)
         same([text for text in texts if OF_THE_KERNEL.search(text)], [], f"line {number}: of the kernel")
         # A single letter is no line of another's where it is only a sign, as the keys are.
-        same([text for text in texts for line in others if re.search(rf"(^|[ :]){re.escape(line)}($|[ :\n])", text)], [], f"line {number}: another's line")
+        told = [text for text in texts for line in others if re.search(rf"(^|[ :]){re.escape(line)}($|[ :\n])", text)]
+        same(told, [], f"line {number}: another's line")
         fills = world.browser.js("Array.from(document.querySelectorAll('#score svg *, #node svg *'), shape => getComputedStyle(shape).fill)")
         same([fill for fill in set(fills) if "p-hatch" in fill or "p-dots" in fill or fill == "rgb(29, 79, 145)"], [], f"line {number}: places")
 

@@ -169,9 +169,8 @@ def overview(world: World) -> None:
         world.browser.js("scrollTo(0, 0)")
         top = world.browser.js("document.getElementById('overview').getBoundingClientRect().top")
         world.browser.click(x, top + 10)
-        cursor, lines = world.browser.js(
-            "[document.getElementById('cursor').getBoundingClientRect().x, Array.from(document.querySelectorAll('#score .p-hit'), hit => Number(hit.dataset.line))]"
-        )
+        cursor = world.browser.js("document.getElementById('cursor').getBoundingClientRect().x")
+        lines = world.browser.js("Array.from(document.querySelectorAll('#score .p-hit'), hit => Number(hit.dataset.line))")
         holds(abs(cursor - x) < 3, f"a click at {x} brought the cursor to {cursor}")
         holds(world.at() in lines, f"line {world.at()} is not among those that the score shows")
         holds(f"The score shows lines {lines[0]} to {lines[-1]}." in world.text("#window"), "which part it shows is not said")

@@ -1,5 +1,5 @@
-"""A line in words: every operation, answer, trap and reason of docs/LISTING.md has its words and is met; they tell what report, reason and memory hold, and
-no other number; and a group's own words tell nothing that is not its own."""
+"""A line in words: every operation, answer, trap and reason of docs/LISTING.md has its words and is met; they tell what report, reason and
+memory hold, and no other number; and a group's own words tell nothing that is not its own."""
 
 from __future__ import annotations
 
@@ -30,8 +30,8 @@ TELL = """async (begin, bytes) => {
     const told = ({ number, shown, report, changes, reason }) => [shown, report, changes, reason, wordsOf(run, number), own(number)];
     return [run.data.start, run.data.lines.map(told)];
 }"""
-"""A script played in the page, as the page shows it to agree with the native calls: of each line what stands in the run, its words, and those of each group
-that has a part; from power-on, or from a memory that is no node."""
+"""A script played in the page, as the page shows it to agree with the native calls: of each line what stands in the run, its words, and
+those of each group that has a part; from power-on, or from a memory that is no node."""
 
 
 def checks() -> Iterator[Named]:

@@ -480,14 +480,15 @@ function oldestMark({ plan }, x, y) {
 
 /* Which of a page's places are filled, in two rows. */
 function tilePlaces(view, page, owner, x, y) {
-  const { map } = view;
+  const { map, node, before } = view;
   const across = Math.ceil(map.page / 2);
   const pitch = (TILE.width - 2) / across;
+  const waiting = new Map([node, before ?? node].map(of => [of, wordsInPage(map, of, page)]));
   const drawn = Array.from({ length: map.page }, (_, place) => {
     const at = `page ${page} place ${place}`;
     const box = { x: x + 2.5 + (place % across) * pitch, y: y + 3.2 + Math.floor(place / across) * 8.4, width: pitch - 3, height: 5 };
     const look = place >= owner.from && place < owner.to ? 'p-on' : 'p-off';
-    const waits = of => wordsInPage(map, of, page)[place];
+    const waits = of => waiting.get(of)[place];
     return rect(box.x, box.y, box.width, box.height, look, { 'data-at': at }) + outline(view, at, waits, box, 1.5, 'p-changed p-thin');
   });
   return rect(x + 1, y, TILE.width - 2, TILE.height - 20, 'p-chip') + drawn.join('');

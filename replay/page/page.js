@@ -12,8 +12,9 @@ const PACE = 900;
 
 const element = id => document.getElementById(id);
 
-/* What is shown: a run, what is counted of it, the line at which it is, the lines that the score shows, and what plays it on. */
-const view = { run: null, counts: '', at: 0, from: 0, to: 0, timer: 0 };
+/* What is shown: a run, what is counted of it, the line at which it is, how wide node and score can be, the lines that the score shows, and
+   what plays it on. */
+const view = { run: null, counts: '', at: 0, room: null, from: 0, to: 0, timer: 0 };
 
 const viewer = () => Number(element('viewer').value);
 const isEmpty = run => run.last < run.first;
@@ -54,7 +55,9 @@ function playOrPause() {
 
 /* ---- drawing ---- */
 
+/* How wide things are is asked before anything is drawn: asked in between, the browser would lay the page out each time. */
 function draw() {
+  view.room = { node: element('node').clientWidth, score: element('score').clientWidth - SCORE_LEFT - SCORE_RIGHT };
   drawIn('said', drawNow);
   drawIn('node', drawNode);
   drawIn('score', drawScore);
@@ -121,8 +124,7 @@ function reportHtml(report) {
 
 function drawNode() {
   const { run, at } = view;
-  const narrow = element('node').clientWidth < NARROWEST;
-  element('node').innerHTML = pictureNow({ narrow });
+  element('node').innerHTML = pictureNow({ narrow: view.room.node < NARROWEST });
   element('outlined').hidden = viewer() > 0 || at < run.first || !run.isNode;
   element('stateBox').hidden = viewer() > 0 || !run.isNode;
   if (element('stateBox').open) drawState();
@@ -156,7 +158,7 @@ function drawScore() {
     element('window').textContent = '';
     return;
   }
-  const room = box.clientWidth - SCORE_LEFT - SCORE_RIGHT;
+  const room = view.room.score;
   const column = columnWidth(room, count);
   const fits = Math.max(4, Math.floor(room / column));
   const shown = Math.min(count, fits);
@@ -208,9 +210,12 @@ function rowHtml(run, i) {
   return `${begin}${cells}<td class="left">${sent}</td><td class="left kernel">${linked}</td></tr>`;
 }
 
+/* The rows in the document stay the same for half their number of steps. */
 function drawRows() {
   const { run, at } = view;
-  const first = Math.max(run.first, Math.min(at - ROWS / 2, run.last - ROWS + 1));
+  const half = ROWS / 2;
+  const block = run.first + Math.floor((at - run.first) / half) * half;
+  const first = Math.max(run.first, Math.min(block - half / 2, run.last - ROWS + 1));
   const last = Math.min(run.last, first + ROWS - 1);
   const shown = `${first} ${last} ${viewer()}`;
   const body = element('rows');
@@ -287,9 +292,9 @@ function save(name, type, content) {
 }
 
 function saveScore() {
-  const { run, from, to } = view;
+  const { run, from, to, room } = view;
   if (isEmpty(run)) return;
-  const options = { from, to, column: columnWidth(element('score').clientWidth - SCORE_LEFT - SCORE_RIGHT, run.last - run.first + 1) };
+  const options = { from, to, column: columnWidth(room.score, run.last - run.first + 1) };
   save(`score-${from}-${to}.svg`, 'image/svg+xml', scorePicture(run, { ...options, seenBy: viewer(), alone: true }).svg);
 }
 
@@ -395,10 +400,9 @@ function listen() {
   element('score').onclick = event => go(lineAt(event));
   element('rows').onclick = event => event.target.closest('a') ?? go(lineAt(event));
   element('overview').onclick = event => {
-    const { run } = view;
+    const { run, room } = view;
     const left = element('overview').getBoundingClientRect().left + SCORE_LEFT;
-    const room = element('score').clientWidth - SCORE_LEFT - SCORE_RIGHT;
-    go(run.first + ((event.clientX - left) / room) * (run.last - run.first + 1));
+    go(run.first + ((event.clientX - left) / room.score) * (run.last - run.first + 1));
   };
   addEventListener('keydown', pressed);
   addEventListener('hashchange', followLink);

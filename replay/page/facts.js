@@ -46,13 +46,17 @@ function timerCounts(node) {
 }
 
 /* "The messages of a buffer with h used-up places stand at the places h, h + 1, .. counted through its list of pages."
-   Of a page that is in a list: whose it is, which of the list's pages, and its filled places, those not below from and below to. */
+   Which places of the list's page of this index are filled: those not below from and below to. */
+function filledPlaces(map, { used, count }, index) {
+  return { from: index === 0 ? used : 0, to: Math.min(map.page, used + count - map.page * index) };
+}
+
+/* Of a page that is in a list: whose it is, which of the list's pages, and its filled places. */
 function pageOwner(map, node, page) {
   const owner = node.groups.slice(1).find(({ pages }) => pages.includes(page));
   if (owner === undefined) return null;
   const index = owner.pages.indexOf(page);
-  const to = Math.min(map.page, owner.used + owner.count - map.page * index);
-  return { group: owner.group, index, from: index === 0 ? owner.used : 0, to };
+  return { group: owner.group, index, ...filledPlaces(map, owner, index) };
 }
 
 /* "Below 32 it is the frame of that number, from 32 on the swap page of the number less 32." */

@@ -27,16 +27,15 @@ function reasonsByLine(text) {
   return new Map(Array.from(told, ([, line, reason, at]) => [Number(line), `${reason} at ${at}`]));
 }
 
-/* A run of a script, played by the proved code from a memory; reasons are told from power-on. */
-function playedRun(calls, title, begin, memory, script) {
+/* A run of a script, played by the proved code from where the file's own lines begin; reasons are told from power-on. */
+function playedRun(calls, own, title, script) {
+  const { sizes, memory, start } = own;
+  const begin = beginOf(own);
   const rows = [];
-  const start = changesText(new Uint32Array(memory.length), memory);
-  calls.play(memory, script, (...row) => rows.push(row));
+  calls.play(startMemory(own), script, (...row) => rows.push(row));
   const reasons = begin === 'power-on' ? reasonsByLine(calls.reasons(script)) : new Map();
   const lines = rows.map(([bytes, report, changes], i) => lineOfRun(i + 1, bytes, report, changes, reasons.get(i + 1) ?? ''));
-  const { words, sizes } = view.run.data;
-  const newline = script.at(-1) === 10;
-  return { words, sizes, title, begin, memory: memory.length, first: 1, last: lines.length, total: lines.length, newline, start, lines };
+  return { sizes, title, begin, memory, first: 1, last: lines.length, total: lines.length, start, lines };
 }
 
 /* The bytes of the lines that stand in the file, each with a newline. */
@@ -51,12 +50,6 @@ function ownScript(data) {
   return script;
 }
 
-function startMemory(data) {
-  const memory = new Uint32Array(data.memory);
-  put(memory, data.start);
-  return memory;
-}
-
 /* Whether the file's lines are the whole script, played from power-on. */
 const isWhole = data => data.begin === 'power-on' && data.first === 1 && data.last === data.total;
 
@@ -65,9 +58,9 @@ const beginOf = data => (data.begin === 'power-on' && data.first > 1 ? 'node' : 
 
 /* Plays the file's own run again, and says whether all lines agree. */
 function playedAgain(calls, data) {
-  const again = playedRun(calls, data.title, beginOf(data), startMemory(data), ownScript(data));
-  const powerOn = changesText(new Uint32Array(data.memory), calls.powerOn());
-  if (beginOf(data) === 'power-on' && again.start !== powerOn) return 'the memory at the start is not power-on’s';
+  const again = playedRun(calls, data, data.title, ownScript(data));
+  const differing = changesText(startMemory(data), calls.powerOn());
+  if (beginOf(data) === 'power-on' && differing !== '') return 'the memory at the start is not power-on’s';
   if (calls.test(startMemory(data)) !== (data.begin !== 'no-node')) return 'whether the memory at the start is a node is told wrong';
   const told = line => [line.shown, line.report, line.changes, isWhole(data) ? line.reason : null];
   const same = (one, other) => JSON.stringify(told(one)) === JSON.stringify(told(other));
@@ -88,7 +81,7 @@ function boxBytes(text) {
   const escaped = text.replace(/\\(?!x[0-9a-f]{2})/gi, '\\x5c');
   return bytesOf(Array.from(new TextEncoder().encode(escaped), byte => String.fromCharCode(byte)).join(''));
 }
-const boxText = bytes => Array.from(bytes, byte => (byte === 10 ? '\n' : shownText(Uint8Array.of(byte)))).join('');
+const boxText = bytes => Array.from(bytes, byte => (byte === 10 ? '\n' : signOf(byte))).join('');
 
 function playScript(calls, own, title, script) {
   const count = lineCount(script);
@@ -98,7 +91,7 @@ function playScript(calls, own, title, script) {
     element('played').textContent = `${thousands(count)} lines are more than the ${most} that a page shows: nothing was played.`;
     return;
   }
-  const data = playedRun(calls, title, beginOf(own.data), startMemory(own.data), script);
+  const data = playedRun(calls, own.data, title, script);
   show(makeRun(data), false);
   go(Math.min(view.at, data.last));
   element('played').textContent = `Played: ${counted(count, 'line')}.`;

@@ -263,6 +263,14 @@ function show(run, own) {
   element('viewer').innerHTML = options.join('');
 }
 
+/* The file's own, before its first line. */
+function showOwn(own) {
+  show(own, true);
+  view.at = own.first - 1;
+  element('script').value = boxText(ownScript(own.data));
+  element('played').textContent = '';
+}
+
 function noticeWords(run) {
   const from = run.begin === 'power-on' ? 'power-on' : 'the memory that the file’s own lines begin with';
   return `This is your own script, not the run in this file. The proved code in this page played it, from ${from}.`;
@@ -430,14 +438,10 @@ function begin() {
   own.title = element('title').textContent;
   document.body.dataset.machine = String(isEmpty(own));
   listen();
-  show(own, true);
-  view.at = own.first - 1;
-  element('script').value = boxText(ownScript(own.data));
+  showOwn(own);
   element('own').onclick = () => {
-    show(own, true);
-    element('script').value = boxText(ownScript(own.data));
-    element('played').textContent = '';
-    go(own.first - 1);
+    showOwn(own);
+    draw();
   };
   element('rows').replaceChildren();
   document.documentElement.classList.remove('loading');

@@ -21,9 +21,9 @@ function readRun(text) {
   const words = Number(named('words'));
   const sizes = Object.fromEntries(named('map').split(' ').map(size => size.split('=')).map(([name, size]) => [name, Number(size)]));
   if (mapOf(sizes).size !== words) throw new Error('the run has a map that is not of its words');
-  const data = { words, sizes, title: named('title'), begin: named('begin'), memory: Number(named('memory', /^\d+$/)) };
+  const data = { sizes, title: named('title'), begin: named('begin'), memory: Number(named('memory', /^\d+$/)) };
   [data.first, data.last, data.total] = named('lines', /^\d+ \d+ \d+$/).split(' ').map(Number);
-  data.newline = named('newline') === 'yes';
+  named('newline');
   data.start = named('start', START);
   if (rows.pop() !== 'end') throw new Error('the run is cut short');
   data.lines = rows.map((row, i) => readLine(row, data.first + i));
@@ -67,10 +67,12 @@ function bytesOf(text) {
 /* The longest line that can be read: of a longer one no more is shown. */
 const SHOWN = 128;
 
+/* A byte as it can be shown. */
+const signOf = byte => (byte < 32 || byte > 126 || byte === 92 ? '\\x' + byte.toString(16).padStart(2, '0') : String.fromCharCode(byte));
+
 /* Bytes as text that shows each of them, as the listing has it. */
 function shownText(bytes) {
-  const sign = byte => (byte < 32 || byte > 126 || byte === 92 ? '\\x' + byte.toString(16).padStart(2, '0') : String.fromCharCode(byte));
-  const text = Array.from(bytes.subarray(0, SHOWN), sign).join('');
+  const text = Array.from(bytes.subarray(0, SHOWN), signOf).join('');
   return bytes.length > SHOWN ? `${text}… (${bytes.length} bytes)` : text;
 }
 
@@ -81,6 +83,13 @@ function put(memory, changes) {
     const [address, words] = change.split('=');
     words.split(',').forEach((word, i) => (memory[Number(address) + i] = Number(word)));
   }
+}
+
+/* The memory before the first line shown. */
+function startMemory(data) {
+  const memory = new Uint32Array(data.memory);
+  put(memory, data.start);
+  return memory;
 }
 
 /* Such a text for the words that differ: the longest runs of neighbours, as they are now. */
@@ -99,8 +108,7 @@ function makeRun(data) {
   const map = mapOf(data.sizes);
   const first = data.first;
   const last = data.last;
-  const memory = new Uint32Array(data.memory);
-  put(memory, data.start);
+  const memory = startMemory(data);
   const isNode = data.begin !== 'no-node';
   const kept = [];
   const briefs = [];
@@ -167,8 +175,7 @@ function briefOf(map, memory) {
     const [atomic, pending, force, revoked, used, count, pageCount, descriptor] = memory.subarray(at, at + map.descriptor);
     const away = [];
     for (let i = 0; i < pageCount; i++) if (memory[at + map.list + i] >= map.frames) away.push(i);
-    const inPage = i => Math.min(map.page, used + count - map.page * i) - (i === 0 ? used : 0);
-    const swapped = away.reduce((sum, i) => sum + inPage(i), 0);
+    const swapped = away.map(i => filledPlaces(map, { used, count }, i)).reduce((sum, { from, to }) => sum + to - from, 0);
     const queued = queue.filter(group => group === g).length;
     groups.push({ atomic, pending, force, revoked, used, count, away, swapped, queued, descriptor });
   }

@@ -1,22 +1,14 @@
 """Checks that are counted, and where the project's parts are."""
 
-import subprocess
-import time
 from pathlib import Path
 from typing import Any, Callable
 
-__all__ = ["Checks", "ROOT", "difference", "program"]
+__all__ = ["Checks", "ROOT", "difference"]
 
 ROOT = Path(__file__).resolve().parents[3]
 """The project's folder."""
 
 _SHOWN = 600
-
-
-def program(name: str, *arguments: str, text: bytes = b"", limit: float = 600.0) -> bytes:
-    """What a command of the project writes."""
-    command = [str(ROOT / "bin" / name), *arguments]
-    return subprocess.run(command, input=text, stdout=subprocess.PIPE, timeout=limit, check=True).stdout
 
 
 class Checks:
@@ -48,15 +40,6 @@ class Checks:
         except Exception:  # Whichever it is.
             return self.holds(name, True)
         return self.holds(name, False, f"it did not fail: {got}")
-
-    def timed(self, name: str, what: Callable[[], Any], seconds: float) -> Any:
-        """A check that something takes at most that long; the time is told."""
-        began = time.monotonic()
-        got = what()
-        took = time.monotonic() - began
-        print(f"{name}: {took:.2f} s", flush=True)
-        self.holds(name, took <= seconds, f"it took {took:.2f} s, and may take {seconds:g} s")
-        return got
 
     def summary(self) -> int:
         print(f"{self._passed} passed, {self._failed} failed")

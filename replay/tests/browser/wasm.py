@@ -8,12 +8,13 @@ changed, or cut short, is seen to be other code.
 import base64
 import json
 import re
+import subprocess
 import sys
-from pathlib import Path
 from typing import Any, Dict, Iterable, List
 
 from browser import Browser, BrowserError
-from checks import ROOT, Checks, program
+from checks import ROOT, Checks
+from world import examples, told, vectors
 
 CODE = ROOT / "target" / "wasm" / "fugu.wasm"
 LINES = 100_000
@@ -83,7 +84,7 @@ class Native:
     """A run as the native calls made it: the data in the page of bin/replay."""
 
     def __init__(self, script: bytes) -> None:
-        page = program("replay", text=script).decode()
+        page = told("replay", script=script).decode()
         data = page.split('id="run">', 1)[1].split("</script>", 1)[0].strip().splitlines()
         start = next(i for i, line in enumerate(data) if line.startswith("start "))
         self.start = data[start].removeprefix("start ")
@@ -96,22 +97,25 @@ class Native:
         return "|".join((digits, report, changes))
 
 
-def scripts() -> List[Path]:
-    """Every vector and example."""
-    return sorted((ROOT / "vectors").glob("*/*.script")) + sorted((ROOT / "examples").glob("*.script"))
+SCRIPTS = vectors() + examples()
+
+
+def make() -> None:
+    """The code, by the command that makes it."""
+    subprocess.run([str(ROOT / "bin" / "wasm")], timeout=600, check=True)
 
 
 def check_scripts(checks: Checks, page: Page) -> None:
     lines = 0
-    for path in scripts():
+    for path in SCRIPTS:
         name, script = path.relative_to(ROOT), path.read_bytes()
         rows = page.rows(script)
         lines += len(rows)
         checks.equal(f"{name}: report and words of every line", rows, Native(script).rows)
         listing = _listing(row.split("|")[1] for row in rows)
         checks.equal(f"{name}: listing", listing, path.with_suffix(".listing").read_text())
-        checks.equal(f"{name}: reasons", page.reasons(script), program("why", "--all", text=script).decode())
-    print(f"{len(scripts())} vectors and examples, {lines:,} lines", flush=True)
+        checks.equal(f"{name}: reasons", page.reasons(script), told("why", "--all", script=script).decode())
+    print(f"{len(SCRIPTS)} vectors and examples, {lines:,} lines", flush=True)
 
 
 def odd_scripts() -> Dict[str, bytes]:
@@ -136,7 +140,7 @@ def odd_scripts() -> Dict[str, bytes]:
 def check_portions(checks: Checks, page: Page) -> None:
     for name, script in odd_scripts().items():
         checks.equal(name, page.rows(script), Native(script).rows)
-        checks.equal(f"{name}: reasons", page.reasons(script), program("why", "--all", text=script).decode())
+        checks.equal(f"{name}: reasons", page.reasons(script), told("why", "--all", script=script).decode())
 
 
 def check_memory(checks: Checks, page: Page) -> None:
@@ -155,11 +159,11 @@ def check_memory(checks: Checks, page: Page) -> None:
 
 
 def check_random(checks: Checks, page: Page) -> None:
-    flavours = [line.split()[0] for line in program("scripts", "--list").decode().splitlines()]
+    flavours = [line.split()[0] for line in told("scripts", "--list").decode().splitlines()]
     checks.holds("there are flavours", len(flavours) > 0)
     for flavour in flavours:
-        script = program("scripts", str(SEED), str(LINES), flavour)
-        checks.equal(f"random {flavour}", page.listing(script), program("judge", text=script).decode())
+        script = told("scripts", str(SEED), str(LINES), flavour)
+        checks.equal(f"random {flavour}", page.listing(script), told("judge", script=script).decode())
     print(f"{len(flavours)} flavours, {LINES * len(flavours):,} random lines", flush=True)
 
 
@@ -173,7 +177,7 @@ def check_form(checks: Checks, page: Page, code: bytes) -> None:
     checks.holds("the code names no file of this folder", str(ROOT).encode() not in code)
     kept = CODE.with_name("kept.wasm")
     CODE.replace(kept)
-    program("wasm")
+    make()
     checks.holds("the code made again is the same", CODE.read_bytes() == code)
     # The one made first, so that what was built with it is not older.
     kept.replace(CODE)
@@ -183,7 +187,7 @@ def differs(page: Page, code: bytes) -> bool:
     """Whether the listings of the examples tell that this is other code."""
     try:
         page.load(code)
-        return any(page.listing(path.read_bytes()) != path.with_suffix(".listing").read_text() for path in scripts())
+        return any(page.listing(path.read_bytes()) != path.with_suffix(".listing").read_text() for path in SCRIPTS)
     except BrowserError:
         return True
 
@@ -195,13 +199,13 @@ def check_wrong_code(checks: Checks, page: Page, code: bytes) -> None:
     # Each place that writes a comma, i32.const 44, writes the sign behind it instead.
     places = [found.start() + 1 for found in re.finditer(rb"\x41\x2c", code)]
     seen = [differs(page, code[:at] + b"\x2d" + code[at + 1 :]) for at in places]
-    told = f"{sum(seen)} of {len(seen)}"
-    checks.holds("code with a byte changed is seen to be other", sum(seen) > len(seen) / 2, told)
+    share = f"{sum(seen)} of {len(seen)}"
+    checks.holds("code with a byte changed is seen to be other", sum(seen) > len(seen) / 2, share)
 
 
 def main() -> int:
     checks = Checks()
-    program("wasm")
+    make()
     code = CODE.read_bytes()
     print(f"the code has {len(code):,} bytes")
     with Browser() as browser:

@@ -5,12 +5,9 @@ use std::io::{self, ErrorKind, Read};
 use std::os::unix::fs::{FileExt, MetadataExt};
 use std::path::Path;
 
-use fugu::SIZE;
+use fugu::{words_of_file, FILE_BYTES};
 
 use crate::kept::{existing, of, Told};
-
-const WORD_BYTES: usize = 4;
-const NODE: usize = WORD_BYTES * SIZE;
 
 /// The file as it was read, which stays open: no other file gets its number meanwhile.
 #[derive(Debug)]
@@ -38,20 +35,17 @@ impl Old {
             );
             return Err(told);
         }
-        let mut bytes = Vec::with_capacity(NODE);
-        let read = file.by_ref().take(NODE as u64).read_to_end(&mut bytes);
+        let mut bytes = Vec::with_capacity(FILE_BYTES);
+        let read = file
+            .by_ref()
+            .take(FILE_BYTES as u64)
+            .read_to_end(&mut bytes);
         read.map_err(of(name))?;
         Ok(Some(Old { file, known, bytes }))
     }
 
     pub fn memory(&self) -> Vec<u32> {
-        if !self.known.len().is_multiple_of(WORD_BYTES as u64) {
-            return Vec::new();
-        }
-        let words = self.bytes.chunks_exact(WORD_BYTES);
-        words
-            .map(|word| u32::from_le_bytes(word.try_into().expect("the bytes of a word")))
-            .collect()
+        words_of_file(&self.bytes, self.known.len())
     }
 
     /// Whether nothing was done to it. Its times tell of every change but one within the same tick of the

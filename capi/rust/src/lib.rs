@@ -5,6 +5,7 @@
 //! - [`Node`]: memory, owned or lent, with the calls as methods.
 //! - [`Report`]: what a step reported; [`answer`] has its answers by name.
 //! - [`Paging`]: how many pages went to swap space and back.
+//! - [`words_of_file`]: memory as a file has it.
 //! - [`why()`]: why a message of a script was buffered; [`why_all`]: why each of them was, as text, and
 //!   [`Reasons`]: the same over a script's portions.
 //! - [`Player`]: a script played on memory in portions, with its listing, whose first line is [`header`].
@@ -21,6 +22,7 @@
 
 pub mod answer;
 pub mod calls;
+mod file;
 mod node;
 mod player;
 mod portions;
@@ -28,6 +30,7 @@ mod reasons;
 mod report;
 mod why;
 
+pub use file::{words_of_file, FILE_BYTES};
 pub use node::{Node, Paging};
 pub use player::{header, Player};
 pub use reasons::{why_all, Reasons};

@@ -24,8 +24,10 @@ FLAGS = ("atomic", "pending", "force", "revoked")
 
 TELL = """async (begin, bytes) => {
     globalThis.calls ??= await provedCalls(codeBytes());
-    const memory = begin === 'power-on' ? calls.powerOn() : new Uint32Array(100);
-    const run = makeRun(playedRun(calls, '', begin, memory, Uint8Array.from(bytes)));
+    const words = begin === 'power-on' ? calls.powerOn() : new Uint32Array(100);
+    const start = changesText(new Uint32Array(words.length), words);
+    const file = { ...view.run.data, begin, first: 1, memory: words.length, start };
+    const run = makeRun(playedRun(calls, file, '', Uint8Array.from(bytes)));
     const own = i => Object.fromEntries(Array.from(run.parts, g => [g, privateWords(run, i, g)]));
     const told = ({ number, shown, report, changes, reason }) => [shown, report, changes, reason, wordsOf(run, number), own(number)];
     return [run.data.start, run.data.lines.map(told)];

@@ -7,12 +7,12 @@ use mathlib.Core.Path.{◌≡◌, ◌∙◌, ap, refl, subst, sym}
 use lib.ListN.{length, drop, get_or, set}
 use Rattle.rules.specs.Script.{header}
 use Rattle.script.specs.Feed.{FedTo}
-use Rattle.script.specs.Portions.{lastNewline}
+use Rattle.script.specs.Portions.{last_newline}
 use Rattle.script.specs.Written.{Appended}
 use Rattle.script.specs.declared.feed.Fed.{Fed as Fed·rt}
 use Rattle.script.specs.declared.feed.State.{State as State·rt}
-use Rattle.capi.specs.Carried.{Lent, ScriptCarried, endRoom, portionRoom, scriptOf, scriptRoom}
-use Rattle.capi.specs.Feed.{FeedsEnd, FeedsPortion, WritesHeader, fedOf}
+use Rattle.capi.specs.Carried.{Lent, ScriptCarried, end_room, portion_room, script_of, script_room}
+use Rattle.capi.specs.Feed.{FeedsEnd, FeedsPortion, WritesHeader, fed_of}
 use Rattle.capi.proofs.CarriedLaws.{end-words, portion-words, script-bytes-behind, script-found, script-words-behind, unchanged}
 
 -- The header.
@@ -35,57 +35,57 @@ abbrev fed : List ℕ → Fed·rt → List ℕ
 fed p f = set (set (set p 0 f.stop) 1 f.written) 2 f.used
 
 -- the same with another state
-abbrev fedAt : Fed·rt → State·rt → Fed·rt
-fedAt f st = record { state = st; used = f.used; written = f.written; stop = f.stop }
+abbrev fed_at : Fed·rt → State·rt → Fed·rt
+fed_at f st = record { state = st; used = f.used; written = f.written; stop = f.stop }
 
 -- with the state in the words and bytes they are what the portion came to
-fed-found : (w b p : List ℕ) (f : Fed·rt) → portionRoom ≤ length p → scriptOf w b ≡ f.state → f ≡ fedOf w b (fed p f)
-unfolding fedOf
-fed-found w b p f room e = sym (ap (fedOf w b) (portion-words p f.stop f.written f.used room) ∙ ap (fedAt f) e)
+fed-found : (w b p : List ℕ) (f : Fed·rt) → portion_room ≤ length p → script_of w b ≡ f.state → f ≡ fed_of w b (fed p f)
+unfolding fed_of
+fed-found w b p f room e = sym (ap (fed_of w b) (portion-words p f.stop f.written f.used room) ∙ ap (fed_at f) e)
 
-pub portion-fed : {m w b input out p m' w' b' out' : List ℕ} {st : State·rt} {f : Fed·rt} → Lent scriptRoom (length w) (length b) (length p) portionRoom
-    → st ≡ scriptOf w b
+pub portion-fed : {m w b input out p m' w' b' out' : List ℕ} {st : State·rt} {f : Fed·rt} → Lent script_room (length w) (length b) (length p) portion_room
+    → st ≡ script_of w b
     → FedTo m st input out m' out' f
     → ScriptCarried w b f.state w' b'
-    → FeedsPortion m w b input out p m' w' b' out' (fed p f) portionRoom
+    → FeedsPortion m w b input out p m' w' b' out' (fed p f) portion_room
 portion-fed {m} {w} {b} {input} {out} {p} {m'} {w'} {b'} {out'} {st} {f} l e h c =
     let h₁ = subst (λ (x : State·rt). FedTo m x input out m' out' f) e h in
     record {
       room = λ _.
           record {
-            fed = subst (λ (x : Fed·rt). FedTo m (scriptOf w b) input out m' out' x) (fed-found w' b' p f l.room (script-found c)) h₁;
+            fed = subst (λ (x : Fed·rt). FedTo m (script_of w b) input out m' out' x) (fed-found w' b' p f l.room (script-found c)) h₁;
             words-behind = script-words-behind c;
             bytes-behind = script-bytes-behind c;
-            part-behind = ap (drop portionRoom) (portion-words p f.stop f.written f.used l.room);
+            part-behind = ap (drop portion_room) (portion-words p f.stop f.written f.used l.room);
             counted = refl;
           };
       short = λ fewer. absurd (fewer l);
     }
 
-pub portion-unfed : (m w b input out p : List ℕ) → (Lent scriptRoom (length w) (length b) (length p) portionRoom → ⊥)
+pub portion-unfed : (m w b input out p : List ℕ) → (Lent script_room (length w) (length b) (length p) portion_room → ⊥)
     → FeedsPortion m w b input out p m w b out p 0
 portion-unfed m w b input out p fewer = record { room = λ l. absurd (fewer l); short = λ _. unchanged m w b out p }
 
 -- The end's.
 
-pub end-fed : {m w b out p m' out' : List ℕ} {st : State·rt} {f : Fed·rt} → Lent scriptRoom (length w) (length b) (length p) endRoom
-    → st ≡ scriptOf w b
-    → FedTo m st (lastNewline st) out m' out' f
-    → FeedsEnd m w b out p m' out' (set (set p 0 f.stop) 1 f.written) endRoom
+pub end-fed : {m w b out p m' out' : List ℕ} {st : State·rt} {f : Fed·rt} → Lent script_room (length w) (length b) (length p) end_room
+    → st ≡ script_of w b
+    → FedTo m st (last_newline st) out m' out' f
+    → FeedsEnd m w b out p m' out' (set (set p 0 f.stop) 1 f.written) end_room
 end-fed {m} {w} {b} {out} {p} {m'} {out'} {st} {f} l e h =
     let words = end-words p f.stop f.written l.room in
     record {
       room = λ _.
           record {
             fed = f;
-            ends = subst (λ (x : State·rt). FedTo m x (lastNewline x) out m' out' f) e h;
+            ends = subst (λ (x : State·rt). FedTo m x (last_newline x) out m' out' f) e h;
             stopped = ap (λ (x : List ℕ). get_or x 0 0) words;
             written = ap (λ (x : List ℕ). get_or x 1 0) words;
-            part-behind = ap (drop endRoom) words;
+            part-behind = ap (drop end_room) words;
             counted = refl;
           };
       short = λ fewer. absurd (fewer l);
     }
 
-pub end-unfed : (m w b out p : List ℕ) → (Lent scriptRoom (length w) (length b) (length p) endRoom → ⊥) → FeedsEnd m w b out p m out p 0
+pub end-unfed : (m w b out p : List ℕ) → (Lent script_room (length w) (length b) (length p) end_room → ⊥) → FeedsEnd m w b out p m out p 0
 end-unfed m w b out p fewer = record { room = λ l. absurd (fewer l); short = λ _. unchanged m w b out p }

@@ -7,7 +7,7 @@ use mathlib.Core.Path.{◌≡◌, ◌∙◌, ap, refl}
 use lib.ListN.{length, take, drop, get_or, length-drop}
 use lib.Seq.{take_all}
 use Rattle.rules.specs.Script as script
-use Rattle.rules.specs.Types.{operationOf}
+use Rattle.rules.specs.Types.{operation_of}
 use Rattle.rules.specs.declared.Operation.{Operation as Operation·rt}
 use Rattle.script.specs.Read.{Lettered}
 
@@ -29,6 +29,6 @@ behind-first ns = take_all (length ns - 1) (drop 1 ns) (rw (length-drop 1 ns) (o
 pub lettered-whole : (letter : ℕ) (ns : List ℕ) (op : Operation·rt) {first : ℕ} {ws : List ℕ} → first ≡ get_or ns 0 0
     → ws ≡ take (length ns - 1) (drop 1 ns)
     → Lettered letter (length ns) first op
-    → operationOf op ws ≡ script.operationOf letter (some ns)
+    → operation_of op ws ≡ script.operation_of letter (some ns)
 unfolding Lettered
-lettered-whole letter ns op f w l = ap (operationOf op) (w ∙ behind-first ns) ∙ l ns refl (rw f (first-same ns))
+lettered-whole letter ns op f w l = ap (operation_of op) (w ∙ behind-first ns) ∙ l ns refl (rw f (first-same ns))

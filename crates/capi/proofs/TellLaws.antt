@@ -8,8 +8,8 @@ use Rattle.follow.specs.Every.{FinishedTo, ToldTo}
 use Rattle.follow.specs.declared.every.End.{End as End·rt}
 use Rattle.follow.specs.declared.every.State.{State as State·rt}
 use Rattle.follow.specs.declared.every.Told.{Told as Told·rt}
-use Rattle.capi.specs.Carried.{Carried, Lent, endRoom, portionRoom, state_of, stateRoom}
-use Rattle.capi.specs.Tell.{TellsEnd, TellsPortion, end_of, portionOf}
+use Rattle.capi.specs.Carried.{Carried, Lent, end_room, portion_room, state_of, state_room}
+use Rattle.capi.specs.Tell.{TellsEnd, TellsPortion, end_of, portion_of}
 use Rattle.capi.proofs.CarriedLaws.{end-words, portion-words, unchanged}
 
 -- A portion's numbers, one behind the other.
@@ -18,24 +18,24 @@ abbrev told : List ℕ → Told·rt → List ℕ
 told p t = set (set (set p 0 t.stop) 1 t.written) 2 t.used
 
 -- the same with another state
-abbrev toldAt : Told·rt → State·rt → Told·rt
-toldAt t st = record { state = st; used = t.used; written = t.written; stop = t.stop }
+abbrev told_at : Told·rt → State·rt → Told·rt
+told_at t st = record { state = st; used = t.used; written = t.written; stop = t.stop }
 
-module _ (p : List ℕ) (t : Told·rt) (room : portionRoom ≤ length p) where
-  told-words : told p t ≡ t.stop ∷ t.written ∷ t.used ∷ drop portionRoom p
+module _ (p : List ℕ) (t : Told·rt) (room : portion_room ≤ length p) where
+  told-words : told p t ≡ t.stop ∷ t.written ∷ t.used ∷ drop portion_room p
   told-words = portion-words p t.stop t.written t.used room
 
   -- with the state in the words and bytes they are what the portion came to
-  told-found : (w b : List ℕ) → state_of w b ≡ t.state → t ≡ portionOf w b (told p t)
-  unfolding portionOf
+  told-found : (w b : List ℕ) → state_of w b ≡ t.state → t ≡ portion_of w b (told p t)
+  unfolding portion_of
   told-found w b e =
-      sym (ap (portionOf w b) told-words ∙ ap (toldAt t) e)
+      sym (ap (portion_of w b) told-words ∙ ap (told_at t) e)
 
-pub portion-told : {m w b input out p m' w' b' out' : List ℕ} {st : State·rt} {t : Told·rt} → Lent stateRoom (length w) (length b) (length p) portionRoom
+pub portion-told : {m w b input out p m' w' b' out' : List ℕ} {st : State·rt} {t : Told·rt} → Lent state_room (length w) (length b) (length p) portion_room
     → st ≡ state_of w b
     → ToldTo m st input out m' out' t
     → Carried w b t.state w' b'
-    → TellsPortion m w b input out p m' w' b' out' (told p t) portionRoom
+    → TellsPortion m w b input out p m' w' b' out' (told p t) portion_room
 portion-told {m} {w} {b} {input} {out} {p} {m'} {w'} {b'} {out'} {st} {t} l e h c =
     let h₁ = subst (λ (x : State·rt). ToldTo m x input out m' out' t) e h in
     record {
@@ -44,7 +44,7 @@ portion-told {m} {w} {b} {input} {out} {p} {m'} {w'} {b'} {out'} {st} {t} l e h 
             told = subst (λ (x : Told·rt). ToldTo m (state_of w b) input out m' out' x) (told-found p t l.room w' b' c.state) h₁;
             words-behind = c.words-behind;
             bytes-behind = c.bytes-behind;
-            part-behind = ap (drop portionRoom) (told-words p t l.room);
+            part-behind = ap (drop portion_room) (told-words p t l.room);
             counted = refl;
           };
       short = λ fewer. absurd (fewer l);
@@ -55,25 +55,25 @@ portion-told {m} {w} {b} {input} {out} {p} {m'} {w'} {b'} {out'} {st} {t} l e h 
 abbrev ended : List ℕ → End·rt → List ℕ
 ended p e = set (set p 0 e.stop) 1 e.written
 
-module _ (p : List ℕ) (e : End·rt) (room : endRoom ≤ length p) where
-  ended-words : ended p e ≡ e.stop ∷ e.written ∷ drop endRoom p
+module _ (p : List ℕ) (e : End·rt) (room : end_room ≤ length p) where
+  ended-words : ended p e ≡ e.stop ∷ e.written ∷ drop end_room p
   ended-words = end-words p e.stop e.written room
 
   ended-found : e ≡ end_of (ended p e)
   unfolding end_of
   ended-found = sym (ap end_of ended-words)
 
-pub end-told : {m w b out p m' out' : List ℕ} {st : State·rt} {e : End·rt} → Lent stateRoom (length w) (length b) (length p) endRoom
+pub end-told : {m w b out p m' out' : List ℕ} {st : State·rt} {e : End·rt} → Lent state_room (length w) (length b) (length p) end_room
     → st ≡ state_of w b
     → FinishedTo m st out m' out' e
-    → TellsEnd m w b out p m' out' (ended p e) endRoom
+    → TellsEnd m w b out p m' out' (ended p e) end_room
 end-told {m} {w} {b} {out} {p} {m'} {out'} {st} {e} l s h =
     let h₁ = subst (λ (x : State·rt). FinishedTo m x out m' out' e) s h in
     record {
       room = λ _.
           record {
             told = subst (λ (x : End·rt). FinishedTo m (state_of w b) out m' out' x) (ended-found p e l.room) h₁;
-            part-behind = ap (drop endRoom) (ended-words p e l.room);
+            part-behind = ap (drop end_room) (ended-words p e l.room);
             counted = refl;
           };
       short = λ fewer. absurd (fewer l);
@@ -81,9 +81,9 @@ end-told {m} {w} {b} {out} {p} {m'} {out'} {st} {e} l s h =
 
 -- Too short.
 
-pub portion-nothing : (m w b input out p : List ℕ) → (Lent stateRoom (length w) (length b) (length p) portionRoom → ⊥)
+pub portion-nothing : (m w b input out p : List ℕ) → (Lent state_room (length w) (length b) (length p) portion_room → ⊥)
     → TellsPortion m w b input out p m w b out p 0
 portion-nothing m w b input out p fewer = record { room = λ l. absurd (fewer l); short = λ _. unchanged m w b out p }
 
-pub end-nothing : (m w b out p : List ℕ) → (Lent stateRoom (length w) (length b) (length p) endRoom → ⊥) → TellsEnd m w b out p m out p 0
+pub end-nothing : (m w b out p : List ℕ) → (Lent state_room (length w) (length b) (length p) end_room → ⊥) → TellsEnd m w b out p m out p 0
 end-nothing m w b out p fewer = record { room = λ l. absurd (fewer l); short = λ _. unchanged m w b out p }

@@ -11,7 +11,7 @@ use Rattle.memory.specs.Answers.{Answers}
 use Rattle.memory.specs.Writes.{Wrote}
 use Rattle.memory.proofs.PieceLaws.{same_drop}
 use Rattle.memory.proofs.WriteLaws.{wrote-set, wrote-next, wrote_then}
-use Rattle.capi.specs.Told.{reportRoom, reportWords, Reports, pairRoom, TellsPair}
+use Rattle.capi.specs.Told.{report_room, report_words, Reports, pair_room, TellsPair}
 
 -- a part whose first words are written is these words and what stood behind them
 pub front-written : {p p' ws : List ℕ} (k : ℕ) → length ws ≡ k → k ≤ length p → Wrote p p' 0 ws → p' ≡ ws ++ drop k p
@@ -30,10 +30,10 @@ stored p r =
     r.sent.len
 
 -- then the words that were sent
-pub report-written : (p : List ℕ) {p' : List ℕ} (r : Report·rt) → reportRoom ≤ length p → length r.sent.words ≡ 8
+pub report-written : (p : List ℕ) {p' : List ℕ} (r : Report·rt) → report_room ≤ length p → length r.sent.words ≡ 8
     → Wrote (stored p r) p' 8 r.sent.words
-    → p' ≡ reportWords r ++ drop reportRoom p
-unfolding reportWords
+    → p' ≡ report_words r ++ drop report_room p
+unfolding report_words
 report-written p r long eight w =
     let w0 = wrote-set p 0 r.answer (omega arith) in
     let w1 = wrote-next w0 1 r.value refl (omega arith) in
@@ -43,16 +43,16 @@ report-written p r long eight w =
     let w5 = wrote-next w4 5 r.sent.node refl (omega arith) in
     let w6 = wrote-next w5 6 r.sent.group refl (omega arith) in
     let w7 = wrote-next w6 7 r.sent.len refl (omega arith) in
-    front-written reportRoom (omega arith) long (wrote_then w7 8 refl w)
+    front-written report_room (omega arith) long (wrote_then w7 8 refl w)
 
 -- a step taken, and its report told
-pub reports-told : {m p m' p' : List ℕ} {s : MemoryStep} {r : Report·rt} → reportRoom ≤ length p → Answers m' r s
-    → p' ≡ reportWords r ++ drop reportRoom p
-    → Reports m p s m' p' reportRoom
+pub reports-told : {m p m' p' : List ℕ} {s : MemoryStep} {r : Report·rt} → report_room ≤ length p → Answers m' r s
+    → p' ≡ report_words r ++ drop report_room p
+    → Reports m p s m' p' report_room
 reports-told {p = p} long a e =
     record {
       memory = λ h. a.left;
-      report = λ h. e ∙ ap (λ (t : Report·rt). reportWords t ++ drop reportRoom p) a.reported;
+      report = λ h. e ∙ ap (λ (t : Report·rt). report_words t ++ drop report_room p) a.reported;
       counted = λ h. refl;
       memory_kept = λ h. absurd (omega arith);
       part-kept = λ h. absurd (omega arith);
@@ -60,7 +60,7 @@ reports-told {p = p} long a e =
     }
 
 -- or not taken
-pub reports-nothing : (m p : List ℕ) (s : MemoryStep) → length p < reportRoom → Reports m p s m p 0
+pub reports-nothing : (m p : List ℕ) (s : MemoryStep) → length p < report_room → Reports m p s m p 0
 reports-nothing m p s short =
     record {
       memory = λ h. absurd (omega arith);
@@ -72,18 +72,18 @@ reports-nothing m p s short =
     }
 
 -- two numbers told
-pub pair-told : (x y : ℕ) (p : List ℕ) → pairRoom ≤ length p → TellsPair x y p (set (set p 0 x) 1 y) pairRoom
+pub pair-told : (x y : ℕ) (p : List ℕ) → pair_room ≤ length p → TellsPair x y p (set (set p 0 x) 1 y) pair_room
 pair-told x y p long =
     let w0 = wrote-set p 0 x (omega arith) in
     let w1 = wrote-next w0 1 y refl (omega arith) in
     record {
-      told = λ l. front-written pairRoom refl long w1;
+      told = λ l. front-written pair_room refl long w1;
       counted = λ l. refl;
       part-kept = λ l. absurd (omega arith);
       nothing = λ l. absurd (omega arith);
     }
 
 -- or not
-pub pair-nothing : (x y : ℕ) (p : List ℕ) → length p < pairRoom → TellsPair x y p p 0
+pub pair-nothing : (x y : ℕ) (p : List ℕ) → length p < pair_room → TellsPair x y p p 0
 pair-nothing x y p short =
     record { told = λ l. absurd (omega arith); counted = λ l. absurd (omega arith); part-kept = λ l. refl; nothing = λ l. refl }

@@ -14,10 +14,10 @@ pub record Call : Type 0 where
   pub count : ℕ
 
 -- the state and the kept line that calls leave
-unfoldable pub lastWords : List ℕ → List Call → List ℕ
-lastWords w [] = w
-lastWords w (c ∷ cs) = lastWords c.state-after cs
+unfoldable pub last_words : List ℕ → List Call → List ℕ
+last_words w [] = w
+last_words w (c ∷ cs) = last_words c.state-after cs
 
-unfoldable pub lastBytes : List ℕ → List Call → List ℕ
-lastBytes b [] = b
-lastBytes b (c ∷ cs) = lastBytes c.kept-after cs
+unfoldable pub last_bytes : List ℕ → List Call → List ℕ
+last_bytes b [] = b
+last_bytes b (c ∷ cs) = last_bytes c.kept-after cs

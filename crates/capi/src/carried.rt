@@ -2,7 +2,7 @@
 // message also how many wait, and their lines; and the bytes of the line that has begun.
 ghost use Rattle.std.specs.Prelude.{true, false, ◌++◌, ◌≡◌, ◌≤◌, length, take, drop};
 ghost use Rattle.rules.specs.Build.{paper01};
-ghost use Rattle.capi.specs.Carried.{scriptRoom, stateRoom, waitingAt, lineRoom, scriptOf, state_of, Lent, ScriptCarried, Carried};
+ghost use Rattle.capi.specs.Carried.{script_room, state_room, waiting_at, line_room, script_of, state_of, Lent, ScriptCarried, Carried};
 
 use follow::every;
 use memory::map::PLACES;
@@ -46,8 +46,8 @@ fn copy(to: &mut [u64], from: &[u64])
 
 // What words and bytes say of a script.
 pub fn load_script(words: &[u64], bytes: &[u8]) -> feed::State
-    requires { (scriptRoom ≤ length words.now) × (lineRoom ≤ length bytes.now) }
-    ensures { result ≡ scriptOf words.now bytes.now }
+    requires { (script_room ≤ length words.now) × (line_room ≤ length bytes.now) }
+    ensures { result ≡ script_of words.now bytes.now }
 {
     let mut kept = [0u8; KEPT_LINE];
     put_text(&mut kept, 0, &bytes[0..KEPT_LINE]);
@@ -60,7 +60,7 @@ pub fn load_script(words: &[u64], bytes: &[u8]) -> feed::State
 
 // The state that words and bytes stand for.
 pub fn load(words: &[u64], bytes: &[u8]) -> every::State
-    requires { (stateRoom ≤ length words.now) × (lineRoom ≤ length bytes.now) }
+    requires { (state_room ≤ length words.now) × (line_room ≤ length bytes.now) }
     ensures { result ≡ state_of words.now bytes.now }
 {
     let mut waiting = [0u64; PLACES];
@@ -74,15 +74,15 @@ pub fn load(words: &[u64], bytes: &[u8]) -> every::State
 
 // The line that has begun, and how many bytes there are for it. How many they are is told too: of an array in a struct it isn't known.
 fn put_kept(bytes: &mut [u8], kept: [u8; KEPT_LINE])
-    requires { lineRoom ≤ length bytes.old }
-    ensures { (bytes.new ≡ kept ++ drop lineRoom bytes.old) × (length kept ≡ lineRoom) }
+    requires { line_room ≤ length bytes.old }
+    ensures { (bytes.new ≡ kept ++ drop line_room bytes.old) × (length kept ≡ line_room) }
 {
     put_text(&mut bytes[0..KEPT_LINE], 0, &kept);
 }
 
 // What is to be said of a script, in words and bytes.
 pub fn save_script(words: &mut [u64], bytes: &mut [u8], st: feed::State)
-    requires { (scriptRoom ≤ length words.old) × (lineRoom ≤ length bytes.old) }
+    requires { (script_room ≤ length words.old) × (line_room ≤ length bytes.old) }
     ensures { ScriptCarried words.old bytes.old st words.new bytes.new }
 {
     words[0] = st.lines;
@@ -93,15 +93,15 @@ pub fn save_script(words: &mut [u64], bytes: &mut [u8], st: feed::State)
 
 // The lines of those that wait; how many they are is told too.
 fn put_waiting(words: &mut [u64], waiting: [u64; PLACES])
-    requires { stateRoom ≤ length words.old }
-    ensures { (words.new ≡ take waitingAt words.old ++ (waiting ++ drop stateRoom words.old)) × (length waiting ≡ paper01.places) }
+    requires { state_room ≤ length words.old }
+    ensures { (words.new ≡ take waiting_at words.old ++ (waiting ++ drop state_room words.old)) × (length waiting ≡ paper01.places) }
 {
     copy(&mut words[WAITING_AT..STATE], &waiting);
 }
 
 // A state, in words and bytes.
 pub fn save(words: &mut [u64], bytes: &mut [u8], st: every::State)
-    requires { (stateRoom ≤ length words.old) × (lineRoom ≤ length bytes.old) }
+    requires { (state_room ≤ length words.old) × (line_room ≤ length bytes.old) }
     ensures { Carried words.old bytes.old st words.new bytes.new }
 {
     let script = st.script;

@@ -13,7 +13,7 @@ pub mod why;
 
 ghost use Rattle.std.specs.Prelude.{cond, ◌≡◌};
 ghost use Rattle.rules.specs.Memory.{size};
-ghost use Rattle.rules.specs.MemoryTest.{isMemory};
+ghost use Rattle.rules.specs.MemoryTest.{is_memory};
 
 use memory::map;
 use validate::is_node;
@@ -29,7 +29,7 @@ pub extern "C" fn fugu_size() -> u32
 // 1 where the memory is a node, else 0.
 #[unsafe(no_mangle)]
 pub extern "C" fn fugu_test(memory: &[u32]) -> u32
-    ensures { result ≡ cond (isMemory memory.now) 1 0 }
+    ensures { result ≡ cond (is_memory memory.now) 1 0 }
 {
     if is_node(memory) {
         return 1;

@@ -1,6 +1,6 @@
 // Steps by script line.
-ghost use Rattle.rules.specs.MemoryTest.{stepMemory};
-ghost use Rattle.rules.specs.Script.{readLine};
+ghost use Rattle.rules.specs.MemoryTest.{step_memory};
+ghost use Rattle.rules.specs.Script.{read_line};
 ghost use Rattle.capi.specs.Told.{Reports};
 
 use crate::report::{REPORT, put_report};
@@ -9,7 +9,7 @@ use script::line;
 // A script line, without its newline.
 #[unsafe(no_mangle)]
 pub extern "C" fn fugu_line(memory: &mut [u32], text: &[u8], report: &mut [u32]) -> u32
-    ensures { Reports memory.old report.old (stepMemory memory.old (readLine text.now)) memory.new report.new result }
+    ensures { Reports memory.old report.old (step_memory memory.old (read_line text.now)) memory.new report.new result }
 {
     if report.len() < REPORT as usize {
         return 0;

@@ -1,5 +1,5 @@
 // Power-on.
-ghost use Rattle.rules.specs.MemoryTest.{powerOnMemory};
+ghost use Rattle.rules.specs.MemoryTest.{power_on_memory};
 ghost use Rattle.capi.specs.Told.{Reports};
 
 use crate::report::{REPORT, put_report};
@@ -8,7 +8,7 @@ use memory::Node;
 // Power-on: any memory that is long enough becomes a node.
 #[unsafe(no_mangle)]
 pub extern "C" fn fugu_power_on(memory: &mut [u32], report: &mut [u32]) -> u32
-    ensures { Reports memory.old report.old (powerOnMemory memory.old) memory.new report.new result }
+    ensures { Reports memory.old report.old (power_on_memory memory.old) memory.new report.new result }
 {
     if report.len() < REPORT as usize {
         return 0;

@@ -1,7 +1,7 @@
 // A report as words.
 ghost use Rattle.std.specs.Prelude.{◌++◌, ◌≡◌, ◌≤◌, length, drop};
 ghost use Rattle.memory.specs.Writes.{Wrote};
-ghost use Rattle.capi.specs.Told.{reportRoom, reportWords};
+ghost use Rattle.capi.specs.Told.{report_room, report_words};
 
 use memory::words::put_eight;
 use rules::Report;
@@ -11,8 +11,8 @@ pub const REPORT: u32 = 16;
 
 // A report's words at the beginning of a part.
 pub fn put_report(part: &mut [u32], r: Report)
-    requires { reportRoom ≤ length part.old }
-    ensures { part.new ≡ reportWords r ++ drop reportRoom part.old }
+    requires { report_room ≤ length part.old }
+    ensures { part.new ≡ report_words r ++ drop report_room part.old }
 {
     part[0] = r.answer;
     part[1] = r.value;
@@ -29,7 +29,7 @@ pub fn put_report(part: &mut [u32], r: Report)
 
 // The words that were sent, behind the first eight of the report. That they are eight is told too: of an array in a struct it isn't known.
 fn put_words(part: &mut [u32], words: [u32; 8])
-    requires { reportRoom ≤ length part.old }
+    requires { report_room ≤ length part.old }
     ensures { Wrote part.old part.new 8 words × (length words ≡ 8) }
 {
     put_eight(part, 8, words);

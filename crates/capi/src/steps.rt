@@ -1,8 +1,8 @@
 // Steps by letter.
 ghost use Rattle.std.proofs.Math.Option.{some};
 ghost use Rattle.std.specs.Prelude.{◌≡◌, get_or};
-ghost use Rattle.rules.specs.MemoryTest.{stepMemory};
-ghost use Rattle.rules.specs.Script.{operationOf};
+ghost use Rattle.rules.specs.MemoryTest.{step_memory};
+ghost use Rattle.rules.specs.Script.{operation_of};
 ghost use Rattle.memory.specs.Answers.{Answers};
 ghost use Rattle.capi.specs.Told.{Reports};
 
@@ -20,7 +20,7 @@ pub extern "C" fn fugu_step(
     arguments: &[u32],
     report: &mut [u32],
 ) -> u32
-    ensures { Reports memory.old report.old (stepMemory memory.old (operationOf letter (some arguments.now))) memory.new report.new result }
+    ensures { Reports memory.old report.old (step_memory memory.old (operation_of letter (some arguments.now))) memory.new report.new result }
 {
     if report.len() < REPORT as usize {
         return 0;
@@ -32,7 +32,7 @@ pub extern "C" fn fugu_step(
 
 // A step, with its report as it is.
 fn step_by_letter(memory: &mut [u32], letter: u8, arguments: &[u32]) -> Report
-    ensures { Answers memory.new result (stepMemory memory.old (operationOf letter (some arguments.now))) }
+    ensures { Answers memory.new result (step_memory memory.old (operation_of letter (some arguments.now))) }
 {
     let count = arguments.len();
     let op = operation(letter, count, first_of(arguments));

@@ -1,7 +1,7 @@
 // Why a message was buffered.
 ghost use Rattle.std.specs.Prelude.{◌++◌, ◌≡◌, ◌≤◌, length, drop};
-ghost use Rattle.follow.specs.One.{toldOf};
-ghost use Rattle.capi.specs.Why.{whyRoom, whyWords, whyMemory, WhyAnswers, TellsWhy};
+ghost use Rattle.follow.specs.One.{told_of};
+ghost use Rattle.capi.specs.Why.{why_room, why_words, why_memory, WhyAnswers, TellsWhy};
 
 use follow::one::{State, Told, finish, follow};
 use memory::Node;
@@ -15,7 +15,7 @@ const WORD_NUMBERS: u64 = 4294967296;
 // Why the message of a line was buffered, and in which line: the memory becomes a node, and the whole script is played on it.
 #[unsafe(no_mangle)]
 pub extern "C" fn fugu_why(memory: &mut [u32], script: &[u8], line: u32, part: &mut [u32]) -> u32
-    ensures { TellsWhy memory.old part.old (whyMemory memory.old script.now line) memory.new part.new result }
+    ensures { TellsWhy memory.old part.old (why_memory memory.old script.now line) memory.new part.new result }
 {
     if part.len() < WHY as usize {
         return 0;
@@ -27,7 +27,7 @@ pub extern "C" fn fugu_why(memory: &mut [u32], script: &[u8], line: u32, part: &
 
 // The same, with what is told as it is. Memory that power-on refuses is not played on.
 fn ask(memory: &mut [u32], script: &[u8], line: u64) -> Told
-    ensures { WhyAnswers memory.new result (whyMemory memory.old script.now line) }
+    ensures { WhyAnswers memory.new result (why_memory memory.old script.now line) }
 {
     let started = Node::power_on(memory);
     if started.answer != 0 {
@@ -43,8 +43,8 @@ fn ask(memory: &mut [u32], script: &[u8], line: u64) -> Told
 
 // What is told, at the beginning of a part: the line by its low and high 32 bits.
 fn put_told(part: &mut [u32], t: Told)
-    requires { whyRoom ≤ length part.old }
-    ensures { part.new ≡ whyWords (toldOf t) ++ drop whyRoom part.old }
+    requires { why_room ≤ length part.old }
+    ensures { part.new ≡ why_words (told_of t) ++ drop why_room part.old }
 {
     part[0] = t.answer;
     part[1] = t.reason;

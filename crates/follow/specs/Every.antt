@@ -1,25 +1,25 @@
 -- What following every message promises. Assumes nothing.
 use Rattle.std.specs.Prelude.{ℕ, ◌+◌, ◌*◌, ◌≤◌, ◌<◌, Bool, List, [], ◌++◌, ◌≡◌, length, take}
 use Rattle.rules.specs.Build.{paper01}
-use Rattle.reasons.specs.Follow.{stillWaiting, tellLines, tellQueued, tellingLines}
-use Rattle.script.specs.Feed.{keptLine, keptRoom, lastNumber}
-use Rattle.script.specs.Feeding.{afterLines, begun, lastLine, linesBehind, restBehind, whole}
+use Rattle.reasons.specs.Follow.{still_waiting, tell_lines, tell_queued, telling_lines}
+use Rattle.script.specs.Feed.{kept_line, kept_room, last_number}
+use Rattle.script.specs.Feeding.{after_lines, begun, last_line, lines_behind, rest_behind, whole}
 use Rattle.script.specs.Written.{Appended}
 use Rattle.follow.specs.Portion.{LinesAhead}
-use Rattle.follow.specs.Seen.{seenMemory}
-use Rattle.follow.specs.Waiting.{linesRoom}
+use Rattle.follow.specs.Seen.{seen_memory}
+use Rattle.follow.specs.Waiting.{lines_room}
 use Rattle.follow.specs.declared.every.End.{End as End·rt}
 use Rattle.follow.specs.declared.every.Lines.{Lines as Lines·rt}
 use Rattle.follow.specs.declared.every.State.{State as State·rt}
 use Rattle.follow.specs.declared.every.Told.{Told as Told·rt}
 
 -- the lines whose messages wait, from the head on
-unfoldable pub waitingOf : State·rt → List ℕ
-waitingOf st = take st.count st.waiting
+unfoldable pub waiting_of : State·rt → List ℕ
+waiting_of st = take st.count st.waiting
 
 -- what a portion came to whose lines were told
-abbrev pub portionTold : Lines·rt → List ℕ → ℕ → List ℕ → ℕ → Told·rt
-portionTold r kept count waiting used =
+abbrev pub portion_told : Lines·rt → List ℕ → ℕ → List ℕ → ℕ → Told·rt
+portion_told r kept count waiting used =
     record {
       state = record { script = record { lines = r.lines; kept = kept; count = count }; waiting = waiting; count = r.count };
       used = used;
@@ -36,54 +36,54 @@ pub record Tellable (m : List ℕ) (good : Bool) (kept : List ℕ) (begins : ℕ
 -- the lines of the part that was used, where b has begun, are stepped and counted, and of those that leave it is told why
 pub record LinesTold (m b u : List ℕ) (lines : ℕ) (ws out m' kept' waiting' out' : List ℕ) (r : Lines·rt) : Type 0 where
   pub inside : r.used ≤ length u
-  pub memory : m' ≡ afterLines m (whole (b ++ take r.used u))
+  pub memory : m' ≡ after_lines m (whole (b ++ take r.used u))
   pub counted : r.lines ≡ lines + length (whole (b ++ take r.used u))
   pub kept : take r.kept kept' ≡ begun (b ++ take r.used u)
-  pub short : r.kept ≤ keptRoom
-  pub waits : take r.count waiting' ≡ stillWaiting (lines + 1) ws (seenMemory m (whole (b ++ take r.used u)))
-  pub told : Appended out 0 out' r.end (tellingLines (tellLines (lines + 1) ws (seenMemory m (whole (b ++ take r.used u)))))
-  pub at_most : r.end ≤ linesRoom * length (whole (b ++ take r.used u))
+  pub short : r.kept ≤ kept_room
+  pub waits : take r.count waiting' ≡ still_waiting (lines + 1) ws (seen_memory m (whole (b ++ take r.used u)))
+  pub told : Appended out 0 out' r.end (telling_lines (tell_lines (lines + 1) ws (seen_memory m (whole (b ++ take r.used u)))))
+  pub at_most : r.end ≤ lines_room * length (whole (b ++ take r.used u))
   pub stopped : r.stop ≡ 1 → r.used < length u
   pub all-used : r.stop ≡ 0 → r.used ≡ length u
-  pub no_room : r.stop ≡ 1 → length out < r.end + linesRoom
+  pub no_room : r.stop ≡ 1 → length out < r.end + lines_room
   pub stops : r.stop ≤ 1
 
 -- a portion behind a line b that has begun
 pub record PortionTold (m : List ℕ) (st : State·rt) (input out m' out' : List ℕ) (t : Told·rt) : Type 0 where
   pub inside : t.used ≤ length input
-  pub memory : m' ≡ afterLines m (linesBehind (keptLine st.script) (take t.used input))
-  pub counted : t.state.script.lines ≡ st.script.lines + length (linesBehind (keptLine st.script) (take t.used input))
-  pub kept : keptLine t.state.script ≡ take keptRoom (restBehind (keptLine st.script) (take t.used input))
-  pub waits : waitingOf t.state
-      ≡ stillWaiting (st.script.lines + 1) (waitingOf st) (seenMemory m (linesBehind (keptLine st.script) (take t.used input)))
+  pub memory : m' ≡ after_lines m (lines_behind (kept_line st.script) (take t.used input))
+  pub counted : t.state.script.lines ≡ st.script.lines + length (lines_behind (kept_line st.script) (take t.used input))
+  pub kept : kept_line t.state.script ≡ take kept_room (rest_behind (kept_line st.script) (take t.used input))
+  pub waits : waiting_of t.state
+      ≡ still_waiting (st.script.lines + 1) (waiting_of st) (seen_memory m (lines_behind (kept_line st.script) (take t.used input)))
   pub told : Appended out 0 out' t.written
-      (tellingLines (tellLines (st.script.lines + 1) (waitingOf st) (seenMemory m (linesBehind (keptLine st.script) (take t.used input)))))
-  pub at_most : t.written ≤ linesRoom * length (linesBehind (keptLine st.script) (take t.used input))
+      (telling_lines (tell_lines (st.script.lines + 1) (waiting_of st) (seen_memory m (lines_behind (kept_line st.script) (take t.used input)))))
+  pub at_most : t.written ≤ lines_room * length (lines_behind (kept_line st.script) (take t.used input))
   pub stopped : t.stop ≡ 1 → t.used < length input
   pub all-used : t.stop ≡ 0 → t.used ≡ length input
-  pub no_room : t.stop ≡ 1 → length out < t.written + linesRoom
+  pub no_room : t.stop ≡ 1 → length out < t.written + lines_room
   pub stops : t.stop ≤ 1
 
 -- for any state and memory; where fewer line numbers are left than the portion has bytes, nothing of it is used
 pub record ToldTo (m : List ℕ) (st : State·rt) (input out m' out' : List ℕ) (t : Told·rt) : Type 0 where
-  pub enough : st.script.lines + length input < lastNumber → PortionTold m st input out m' out' t
-  pub last-number : lastNumber ≤ st.script.lines + length input
+  pub enough : st.script.lines + length input < last_number → PortionTold m st input out m' out' t
+  pub last-number : last_number ≤ st.script.lines + length input
       → (m' ≡ m) × ((out' ≡ out) × (t ≡ record { state = st; used = 0; written = 0; stop = 2 }))
 
 -- the script's end, with these last lines: they are stepped and told, and of those that still wait it is told so
 pub record EndTold (m : List ℕ) (st : State·rt) (ls : List (List ℕ)) (out m' out' : List ℕ) (e : End·rt) : Type 0 where
-  pub memory : m' ≡ afterLines m ls
+  pub memory : m' ≡ after_lines m ls
   pub told : Appended out 0 out' e.written
-      (tellingLines
-      (tellLines (st.script.lines + 1) (waitingOf st) (seenMemory m ls)
-      ++ tellQueued (st.script.lines + length ls) (stillWaiting (st.script.lines + 1) (waitingOf st) (seenMemory m ls))))
+      (telling_lines
+      (tell_lines (st.script.lines + 1) (waiting_of st) (seen_memory m ls)
+      ++ tell_queued (st.script.lines + length ls) (still_waiting (st.script.lines + 1) (waiting_of st) (seen_memory m ls))))
   pub stop : e.stop ≡ 0
 
 -- for any state and memory: a line that has begun is the last. Where the output has no room for twice as many messages as the queue has places, nothing
 -- is done; and where no line number is left for a line that has begun
 pub record FinishedTo (m : List ℕ) (st : State·rt) (out m' out' : List ℕ) (e : End·rt) : Type 0 where
-  pub enough : 2 * linesRoom ≤ length out → st.script.lines + 1 < lastNumber → EndTold m st (lastLine (keptLine st.script)) out m' out' e
-  pub none-begun : 2 * linesRoom ≤ length out → keptLine st.script ≡ [] → EndTold m st [] out m' out' e
-  pub last-number : 2 * linesRoom ≤ length out → (keptLine st.script ≡ [] → ⊥) → lastNumber ≤ st.script.lines + 1
+  pub enough : 2 * lines_room ≤ length out → st.script.lines + 1 < last_number → EndTold m st (last_line (kept_line st.script)) out m' out' e
+  pub none-begun : 2 * lines_room ≤ length out → kept_line st.script ≡ [] → EndTold m st [] out m' out' e
+  pub last-number : 2 * lines_room ≤ length out → (kept_line st.script ≡ [] → ⊥) → last_number ≤ st.script.lines + 1
       → (m' ≡ m) × ((out' ≡ out) × (e ≡ record { written = 0; stop = 2 }))
-  pub no_room : length out < 2 * linesRoom → (m' ≡ m) × ((out' ≡ out) × (e ≡ record { written = 0; stop = 1 }))
+  pub no_room : length out < 2 * lines_room → (m' ≡ m) × ((out' ≡ out) × (e ≡ record { written = 0; stop = 1 }))

@@ -2,9 +2,9 @@
 use Rattle.std.specs.Prelude.{ℕ}
 
 -- the longest reason in words
-abbrev pub wordsRoom : ℕ
-wordsRoom = 54
+abbrev pub words_room : ℕ
+words_room = 54
 
 -- a line: the words, three numbers of at most 20 digits, and 26 bytes around them
-abbrev pub whyRoom : ℕ
-whyRoom = 140
+abbrev pub why_room : ℕ
+why_room = 140

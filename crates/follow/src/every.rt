@@ -1,9 +1,9 @@
 // Every message followed through the hardware queue by the numbers of the lines whose messages wait, and told of as it leaves.
 ghost use Rattle.std.specs.Prelude.{◌≡◌, [], ◌+◌, ◌≤◌, length, take};
-ghost use Rattle.reasons.specs.Follow.{tellQueued, tellingLines};
-ghost use Rattle.script.specs.Feed.{keptLine};
-ghost use Rattle.follow.specs.Every.{waitingOf, portionTold, Tellable, LinesTold, ToldTo, FinishedTo};
-ghost use Rattle.follow.specs.Waiting.{linesRoom};
+ghost use Rattle.reasons.specs.Follow.{tell_queued, telling_lines};
+ghost use Rattle.script.specs.Feed.{kept_line};
+ghost use Rattle.follow.specs.Every.{waiting_of, portion_told, Tellable, LinesTold, ToldTo, FinishedTo};
+ghost use Rattle.follow.specs.Waiting.{lines_room};
 ghost use Rattle.script.specs.Written.{Appended};
 
 use crate::portion::next;
@@ -60,7 +60,7 @@ struct Lines {
 impl State {
     // No line yet.
     pub fn new() -> State
-        ensures { (result.script.lines ≡ 0) × ((keptLine result.script ≡ []) × (waitingOf result ≡ [])) }
+        ensures { (result.script.lines ≡ 0) × ((kept_line result.script ≡ []) × (waiting_of result ≡ [])) }
     {
         let script = feed::State::new();
         State {
@@ -123,7 +123,7 @@ fn portion_told(
     waiting: [u64; PLACES],
     used: usize,
 ) -> Told
-    ensures { result ≡ portionTold r kept count waiting used }
+    ensures { result ≡ portion_told r kept count waiting used }
 {
     Told {
         state: State {
@@ -183,8 +183,8 @@ pub fn tell(memory: &mut [u32], state: State, input: &[u8], out: &mut [u8]) -> T
 
 // Of those that wait it is told that they are still queued.
 fn put_queued(state: State, out: &mut [u8], at: usize) -> End
-    requires { at + linesRoom ≤ length out.old }
-    ensures { Appended out.old at out.new result.written (tellingLines (tellQueued state.script.lines (waitingOf state))) × (result.stop ≡ 0) }
+    requires { at + lines_room ≤ length out.old }
+    ensures { Appended out.old at out.new result.written (telling_lines (tell_queued state.script.lines (waiting_of state))) × (result.stop ≡ 0) }
 {
     let script = state.script;
     let waiting = state.waiting;

@@ -1,10 +1,10 @@
 // One message followed through the hardware queue by its place, line after line.
 ghost use Rattle.std.specs.Prelude.{◌≡◌, [], ◌+◌, ◌≤◌, ◌<◌, take};
 ghost use Rattle.reasons.specs.ByPlace.{leaving};
-ghost use Rattle.reasons.specs.Follow.{Seen, unfollowed, movedUp, pickedUp, followLine, toldAt};
-ghost use Rattle.script.specs.Feed.{keptLine};
-ghost use Rattle.follow.specs.Seen.{Sees, leftLimit};
-ghost use Rattle.follow.specs.One.{toldOf, followedOf, leftIn, LinesFollowed, FollowedTo, Finished};
+ghost use Rattle.reasons.specs.Follow.{Seen, unfollowed, moved_up, picked_up, follow_line, told_at};
+ghost use Rattle.script.specs.Feed.{kept_line};
+ghost use Rattle.follow.specs.Seen.{Sees, left_limit};
+ghost use Rattle.follow.specs.One.{told_of, followed_of, left_in, LinesFollowed, FollowedTo, Finished};
 ghost use Rattle.follow.specs.Portion.{LinesAhead};
 
 use crate::portion::next;
@@ -50,7 +50,7 @@ struct Lines {
 impl State {
     // No line yet.
     pub fn new(wanted: u64) -> State
-        ensures { (result.script.lines ≡ 0) × ((keptLine result.script ≡ []) × ((result.wanted ≡ wanted) × (followedOf result.followed ≡ unfollowed))) }
+        ensures { (result.script.lines ≡ 0) × ((kept_line result.script ≡ []) × ((result.wanted ≡ wanted) × (followed_of result.followed ≡ unfollowed))) }
     {
         let script = feed::State::new();
         State {
@@ -70,8 +70,8 @@ impl State {
 
 // At the line wanted: an accepted arrival was the last in the queue before any left.
 fn picked_up(f: Followed, l: Line) -> Followed
-    requires { l.left ≤ leftLimit }
-    ensures { (s : Seen) → Sees l s → followedOf result ≡ pickedUp s (followedOf f) }
+    requires { l.left ≤ left_limit }
+    ensures { (s : Seen) → Sees l s → followed_of result ≡ picked_up s (followed_of f) }
 {
     if l.answer == Report::UNREADABLE {
         return Followed {
@@ -95,7 +95,7 @@ fn picked_up(f: Followed, l: Line) -> Followed
 
 // In line i the messages at the queue's head leave, and those behind them move up.
 fn moved_up(i: u64, f: Followed, l: Line) -> Followed
-    ensures { followedOf result ≡ movedUp i (toldOf f.told) f.place (leaving l.left l.first l.later) }
+    ensures { followed_of result ≡ moved_up i (told_of f.told) f.place (leaving l.left l.first l.later) }
 {
     let place = f.place;
     let told = f.told;
@@ -116,7 +116,7 @@ fn moved_up(i: u64, f: Followed, l: Line) -> Followed
 
 // A message that left in line i.
 fn left_in(i: u64, reason: u32) -> Followed
-    ensures { result ≡ leftIn i reason }
+    ensures { result ≡ left_in i reason }
 {
     Followed {
         place: 0,
@@ -130,8 +130,8 @@ fn left_in(i: u64, reason: u32) -> Followed
 
 // Line i.
 fn follow_line(wanted: u64, i: u64, f: Followed, l: Line) -> Followed
-    requires { l.left ≤ leftLimit }
-    ensures { (s : Seen) → Sees l s → followedOf result ≡ followLine wanted i (followedOf f) s }
+    requires { l.left ≤ left_limit }
+    ensures { (s : Seen) → Sees l s → followed_of result ≡ follow_line wanted i (followed_of f) s }
 {
     if i == wanted {
         return moved_up(i, picked_up(f, l), l);
@@ -214,7 +214,7 @@ pub fn follow(memory: &mut [u32], state: State, input: &[u8]) -> State
 
 // What is told at the script's end: a message still queued names the last line.
 fn told_at(last: u64, f: Followed) -> Told
-    ensures { toldOf result ≡ toldAt last (followedOf f) }
+    ensures { told_of result ≡ told_at last (followed_of f) }
 {
     let told = f.told;
     if f.place == 0 {

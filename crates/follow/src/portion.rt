@@ -1,6 +1,6 @@
 // The lines of a portion, one after the other. What has begun before it goes on in its first.
 ghost use Rattle.std.specs.Prelude.{◌++◌, ◌+◌, take, drop};
-ghost use Rattle.script.specs.Read.{lineEnd, line_of};
+ghost use Rattle.script.specs.Read.{line_end, line_of};
 ghost use Rattle.follow.specs.Seen.{LineStepped};
 ghost use Rattle.follow.specs.Portion.{Goes};
 
@@ -19,7 +19,7 @@ pub fn next(
     fields: &mut [u32],
 ) -> Line
     requires { Goes memory.old good kept.old count whole.now at fields.old }
-    ensures { LineStepped memory.old (take count kept.old ++ line_of (drop at whole.now)) (lineEnd whole.now at + 1) memory.new result }
+    ensures { LineStepped memory.old (take count kept.old ++ line_of (drop at whole.now)) (line_end whole.now at + 1) memory.new result }
 {
     if count == 0 {
         return step_line(memory, good, whole, at, fields);

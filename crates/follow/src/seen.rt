@@ -1,13 +1,13 @@
 // A script line stepped on lent memory, and what is seen of it: how many messages leave the hardware queue at it, and why.
 ghost use Rattle.std.specs.Prelude.{◌≡◌, true, false, cond, not, ◌&&◌, List, ℕ, ◌+◌, ◌≤◌, eqb, length, drop};
 ghost use Rattle.rules.specs.Lists.{is_empty};
-ghost use Rattle.rules.specs.Memory.{nodeAt};
-ghost use Rattle.rules.specs.MemoryTest.{isMemory};
-ghost use Rattle.rules.specs.Run.{arrivedBy};
-ghost use Rattle.rules.specs.Types.{operationOf};
-ghost use Rattle.reasons.specs.ByPlace.{ownReason};
-ghost use Rattle.script.specs.Read.{lineEnd, line_of};
-ghost use Rattle.follow.specs.Seen.{leftLimit, Leaves, Arrival, ArrivalKnown, First, Later, Steppable, LineStepped};
+ghost use Rattle.rules.specs.Memory.{node_at};
+ghost use Rattle.rules.specs.MemoryTest.{is_memory};
+ghost use Rattle.rules.specs.Run.{arrived_by};
+ghost use Rattle.rules.specs.Types.{operation_of};
+ghost use Rattle.reasons.specs.ByPlace.{own_reason};
+ghost use Rattle.script.specs.Read.{line_end, line_of};
+ghost use Rattle.follow.specs.Seen.{left_limit, Leaves, Arrival, ArrivalKnown, First, Later, Steppable, LineStepped};
 
 use memory::map;
 use node::step_known;
@@ -31,7 +31,7 @@ pub struct Line {
 
 // Whether a step is an accepted arrival.
 fn is_arrival(op: Operation, accepted: bool) -> bool
-    ensures { (ws : List ℕ) → result ≡ not (is_empty (arrivedBy (operationOf op ws) accepted)) }
+    ensures { (ws : List ℕ) → result ≡ not (is_empty (arrived_by (operation_of op ws) accepted)) }
 {
     match op {
         Operation::Arrive(_) => accepted,
@@ -54,7 +54,7 @@ fn disposed(answer: u32, trap: u32) -> u64
 
 // How many leave the queue: those moved, and one that is disposed of there.
 fn left_by(op: Operation, answer: u32, trap: u32, moved: u32) -> u64
-    ensures { Leaves op (eqb answer 0 && eqb trap 0) moved result × (result ≤ leftLimit) }
+    ensures { Leaves op (eqb answer 0 && eqb trap 0) moved result × (result ≤ left_limit) }
 {
     match op {
         Operation::Dispose => moved as u64 + disposed(answer, trap),
@@ -65,7 +65,7 @@ fn left_by(op: Operation, answer: u32, trap: u32, moved: u32) -> u64
 // Why a message of group g moved at its own line: its group doesn't run, or older ones wait in its buffer, or it was revoked.
 fn own_reason(memory: &[u32], g: u32) -> u32
     requires { Arrival memory.now g }
-    ensures { result ≡ ownReason (nodeAt memory.now) g }
+    ensures { result ≡ own_reason (node_at memory.now) g }
 {
     if g != memory[map::RUNNING] {
         return NOT_RUNNING;
@@ -106,8 +106,8 @@ fn later_reason(op: Operation) -> u32
 
 // How many are queued after an accepted arrival.
 fn queued_after(memory: &[u32], arrival: bool) -> u32
-    requires { arrival ≡ true → isMemory memory.now ≡ true }
-    ensures { arrival ≡ true → result ≡ length (nodeAt memory.now).queue }
+    requires { arrival ≡ true → is_memory memory.now ≡ true }
+    ensures { arrival ≡ true → result ≡ length (node_at memory.now).queue }
 {
     if arrival {
         return memory[map::QUEUED];
@@ -118,7 +118,7 @@ fn queued_after(memory: &[u32], arrival: bool) -> u32
 // The line at a position, read and stepped, with what is seen of it.
 pub fn step_line(memory: &mut [u32], good: bool, s: &[u8], from: usize, fields: &mut [u32]) -> Line
     requires { Steppable memory.old good s.now from fields.old }
-    ensures { LineStepped memory.old (line_of (drop from s.now)) (lineEnd s.now from + 1) memory.new result }
+    ensures { LineStepped memory.old (line_of (drop from s.now)) (line_end s.now from + 1) memory.new result }
 {
     let l = read_at(s, from, fields);
     let op = l.op;

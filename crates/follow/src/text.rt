@@ -1,9 +1,9 @@
 // The answer for a message as a line of text: numbers for a program, and words for a reader.
 ghost use Rattle.std.specs.Prelude.{◌++◌, ◌+◌, ◌≤◌, length};
-ghost use Rattle.reasons.specs.Why.{reasonWords, whyLine};
+ghost use Rattle.reasons.specs.Why.{reason_words, why_line};
 ghost use Rattle.rules.specs.Text.{decimal};
 ghost use Rattle.script.specs.Written.{Appended, places};
-ghost use Rattle.follow.specs.Text.{wordsRoom, whyRoom};
+ghost use Rattle.follow.specs.Text.{words_room, why_room};
 
 use reasons::{DISPOSED_OF, NOT_RUNNING, OLDER_WAITING, REVOKED, STILL_QUEUED, TIMEOUT};
 use script::write::{put_number, put_text};
@@ -13,8 +13,8 @@ pub const WHY_ROOM: usize = 140;
 
 // A reason in words.
 fn put_reason(out: &mut [u8], at: usize, reason: u32) -> usize
-    requires { at + wordsRoom ≤ length out.old }
-    ensures { Appended out.old at out.new result (reasonWords reason) × (result ≤ at + wordsRoom) }
+    requires { at + words_room ≤ length out.old }
+    ensures { Appended out.old at out.new result (reason_words reason) × (result ≤ at + words_room) }
 {
     match reason {
         0 => at,
@@ -43,8 +43,8 @@ pub fn put_named(out: &mut [u8], at: usize, text: &[u8], n: u64) -> usize
 
 // The line of a message: the line it arrived in, its reason, and the line that the reason names.
 pub fn put_why(out: &mut [u8], at: usize, arrival: u64, reason: u32, line: u64) -> usize
-    requires { at + whyRoom ≤ length out.old }
-    ensures { Appended out.old at out.new result (whyLine arrival reason line) × (result ≤ at + whyRoom) }
+    requires { at + why_room ≤ length out.old }
+    ensures { Appended out.old at out.new result (why_line arrival reason line) × (result ≤ at + why_room) }
 {
     let a = put_named(out, at, b"line ", arrival);
     let b = put_named(out, a, b": reason ", reason as u64);

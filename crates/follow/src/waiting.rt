@@ -2,9 +2,9 @@
 ghost use Rattle.std.specs.Prelude.{◌≡◌, cond, [], ◌∷◌, ◌++◌, ◌+◌, ◌≤◌, ◌<◌, eqb, ltb, length, take, drop};
 ghost use Rattle.rules.specs.Build.{paper01};
 ghost use Rattle.reasons.specs.ByPlace.{leaving};
-ghost use Rattle.reasons.specs.Follow.{tellings, tellingLines};
+ghost use Rattle.reasons.specs.Follow.{tellings, telling_lines};
 ghost use Rattle.script.specs.Written.{Appended};
-ghost use Rattle.follow.specs.Waiting.{linesRoom, LineTellable, LineTold};
+ghost use Rattle.follow.specs.Waiting.{lines_room, LineTellable, LineTold};
 
 use crate::seen::Line;
 use crate::text::put_why;
@@ -71,8 +71,8 @@ pub fn fewer(count: usize, left: u64) -> usize
 
 // The lines of those that leave in line i.
 pub fn put_left(out: &mut [u8], at: usize, waiting: &[u64], count: usize, i: u64, l: Line) -> usize
-    requires { (at + linesRoom ≤ length out.old) × ((count ≤ length waiting.now) × (count ≤ paper01.places)) }
-    ensures { Appended out.old at out.new result (tellingLines (tellings i (take count waiting.now) (leaving l.left l.first l.later))) × (result ≤ at + linesRoom) }
+    requires { (at + lines_room ≤ length out.old) × ((count ≤ length waiting.now) × (count ≤ paper01.places)) }
+    ensures { Appended out.old at out.new result (telling_lines (tellings i (take count waiting.now) (leaving l.left l.first l.later))) × (result ≤ at + lines_room) }
 {
     let n = fewer(count, l.left);
     let mut end = at;

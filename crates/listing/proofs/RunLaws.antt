@@ -18,32 +18,32 @@ use Rattle.libc.specs.Io.{Moved}
 use Rattle.rules.specs.Build.{paper01}
 use Rattle.rules.specs.Lists.{is_empty}
 use Rattle.rules.specs.Memory.{size}
-use Rattle.rules.specs.MemoryTest.{powerOnMemory, replaced}
-use Rattle.rules.specs.Node.{powerOn}
+use Rattle.rules.specs.MemoryTest.{power_on_memory, replaced}
+use Rattle.rules.specs.Node.{power_on}
 use Rattle.rules.specs.Script.{header, newline}
 use Rattle.rules.proofs.Map.RunMemory.{power-on-tested}
-use Rattle.script.specs.Feed.{FedTo, keptLine, keptRoom}
+use Rattle.script.specs.Feed.{FedTo, kept_line, kept_room}
 use Rattle.script.specs.Feeding.{begun}
 use Rattle.script.specs.Play.{part}
-use Rattle.script.specs.Portions.{Feeds, lastMemory, lastNewline, lastState, usedBytes, usedOf}
-use Rattle.script.specs.Written.{lineRoom}
+use Rattle.script.specs.Portions.{Feeds, last_memory, last_newline, last_state, used_bytes, used_of}
+use Rattle.script.specs.Written.{line_room}
 use Rattle.script.specs.declared.feed.Fed.{Fed as Fed·rt}
 use Rattle.script.specs.declared.feed.State.{State as State·rt}
 use Rattle.script.proofs.PortionLaws.{whole-nil}
 use Rattle.script.proofs.PortionsLaws.{ended_by, feeds-append, kept-begun, listed-append, memory-append, portions-listed, state-append, used-append}
 use Rattle.script.proofs.feed.FedLaws.{fed-forward, fed-inside, fed-numbers}
-use Rattle.listing.specs.Run.{Ends, Exits, Finishes, GoesOn, Plays, PlaysAll, Reaches, RunListed, Runs, TakesIn, Turns, listedBy}
+use Rattle.listing.specs.Run.{Ends, Exits, Finishes, GoesOn, Plays, PlaysAll, Reaches, RunListed, Runs, TakesIn, Turns, listed_by}
 use Rattle.listing.specs.declared.Run.{Run as Run·rt}
 
 -- no call
 pub reach-none : (m : List ℕ) (st : State·rt) → Reaches m st [] m st
-unfolding Feeds usedBytes lastMemory lastState
+unfolding Feeds used_bytes last_memory last_state
 reach-none m st = record { calls = []; fed = tt; used = refl; memory = refl; state = refl }
 
 -- one call
 reach-one : {m : List ℕ} {st : State·rt} {input out m' out' : List ℕ} {f : Fed·rt} → FedTo m st input out m' out' f → (f.stop ≡ 2 → ⊥)
     → Reaches m st (take f.used input) m' f.state
-unfolding Feeds usedBytes usedOf lastMemory lastState
+unfolding Feeds used_bytes used_of last_memory last_state
 reach-one {input = input} {out} {m'} {out'} {f} g stop =
     record {
       calls = record { input = input; output = out; memory-after = m'; output-after = out'; fed = f } ∷ [];
@@ -61,17 +61,17 @@ reach-more {m} {st} {b} {m'} {st'} {c} r s =
     record {
       calls = ps ++ qs;
       fed = feeds-append m st ps qs r.fed
-          (subst (λ (x : State·rt). Feeds (lastMemory m ps) x qs) (sym r.state) (subst (λ (x : List ℕ). Feeds x st' qs) (sym r.memory) s.fed));
-      used = used-append ps qs ∙ ap (λ (x : List ℕ). x ++ usedBytes qs) r.used ∙ ap (λ (x : List ℕ). b ++ x) s.used;
-      memory = memory-append m ps qs ∙ ap (λ (x : List ℕ). lastMemory x qs) r.memory ∙ s.memory;
-      state = state-append st ps qs ∙ ap (λ (x : State·rt). lastState x qs) r.state ∙ s.state;
+          (subst (λ (x : State·rt). Feeds (last_memory m ps) x qs) (sym r.state) (subst (λ (x : List ℕ). Feeds x st' qs) (sym r.memory) s.fed));
+      used = used-append ps qs ∙ ap (λ (x : List ℕ). x ++ used_bytes qs) r.used ∙ ap (λ (x : List ℕ). b ++ x) s.used;
+      memory = memory-append m ps qs ∙ ap (λ (x : List ℕ). last_memory x qs) r.memory ∙ s.memory;
+      state = state-append st ps qs ∙ ap (λ (x : State·rt). last_state x qs) r.state ∙ s.state;
     }
 
 -- Within a portion.
 
 -- a call on what is left of it
 pub plays-some : {m : List ℕ} {run : Run·rt} {input out m' out' : List ℕ} {f : Fed·rt} {well : Bool}
-    → FedTo m run.state (drop run.used input) out m' out' f → (f.stop ≡ 2 → ⊥) → run.used < length input → lineRoom ≤ length out
+    → FedTo m run.state (drop run.used input) out m' out' f → (f.stop ≡ 2 → ⊥) → run.used < length input → line_room ≤ length out
     → Plays m run input m' (record { state = f.state; used = run.used + f.used; well = well; ended = false })
 unfolding part
 plays-some {m} {run} {input} {m' = m'} {f = f} g stop more room =
@@ -99,16 +99,16 @@ plays-more {m} {st} {run} {input} {m'' = m''} {run'} r p =
 -- At the end of the input.
 
 -- no line has begun
-pub finishes-none : {m : List ℕ} {st : State·rt} {used : ℕ} → is_empty (keptLine st) ≡ true
+pub finishes-none : {m : List ℕ} {st : State·rt} {used : ℕ} → is_empty (kept_line st) ≡ true
     → Finishes m st m (record { state = st; used = used; well = true; ended = true })
-unfolding lastNewline
+unfolding last_newline
 finishes-none {m} {st} none = record { reaches = rw none (reach-none m st); unchanged = λ e. (refl, refl); ends = refl }
 
 -- one has, and a newline is played
-pub finishes-begun : {m : List ℕ} {st : State·rt} {m' : List ℕ} {run : Run·rt} → is_empty (keptLine st) ≡ false
+pub finishes-begun : {m : List ℕ} {st : State·rt} {m' : List ℕ} {run : Run·rt} → is_empty (kept_line st) ≡ false
     → PlaysAll m st (newline ∷ []) m' run
     → Finishes m st m' (record { state = run.state; used = run.used; well = run.well; ended = true })
-unfolding lastNewline
+unfolding last_newline
 finishes-begun some p = record { reaches = rw some p.reaches; unchanged = λ none. absurd (true≢false (sym none ∙ some)); ends = refl }
 
 -- Reads.
@@ -159,16 +159,16 @@ runs-more {m} {st} {m'} {run} {input} {m''} {run'} g t =
 -- The listing.
 
 pub run-listed : RunListed
-unfolding listedBy reach-more
+unfolding listed_by reach-more
 run-listed =
     record {
       listed = λ m long p.
           let e = p.ends in
           let r = e.reaches in
           let all = reach-more r e.finishes.reaches in
-          let kept : keptLine e.state ≡ take keptRoom (begun e.script) =
-          ap keptLine (sym r.state) ∙ kept-begun r.calls (powerOnMemory m).memory [] p.state whole-nil p.no_line r.fed
-          ∙ ap (λ (x : List ℕ). take keptRoom (begun x)) r.used in
+          let kept : kept_line e.state ≡ take kept_room (begun e.script) =
+          ap kept_line (sym r.state) ∙ kept-begun r.calls (power_on_memory m).memory [] p.state whole-nil p.no_line r.fed
+          ∙ ap (λ (x : List ℕ). take kept_room (begun x)) r.used in
           ap (λ (x : List ℕ). header ++ x) (sym (listed-append r.calls e.finishes.reaches.calls))
           ∙ portions-listed.listed m e.script p.state all.calls long p.no_lines p.no_line all.fed
           (all.used ∙ ended_by e.script e.state kept);
@@ -177,8 +177,8 @@ run-listed =
 -- What the exit status says.
 
 -- 0: from power-on all went well up to the end of the input
-pub exits-well : (m : List ℕ) {m₀ m' : List ℕ} {st : State·rt} {run : Run·rt} {status : ℕ} → size ≤ length m → m₀ ≡ replaced (powerOn paper01) m
-    → (st.lines ≡ 0) × (keptLine st ≡ [])
+pub exits-well : (m : List ℕ) {m₀ m' : List ℕ} {st : State·rt} {run : Run·rt} {status : ℕ} → size ≤ length m → m₀ ≡ replaced (power_on paper01) m
+    → (st.lines ≡ 0) × (kept_line st ≡ [])
     → Runs m₀ st m' run
     → run.ended ≡ true
     → Exits status

@@ -4,11 +4,11 @@ use Rattle.std.specs.Prelude.{ℕ, ◌≤◌, ◌<◌, false, true, List, [], �
 use Rattle.libc.specs.Io.{Moved}
 use Rattle.rules.specs.Lists.{is_empty}
 use Rattle.rules.specs.Memory.{size}
-use Rattle.rules.specs.MemoryTest.{powerOnMemory}
+use Rattle.rules.specs.MemoryTest.{power_on_memory}
 use Rattle.rules.specs.Script.{header, listing}
-use Rattle.script.specs.Feed.{keptLine}
+use Rattle.script.specs.Feed.{kept_line}
 use Rattle.script.specs.Play.{part}
-use Rattle.script.specs.Portions.{Portion, Feeds, usedBytes, listedBytes, lastMemory, lastNewline, lastState}
+use Rattle.script.specs.Portions.{Portion, Feeds, used_bytes, listed_bytes, last_memory, last_newline, last_state}
 use Rattle.script.specs.declared.feed.State.{State as State·rt}
 use Rattle.listing.specs.declared.Run.{Run as Run·rt}
 
@@ -16,9 +16,9 @@ use Rattle.listing.specs.declared.Run.{Run as Run·rt}
 pub record Reaches (m : List ℕ) (st : State·rt) (bytes m' : List ℕ) (st' : State·rt) : Type 0 where
   pub calls : List Portion
   pub fed : Feeds m st calls
-  pub used : usedBytes calls ≡ bytes
-  pub memory : lastMemory m calls ≡ m'
-  pub state : lastState st calls ≡ st'
+  pub used : used_bytes calls ≡ bytes
+  pub memory : last_memory m calls ≡ m'
+  pub state : last_state st calls ≡ st'
 
 -- from the bytes used so far some more are used
 pub record Plays (m : List ℕ) (run : Run·rt) (input m' : List ℕ) (run' : Run·rt) : Type 0 where
@@ -34,8 +34,8 @@ pub record PlaysAll (m : List ℕ) (st : State·rt) (input m' : List ℕ) (run :
 
 -- "A last line may lack its newline.": it is fed at the end of the input; where no line has begun nothing changes
 pub record Finishes (m : List ℕ) (st : State·rt) (m' : List ℕ) (run : Run·rt) : Type 0 where
-  pub reaches : Reaches m st (lastNewline st) m' run.state
-  pub unchanged : is_empty (keptLine st) ≡ true → (m' ≡ m) × (run.state ≡ st)
+  pub reaches : Reaches m st (last_newline st) m' run.state
+  pub unchanged : is_empty (kept_line st) ≡ true → (m' ≡ m) × (run.state ≡ st)
   pub ends : run.ended ≡ true
 
 -- a read answered got: the bytes that it brought, which stand first in the input, are used; it brought none where the input is at its end
@@ -70,17 +70,17 @@ pub record Runs (m : List ℕ) (st : State·rt) (m' : List ℕ) (run : Run·rt) 
   pub ends : run.ended ≡ true → Ends m st m' run
 
 -- what the calls of a run up to the end of its input have listed
-unfoldable pub listedBy : {m : List ℕ} {st : State·rt} {m' : List ℕ} {run : Run·rt} → Ends m st m' run → List ℕ
-listedBy e = listedBytes e.reaches.calls ++ listedBytes e.finishes.reaches.calls
+unfoldable pub listed_by : {m : List ℕ} {st : State·rt} {m' : List ℕ} {run : Run·rt} → Ends m st m' run → List ℕ
+listed_by e = listed_bytes e.reaches.calls ++ listed_bytes e.finishes.reaches.calls
 
 -- from power-on and a new state, a run up to the end of its input
 pub record Played (m : List ℕ) : Type 0 where
   pub state : State·rt
   pub no_lines : state.lines ≡ 0
-  pub no_line : keptLine state ≡ []
+  pub no_line : kept_line state ≡ []
   pub memory : List ℕ
   pub run : Run·rt
-  pub ends : Ends (powerOnMemory m).memory state memory run
+  pub ends : Ends (power_on_memory m).memory state memory run
 
 -- what the program has done where its exit status is 0
 pub record Exits (status : ℕ) : Type 0 where
@@ -90,4 +90,4 @@ pub record Exits (status : ℕ) : Type 0 where
 
 -- "every script has its one listing": its calls have listed, behind the header, what the rules list of the script that the reads brought
 pub record RunListed : Type 0 where
-  pub listed : (m : List ℕ) → size ≤ length m → (p : Played m) → header ++ listedBy p.ends ≡ listing p.ends.script
+  pub listed : (m : List ℕ) → size ≤ length m → (p : Played m) → header ++ listed_by p.ends ≡ listing p.ends.script

@@ -2,7 +2,7 @@
 // from `script::write::put_header` and `script::feed::feed`; here it is only read, handed over and written.
 ghost use Rattle.std.specs.Prelude.{◌≡◌, true, ◌≤◌, ◌<◌, length};
 ghost use Rattle.libc.specs.Io.{Moved};
-ghost use Rattle.script.specs.Written.{lineRoom};
+ghost use Rattle.script.specs.Written.{line_room};
 ghost use Rattle.listing.specs.Run.{Plays, PlaysAll, Finishes, TakesIn, Turns, Runs, Exits};
 
 use libc::{STDERR_FILENO, STDIN_FILENO, STDOUT_FILENO};
@@ -38,7 +38,7 @@ fn put(bytes: &[u8]) -> bool {
 
 // Some lines of a portion: what they list is written at once.
 fn play(memory: &mut [u32], run: Run, input: &[u8], out: &mut [u8]) -> Run
-    requires { (run.used < length input.now) × (lineRoom ≤ length out.old) }
+    requires { (run.used < length input.now) × (line_room ≤ length out.old) }
     ensures { result.well ≡ true → Plays memory.old run input.now memory.new result }
 {
     let state = run.state;
@@ -65,7 +65,7 @@ fn play(memory: &mut [u32], run: Run, input: &[u8], out: &mut [u8]) -> Run
 
 // A portion, all of it.
 fn play_all(memory: &mut [u32], state: State, input: &[u8], out: &mut [u8]) -> Run
-    requires { lineRoom ≤ length out.old }
+    requires { line_room ≤ length out.old }
     ensures { result.well ≡ true → PlaysAll memory.old state input.now memory.new result }
 {
     let mut run = Run {
@@ -85,7 +85,7 @@ fn play_all(memory: &mut [u32], state: State, input: &[u8], out: &mut [u8]) -> R
 
 // One read, and what came of it.
 fn turn(memory: &mut [u32], state: State, input: &mut [u8], out: &mut [u8]) -> Run
-    requires { lineRoom ≤ length out.old }
+    requires { line_room ≤ length out.old }
     ensures { result.well ≡ true → Turns memory.old state input.new memory.new result }
 {
     let got = libc::read(STDIN_FILENO, input);
@@ -94,7 +94,7 @@ fn turn(memory: &mut [u32], state: State, input: &mut [u8], out: &mut [u8]) -> R
 
 // What a read answered: the bytes that it brought are played, all of them; with none the input is at its end.
 fn take_in(memory: &mut [u32], state: State, got: isize, input: &[u8], out: &mut [u8]) -> Run
-    requires { Moved (length input.now) got × (lineRoom ≤ length out.old) }
+    requires { Moved (length input.now) got × (line_room ≤ length out.old) }
     ensures { result.well ≡ true → TakesIn memory.old state got input.now memory.new result }
 {
     if got < 0 {
@@ -115,7 +115,7 @@ fn take_in(memory: &mut [u32], state: State, got: isize, input: &[u8], out: &mut
 
 // The end of the input: a line that has begun gets its newline.
 fn finish(memory: &mut [u32], state: State, out: &mut [u8]) -> Run
-    requires { lineRoom ≤ length out.old }
+    requires { line_room ≤ length out.old }
     ensures { result.well ≡ true → Finishes memory.old state memory.new result }
 {
     if !state.begun() {
@@ -138,7 +138,7 @@ fn finish(memory: &mut [u32], state: State, out: &mut [u8]) -> Run
 
 // Turns to the end of the input, or until something fails. They are counted down, since a loop has to end and nothing says that an input does.
 fn play_script(memory: &mut [u32], state: State, input: &mut [u8], out: &mut [u8]) -> Run
-    requires { lineRoom ≤ length out.old }
+    requires { line_room ≤ length out.old }
     ensures { result.well ≡ true → Runs memory.old state memory.new result }
 {
     let mut run = Run {

@@ -8,12 +8,12 @@ use mathlib.Core.Logic.{◌≢◌}
 use mathlib.Core.Path.{◌∙◌, ◌≡◌, refl}
 use lib.ListN.{drop, get_or, length, set}
 use lib.Seq.{get_or-set_other, get_or-set_same}
-use Rattle.rules.specs.Build.{groupCount, paper01}
-use Rattle.rules.specs.Lists.{Every, concatMap}
-use Rattle.rules.specs.Memory.{frameAddress, frameStride, framesAt, freeAt, freeCountAt, groupAddress, groupStride, groupWords, groupsAt, lineWords, pagingAt, pagingWords, placeWords, queueAt, queueWords, queued_at, running_at, size, timerAt, Page, pagesOf}
-use Rattle.rules.specs.Node.{Group, Message, Node, Paging, emptyGroup, withFree, withGroup, withPaging, withQueue, withRunning, withTimer}
+use Rattle.rules.specs.Build.{group_count, paper01}
+use Rattle.rules.specs.Lists.{Every, concat_map}
+use Rattle.rules.specs.Memory.{frame_address, frame_stride, frames_at, free_at, free_count_at, group_address, group_stride, group_words, groups_at, line_words, paging_at, paging_words, place_words, queue_at, queue_words, queued_at, running_at, size, timer_at, Page, pages_of}
+use Rattle.rules.specs.Node.{Group, Message, Node, Paging, empty_group, with_free, with_group, with_paging, with_queue, with_running, with_timer}
 use Rattle.rules.specs.Sound.{Mapped}
-use Rattle.rules.specs.Valid.{GoodMessage, frameNumbers, idle}
+use Rattle.rules.specs.Valid.{GoodMessage, frame_numbers, idle}
 use Rattle.rules.proofs.Steps.EveryLaws.{every-mono}
 use Rattle.rules.proofs.Map.MapPaging.{length-paging}
 use Rattle.rules.proofs.Map.MapParts.{length-group}
@@ -25,13 +25,13 @@ use Rattle.memory.proofs.PieceLaws.{PageStands, Pieces, holds-pieces, pieces-hol
 use Rattle.memory.proofs.WriteLaws.{kept_above, kept-below, widened, wrote-stands}
 
 -- of the groups with one exchanged: that one, or one of the others
-pub set_cases : (P : Group → Type 0) (Gs : List Group) (i k : ℕ) (G : Group) → k < length Gs → (i ≡ k → P G) → (i ≢ k → P (get_or Gs i emptyGroup))
-    → P (get_or (set Gs k G) i emptyGroup)
+pub set_cases : (P : Group → Type 0) (Gs : List Group) (i k : ℕ) (G : Group) → k < length Gs → (i ≡ k → P G) → (i ≢ k → P (get_or Gs i empty_group))
+    → P (get_or (set Gs k G) i empty_group)
 set_cases P Gs i k G h same other = go (ℕ_discrete i k)
   where
-    go : Dec (i ≡ k) → P (get_or (set Gs k G) i emptyGroup)
-    go (yes e) = rw (e, get_or-set_same Gs k G emptyGroup h) (same e)
-    go (no d) = rw (get_or-set_other Gs k i G emptyGroup d) (other d)
+    go : Dec (i ≡ k) → P (get_or (set Gs k G) i empty_group)
+    go (yes e) = rw (e, get_or-set_same Gs k G empty_group h) (same e)
+    go (no d) = rw (get_or-set_other Gs k i G empty_group d) (other d)
 
 module _ {m m' : List ℕ} {a : ℕ} {ws : List ℕ} (w : Wrote m m' a ws) where
   -- the rest stays
@@ -39,41 +39,41 @@ module _ {m m' : List ℕ} {a : ℕ} {ws : List ℕ} (w : Wrote m m' a ws) where
   rest-kept h e = same_drop m m' size w.same_length (λ b l. w.above b (omega arith)) ∙ e
 
   -- pages stay where the write is below them
-  pub frames-above : a + length ws ≤ framesAt → (xs : List Page) → Every (PageStands m) xs → Every (PageStands m') xs
-  unfolding frameAddress
+  pub frames-above : a + length ws ≤ frames_at → (xs : List Page) → Every (PageStands m) xs → Every (PageStands m') xs
+  unfolding frame_address
   frames-above h =
       every-mono (PageStands m) (PageStands m') (λ x s.
       record {
-        stands = kept_above w (framesAt + frameStride * x.number) (concatMap placeWords x.places) (omega arith) s.stands;
+        stands = kept_above w (frames_at + frame_stride * x.number) (concat_map place_words x.places) (omega arith) s.stands;
         inside = s.inside;
       })
 
   -- and where it is above them
-  pub frames-below : pagingAt ≤ a → (xs : List Page) → Every (PageStands m) xs → Every (PageStands m') xs
+  pub frames-below : paging_at ≤ a → (xs : List Page) → Every (PageStands m) xs → Every (PageStands m') xs
   frames-below h =
       every-mono (PageStands m) (PageStands m') (λ x s.
       record {
-        stands = kept-below w (frameAddress x.number) (concatMap placeWords x.places) (omega (arith, s.inside)) s.stands;
+        stands = kept-below w (frame_address x.number) (concat_map place_words x.places) (omega (arith, s.inside)) s.stands;
         inside = s.inside;
       })
 
   -- the record of a group stays where the write is outside it
-  pub group-outside : (i : ℕ) (G : Group) → (groupsAt + groupStride * i < a → groupsAt + groupStride * i + groupStride ≤ a)
-      → (a ≤ groupsAt + groupStride * i → a + length ws ≤ groupsAt + groupStride * i)
-      → Stands m (groupsAt + groupStride * i) (groupWords G) → Stands m' (groupsAt + groupStride * i) (groupWords G)
-  group-outside i G under over h = go (dec_lt (groupsAt + groupStride * i) a)
+  pub group-outside : (i : ℕ) (G : Group) → (groups_at + group_stride * i < a → groups_at + group_stride * i + group_stride ≤ a)
+      → (a ≤ groups_at + group_stride * i → a + length ws ≤ groups_at + group_stride * i)
+      → Stands m (groups_at + group_stride * i) (group_words G) → Stands m' (groups_at + group_stride * i) (group_words G)
+  group-outside i G under over h = go (dec_lt (groups_at + group_stride * i) a)
     where
-      go : Dec (groupsAt + groupStride * i < a) → Stands m' (groupsAt + groupStride * i) (groupWords G)
-      go (yes l) = kept-below w _ (groupWords G) (omega (arith, under l, length-group G)) h
-      go (no l) = kept_above w _ (groupWords G) (over (omega arith)) h
+      go : Dec (groups_at + group_stride * i < a) → Stands m' (groups_at + group_stride * i) (group_words G)
+      go (yes l) = kept-below w _ (group_words G) (omega (arith, under l, length-group G)) h
+      go (no l) = kept_above w _ (group_words G) (over (omega arith)) h
 
 -- the record of a group is written
-pub group-put : {m m' : List ℕ} {n : Node} {r : List ℕ} → Pieces m n r → (g : ℕ) → 1 ≤ g → g ≤ groupCount → length n.groups ≡ groupCount
-    → (G : Group) → Wrote m m' (groupAddress g) (groupWords G) → Every (PageStands m) (pagesOf paper01 G) → Pieces m' (withGroup g G n) r
-unfolding withGroup groupAddress
+pub group-put : {m m' : List ℕ} {n : Node} {r : List ℕ} → Pieces m n r → (g : ℕ) → 1 ≤ g → g ≤ group_count → length n.groups ≡ group_count
+    → (G : Group) → Wrote m m' (group_address g) (group_words G) → Every (PageStands m) (pages_of paper01 G) → Pieces m' (with_group g G n) r
+unfolding with_group group_address
 group-put {m} {m'} {n} p g low high count G w e =
     let l = length-group G in
-    let at : groupsAt + groupStride * (g - 1) ≡ groupsAt + groupStride * pred g = omega arith in
+    let at : groups_at + group_stride * (g - 1) ≡ groups_at + group_stride * pred g = omega arith in
     record {
       long = omega (arith, p.long, w.same_length);
       rest = rest-kept w (omega arith) p.rest;
@@ -84,22 +84,22 @@ group-put {m} {m'} {n} p g low high count G w e =
       queue = kept-below w 4 _ (omega (arith, length-queue n.queue)) p.queue;
       free = kept-below w 164 _ (omega (arith, length-line n.free)) p.free;
       groups = λ i h.
-          set_cases (λ H. Stands m' (groupsAt + groupStride * i) (groupWords H)) n.groups i (pred g) G (omega arith)
+          set_cases (λ H. Stands m' (groups_at + group_stride * i) (group_words H)) n.groups i (pred g) G (omega arith)
           (λ same. rw (same, ← at) (wrote-stands w))
-          (λ other. group-outside w i (get_or n.groups i emptyGroup) (λ k. omega arith) (λ k. omega arith) (p.groups i h));
-      paging = kept_above w pagingAt _ (omega arith) p.paging;
+          (λ other. group-outside w i (get_or n.groups i empty_group) (λ k. omega arith) (λ k. omega arith) (p.groups i h));
+      paging = kept_above w paging_at _ (omega arith) p.paging;
       free-pages = frames-above w (omega arith) (map emptied n.free) p.free-pages;
       swap-pages = frames-above w (omega arith) (map emptied n.paging.swap) p.swap-pages;
       group-pages = λ i h.
-          set_cases (λ H. Every (PageStands m') (pagesOf paper01 H)) n.groups i (pred g) G (omega arith)
-          (λ same. frames-above w (omega arith) (pagesOf paper01 G) e)
-          (λ other. frames-above w (omega arith) (pagesOf paper01 (get_or n.groups i emptyGroup)) (p.group-pages i h));
+          set_cases (λ H. Every (PageStands m') (pages_of paper01 H)) n.groups i (pred g) G (omega arith)
+          (λ same. frames-above w (omega arith) (pages_of paper01 G) e)
+          (λ other. frames-above w (omega arith) (pages_of paper01 (get_or n.groups i empty_group)) (p.group-pages i h));
     }
 
 -- a node with other numbers and another queue can be mapped
 mapped-front : {n : Node} → Mapped n → (g t : ℕ) (q : List Message) → length q ≤ paper01.places → Every GoodMessage q
-    → Mapped (withTimer t (withRunning g (withQueue q n)))
-unfolding withRunning withTimer withQueue frameNumbers idle
+    → Mapped (with_timer t (with_running g (with_queue q n)))
+unfolding with_running with_timer with_queue frame_numbers idle
 mapped-front v g t q few good =
     record {
       queue-length = few;
@@ -115,8 +115,8 @@ mapped-front v g t q few good =
 
 -- the two numbers that stand alone are written
 numbers-held : {m m' : List ℕ} {n : Node} {r : List ℕ} → Holds m n r → (g t : ℕ) → Wrote m m' running_at (g ∷ t ∷ [])
-    → Holds m' (withTimer t (withRunning g n)) r
-unfolding withRunning withTimer withQueue
+    → Holds m' (with_timer t (with_running g n)) r
+unfolding with_running with_timer with_queue
 numbers-held {m} {m'} {n} {r} h g t w =
     let p = holds-pieces h in
     let v = h.mapped in
@@ -132,11 +132,11 @@ numbers-held {m} {m'} {n} {r} h g t w =
       free-count = w.above 3 (omega arith) ∙ p.free-count;
       queue = kept_above w 4 _ (omega arith) p.queue;
       free = kept_above w 164 _ (omega arith) p.free;
-      groups = λ j l. kept_above w (groupsAt + groupStride * j) _ (omega arith) (p.groups j l);
-      paging = kept_above w pagingAt _ (omega arith) p.paging;
+      groups = λ j l. kept_above w (groups_at + group_stride * j) _ (omega arith) (p.groups j l);
+      paging = kept_above w paging_at _ (omega arith) p.paging;
       free-pages = frames-above w (omega arith) (map emptied n.free) p.free-pages;
       swap-pages = frames-above w (omega arith) (map emptied n.paging.swap) p.swap-pages;
-      group-pages = λ j l. frames-above w (omega arith) (pagesOf paper01 (get_or n.groups j emptyGroup)) (p.group-pages j l);
+      group-pages = λ j l. frames-above w (omega arith) (pages_of paper01 (get_or n.groups j empty_group)) (p.group-pages j l);
     })
 
 -- they stand as they were
@@ -146,21 +146,21 @@ numbers-stand {m} {n} h =
     (stands-cons m 0 n.running (n.timer ∷ [])).1 (p.running, (stands-cons m 1 n.timer []).1 (p.timer, stands-nil m 2))
 
 -- the running group is set
-pub running-held : {m m' : List ℕ} {n : Node} {r : List ℕ} → Holds m n r → (g : ℕ) → Wrote m m' running_at (g ∷ []) → Holds m' (withRunning g n) r
-unfolding withRunning withTimer
+pub running-held : {m m' : List ℕ} {n : Node} {r : List ℕ} → Holds m n r → (g : ℕ) → Wrote m m' running_at (g ∷ []) → Holds m' (with_running g n) r
+unfolding with_running with_timer
 running-held {n = n} h g w =
     numbers-held h g n.timer (widened w running_at [] (n.running ∷ []) (n.timer ∷ []) refl refl (numbers-stand h))
 
 -- the timer is set
-pub timer-held : {m m' : List ℕ} {n : Node} {r : List ℕ} → Holds m n r → (t : ℕ) → Wrote m m' timerAt (t ∷ []) → Holds m' (withTimer t n) r
-unfolding withRunning withTimer
+pub timer-held : {m m' : List ℕ} {n : Node} {r : List ℕ} → Holds m n r → (t : ℕ) → Wrote m m' timer_at (t ∷ []) → Holds m' (with_timer t n) r
+unfolding with_running with_timer
 timer-held {n = n} h t w =
     numbers-held h n.running t (widened w running_at (n.running ∷ []) (n.timer ∷ []) [] refl refl (numbers-stand h))
 
 -- the queue is written, and its count
 pub queue-held : {m m₁ m₂ : List ℕ} {n : Node} {r : List ℕ} → Holds m n r → (q : List Message) → length q ≤ paper01.places → Every GoodMessage q
-    → Wrote m m₁ queueAt (queueWords q) → Wrote m₁ m₂ queued_at (length q ∷ []) → Holds m₂ (withQueue q n) r
-unfolding withQueue withRunning withTimer
+    → Wrote m m₁ queue_at (queue_words q) → Wrote m₁ m₂ queued_at (length q ∷ []) → Holds m₂ (with_queue q n) r
+unfolding with_queue with_running with_timer
 queue-held {m} {m₁} {m₂} {n} {r} h q few good w₁ w₂ =
     let p = holds-pieces h in
     let v = h.mapped in
@@ -178,17 +178,17 @@ queue-held {m} {m₁} {m₂} {n} {r} h q few good w₁ w₂ =
       free-count = w₂.above 3 (omega arith) ∙ w₁.below 3 (omega arith) ∙ p.free-count;
       queue = kept_above w₂ 4 _ (omega arith) (wrote-stands w₁);
       free = kept_above w₂ 164 _ (omega arith) (kept_above w₁ 164 _ (omega arith) p.free);
-      groups = λ j l. kept_above w₂ (groupsAt + groupStride * j) _ (omega arith) (kept_above w₁ (groupsAt + groupStride * j) _ (omega arith) (p.groups j l));
-      paging = kept_above w₂ pagingAt _ (omega arith) (kept_above w₁ pagingAt _ (omega arith) p.paging);
+      groups = λ j l. kept_above w₂ (groups_at + group_stride * j) _ (omega arith) (kept_above w₁ (groups_at + group_stride * j) _ (omega arith) (p.groups j l));
+      paging = kept_above w₂ paging_at _ (omega arith) (kept_above w₁ paging_at _ (omega arith) p.paging);
       free-pages = frames (map emptied n.free) p.free-pages;
       swap-pages = frames (map emptied n.paging.swap) p.swap-pages;
-      group-pages = λ j l. frames (pagesOf paper01 (get_or n.groups j emptyGroup)) (p.group-pages j l);
+      group-pages = λ j l. frames (pages_of paper01 (get_or n.groups j empty_group)) (p.group-pages j l);
     })
 
 -- the free line is written, and its count; the frames of the new line are empty
 pub line-put : {m m₁ m₂ : List ℕ} {n : Node} {r : List ℕ} → Pieces m n r → (fs : List ℕ) → Every (PageStands m) (map emptied fs)
-    → Wrote m m₁ freeAt (lineWords fs) → Wrote m₁ m₂ freeCountAt (length fs ∷ []) → Pieces m₂ (withFree fs n) r
-unfolding withFree
+    → Wrote m m₁ free_at (line_words fs) → Wrote m₁ m₂ free_count_at (length fs ∷ []) → Pieces m₂ (with_free fs n) r
+unfolding with_free
 line-put {m} {m₁} {m₂} {n} {r} p fs stand w₁ w₂ =
     let k = length-line fs in
     let frames : (xs : List Page) → Every (PageStands m) xs → Every (PageStands m₂) xs =
@@ -201,20 +201,20 @@ line-put {m} {m₁} {m₂} {n} {r} p fs stand w₁ w₂ =
       queued = w₂.below 2 (omega arith) ∙ w₁.below 2 (omega arith) ∙ p.queued;
       free-count = ((stands-cons m₂ 3 (length fs) []).0 (wrote-stands w₂)).0;
       queue = kept_above w₂ 4 _ (omega arith) (kept-below w₁ 4 _ (omega (arith, length-queue n.queue)) p.queue);
-      free = kept_above w₂ freeAt _ (omega arith) (wrote-stands w₁);
+      free = kept_above w₂ free_at _ (omega arith) (wrote-stands w₁);
       groups = λ i h.
-          kept_above w₂ (groupsAt + groupStride * i) _ (omega arith)
-          (kept_above w₁ (groupsAt + groupStride * i) _ (omega arith) (p.groups i h));
-      paging = kept_above w₂ pagingAt _ (omega arith) (kept_above w₁ pagingAt _ (omega arith) p.paging);
+          kept_above w₂ (groups_at + group_stride * i) _ (omega arith)
+          (kept_above w₁ (groups_at + group_stride * i) _ (omega arith) (p.groups i h));
+      paging = kept_above w₂ paging_at _ (omega arith) (kept_above w₁ paging_at _ (omega arith) p.paging);
       free-pages = frames (map emptied fs) stand;
       swap-pages = frames (map emptied n.paging.swap) p.swap-pages;
-      group-pages = λ i h. frames (pagesOf paper01 (get_or n.groups i emptyGroup)) (p.group-pages i h);
+      group-pages = λ i h. frames (pages_of paper01 (get_or n.groups i empty_group)) (p.group-pages i h);
     }
 
 -- swap space and the order of entry are written; the swap pages of the new line are empty
 pub paging-put : {m m' : List ℕ} {n : Node} {r : List ℕ} → Pieces m n r → (s : Paging) → Every (PageStands m) (map emptied s.swap)
-    → Wrote m m' pagingAt (pagingWords s) → Pieces m' (withPaging s n) r
-unfolding withPaging
+    → Wrote m m' paging_at (paging_words s) → Pieces m' (with_paging s n) r
+unfolding with_paging
 paging-put {n = n} p s stand w =
     let k = length-paging s in
     record {
@@ -227,9 +227,9 @@ paging-put {n = n} p s stand w =
       queue = kept-below w 4 _ (omega (arith, length-queue n.queue)) p.queue;
       free = kept-below w 164 _ (omega (arith, length-line n.free)) p.free;
       groups = λ i h.
-          kept-below w (groupsAt + groupStride * i) _ (omega (arith, length-group (get_or n.groups i emptyGroup))) (p.groups i h);
+          kept-below w (groups_at + group_stride * i) _ (omega (arith, length-group (get_or n.groups i empty_group))) (p.groups i h);
       paging = wrote-stands w;
       free-pages = frames-below w (omega arith) (map emptied n.free) p.free-pages;
       swap-pages = frames-below w (omega arith) (map emptied s.swap) stand;
-      group-pages = λ i h. frames-below w (omega arith) (pagesOf paper01 (get_or n.groups i emptyGroup)) (p.group-pages i h);
+      group-pages = λ i h. frames-below w (omega arith) (pages_of paper01 (get_or n.groups i empty_group)) (p.group-pages i h);
     }

@@ -8,24 +8,24 @@ use native.Mathlib.Nat.{add-zero}
 use lib.ListN.{length, take, drop, get_or, set, replicate, length-append, length-set, length-drop, get_or-append, drop_of_length-le, replicate-append-replicate, length-replicate}
 use lib.Seq.{get_or-set_same, get_or-set_other, get_or-take, get_or-drop, get_or-append-add, length-take-le, take_all}
 use Rattle.rules.specs.Lists.{pad}
-use Rattle.rules.specs.Memory.{word, wordsAt}
+use Rattle.rules.specs.Memory.{word, words_at}
 use Rattle.rules.proofs.Steps.ListLaws.{pad-fits}
-use Rattle.rules.proofs.Map.MapWords.{Stands, stands-append, stands-cons, wordsAt-part, wordsAt-stands}
+use Rattle.rules.proofs.Map.MapWords.{Stands, stands-append, stands-cons, words_at-part, words_at-stands}
 use Rattle.memory.specs.Writes.{Wrote}
 
 -- the same words at the same addresses are read the same
-pub same-wordsAt : (m m' : List ℕ) (a k : ℕ) → ((b : ℕ) → a ≤ b → b < a + k → word m' b ≡ word m b) → wordsAt m' a k ≡ wordsAt m a k
-unfolding wordsAt
-same-wordsAt m m' a zero same = refl
-same-wordsAt m m' a (suc k) same =
+pub same-words_at : (m m' : List ℕ) (a k : ℕ) → ((b : ℕ) → a ≤ b → b < a + k → word m' b ≡ word m b) → words_at m' a k ≡ words_at m a k
+unfolding words_at
+same-words_at m m' a zero same = refl
+same-words_at m m' a (suc k) same =
     let first = same a (omega arith) (omega arith) in
-    let rest = same-wordsAt m m' (a + 1) k (λ b l h. same b (omega arith) (omega arith)) in
+    let rest = same-words_at m m' (a + 1) k (λ b l h. same b (omega arith) (omega arith)) in
     cc
 
 -- and stand the same
 pub same-stands : (m m' : List ℕ) (a : ℕ) (ws : List ℕ) → ((b : ℕ) → a ≤ b → b < a + length ws → word m' b ≡ word m b) → Stands m a ws → Stands m' a ws
 unfolding Stands
-same-stands m m' a ws same h = same-wordsAt m m' a (length ws) same ∙ h
+same-stands m m' a ws same h = same-words_at m m' a (length ws) same ∙ h
 
 -- a word of those that stand
 pub stands_word : (m : List ℕ) (a : ℕ) (ws : List ℕ) (j : ℕ) → j < length ws → Stands m a ws → word m (a + j) ≡ get_or ws j 0
@@ -36,17 +36,17 @@ stands_word m a (w ∷ ws) (suc j) h s =
     rw e (stands_word m (a + 1) ws j (omega arith) ((stands-cons m a w ws).0 s).1)
 
 -- one word more
-pub wordsAt-more : (m : List ℕ) (a k : ℕ) → wordsAt m a (k + 1) ≡ wordsAt m a k ++ (word m (a + k) ∷ [])
-unfolding wordsAt
-wordsAt-more m a zero = rw add-zero
-wordsAt-more m a (suc k) =
+pub words_at-more : (m : List ℕ) (a k : ℕ) → words_at m a (k + 1) ≡ words_at m a k ++ (word m (a + k) ∷ [])
+unfolding words_at
+words_at-more m a zero = rw add-zero
+words_at-more m a (suc k) =
     let e : suc k + 1 ≡ suc (k + 1) = omega arith in
     let f : a + 1 + k ≡ a + suc k = omega arith in
-    rw e (rw (wordsAt-more m (a + 1) k, f))
+    rw e (rw (words_at-more m (a + 1) k, f))
 
 -- a list that is read whole
-pub wordsAt-whole : (ws : List ℕ) (k : ℕ) → length ws ≡ k → ws ≡ wordsAt ws 0 k
-wordsAt-whole ws k e = sym (wordsAt-part ws 0 k (omega arith) ∙ take_all k ws (omega arith))
+pub words_at-whole : (ws : List ℕ) (k : ℕ) → length ws ≡ k → ws ≡ words_at ws 0 k
+words_at-whole ws k e = sym (words_at-part ws 0 k (omega arith) ∙ take_all k ws (omega arith))
 
 -- the same words by another name
 pub wrote_as : {m m' : List ℕ} {a : ℕ} {us vs : List ℕ} → Wrote m m' a us → us ≡ vs → Wrote m m' a vs
@@ -58,12 +58,12 @@ wrote_at {m} {m'} {ws = ws} w e = subst (λ (k : ℕ). Wrote m m' k ws) e w
 
 -- nothing is written
 pub wrote_none : (m : List ℕ) (a : ℕ) → Wrote m m a []
-unfolding wordsAt
+unfolding words_at
 wrote_none m a = record { same_length = refl; here = refl; below = λ b h. refl; above = λ b h. refl }
 
 -- a word is written
 pub wrote-set : (m : List ℕ) (a w : ℕ) → a < length m → Wrote m (set m a w) a (w ∷ [])
-unfolding wordsAt word
+unfolding words_at word
 wrote-set m a w h =
     record {
       same_length = length-set m a w;
@@ -147,14 +147,14 @@ wrote-over w v e =
 
 -- the front of a padded list is gone, and what stood behind it has moved down
 pub shifted : {m m' : List ℕ} (a N : ℕ) (us vs : List ℕ) → length us + length vs ≤ N → Stands m a (pad N (us ++ vs))
-    → Wrote m m' a (wordsAt m (a + length us) (length vs) ++ replicate (length us) 0) → Stands m' a (pad N vs)
+    → Wrote m m' a (words_at m (a + length us) (length vs) ++ replicate (length us) 0) → Stands m' a (pad N vs)
 shifted {m} {m'} a N us vs fits h w =
     let l = length-append us vs in
     let k = N - (length us + length vs) in
     let e : pad N (us ++ vs) ≡ us ++ (vs ++ replicate k 0) = pad-fits N (us ++ vs) (omega arith) ∙ rw (l, append_assoc) in
     let first = (stands-append m a us (vs ++ replicate k 0)).0 (rw e at h) in
     let second = (stands-append m (a + length us) vs (replicate k 0)).0 first.1 in
-    let same : wordsAt m (a + length us) (length vs) ≡ vs = wordsAt-stands m (a + length us) (length vs) vs refl second.0 in
+    let same : words_at m (a + length us) (length vs) ≡ vs = words_at-stands m (a + length us) (length vs) vs refl second.0 in
     let zeros : List ℕ = replicate (length us) 0 in
     let lz : length zeros ≡ length us = length-replicate {A = ℕ} (length us) 0 in
     let lw = length-append vs zeros in
@@ -203,7 +203,7 @@ lengthened-by {m} {m'} a N us vs k b at fits h w =
 -- a write into a lent part is one into the whole
 pub wrote-part : (m p : List ℕ) (a k : ℕ) (ws : List ℕ) → a ≤ length m → length m - a ≤ k → Wrote (take k (drop a m)) p 0 ws
     → Wrote m (take a m ++ (p ++ drop k (drop a m))) a ws
-unfolding word wordsAt Stands
+unfolding word words_at Stands
 wrote-part m p a k ws h l v =
     let short : length (drop a m) ≤ k = rw length-drop l in
     let w : Wrote (drop a m) p 0 ws = rw (take_all k (drop a m) short) at v in
@@ -220,7 +220,7 @@ wrote-part m p a k ws h l v =
     behind j =
         subst (λ (k : ℕ). get_or (take a m ++ p) (k + j) 0 ≡ get_or p j 0) (length-take-le a m h) (get_or-append-add (take a m) p j 0)
 
-    moved : (b k : ℕ) → wordsAt (take a m ++ p) (a + b) k ≡ wordsAt p b k
+    moved : (b k : ℕ) → words_at (take a m ++ p) (a + b) k ≡ words_at p b k
     moved b zero = refl
     moved b (suc k) =
         let e : a + b + 1 ≡ a + (b + 1) = omega arith in
@@ -228,7 +228,7 @@ wrote-part m p a k ws h l v =
         let f = behind b in
         rw e (cc (r, f))
 
-    here : wordsAt p 0 (length ws) ≡ ws → wordsAt (take a m ++ p) a (length ws) ≡ ws
+    here : words_at p 0 (length ws) ≡ ws → words_at (take a m ++ p) a (length ws) ≡ ws
     here q = let e = add-zero a in rw e at (moved 0 (length ws)) ∙ q
 
 -- six words, written one behind the other
@@ -251,7 +251,7 @@ pub wrote-message : (p ws : List ℕ) (len : ℕ) → 9 ≤ length p → length 
     → Wrote p
     (set (set (set (set (set (set (set (set (set p 0 len) 1 (get_or ws 0 0)) 2 (get_or ws 1 0)) 3 (get_or ws 2 0)) 4 (get_or ws 3 0)) 5 (get_or ws 4 0)) 6 (get_or ws 5 0)) 7 (get_or ws 6 0)) 8 (get_or ws 7 0))
     0 (len ∷ ws)
-unfolding word wordsAt
+unfolding word words_at
 wrote-message p ws len long eight =
     let w0 = wrote-set p 0 len (omega arith) in
     let w1 = wrote-next w0 1 (get_or ws 0 0) refl (omega arith) in
@@ -262,13 +262,13 @@ wrote-message p ws len long eight =
     let w6 = wrote-next w5 6 (get_or ws 5 0) refl (omega arith) in
     let w7 = wrote-next w6 7 (get_or ws 6 0) refl (omega arith) in
     let w8 = wrote-next w7 8 (get_or ws 7 0) refl (omega arith) in
-    wrote_as w8 (ap (λ (us : List ℕ). len ∷ us) (sym (wordsAt-whole ws 8 eight)))
+    wrote_as w8 (ap (λ (us : List ℕ). len ∷ us) (sym (words_at-whole ws 8 eight)))
 
 -- eight words, one by one
 pub eight-words : (m : List ℕ) (a : ℕ)
-    → wordsAt m a 8
+    → words_at m a 8
     ≡ get_or m a 0 ∷ get_or m (a + 1) 0 ∷ get_or m (a + 2) 0 ∷ get_or m (a + 3) 0 ∷ get_or m (a + 4) 0 ∷ get_or m (a + 5) 0 ∷ get_or m (a + 6) 0 ∷ get_or m (a + 7) 0 ∷ []
-unfolding wordsAt word
+unfolding words_at word
 eight-words m a =
     let next : (k : ℕ) → a + k + 1 ≡ a + suc k = λ k. omega arith in
     rw (next 1, next 2, next 3, next 4, next 5, next 6)

@@ -1,6 +1,6 @@
 -- What is done to a line of numbers in memory: a count at one address, and so many numbers from another on. Assumes nothing.
 use Rattle.std.specs.Prelude.{ℕ, suc, ◌+◌, ◌-◌, ◌≤◌, ◌<◌, cond, ◌≡◌, List, [], ◌∷◌, ◌++◌, eqb, length}
-use Rattle.rules.specs.Memory.{word, wordsAt}
+use Rattle.rules.specs.Memory.{word, words_at}
 use Rattle.memory.specs.Writes.{Wrote}
 
 -- a line lies within the memory
@@ -12,7 +12,7 @@ pub record InLine (m : List ℕ) (count line : ℕ) : Type 0 where
 pub record Left (m m' : List ℕ) (count line i x : ℕ) : Type 0 where
   pub number : x ≡ word m (line + i)
   pub between : List ℕ
-  pub moved : Wrote m between (line + i) (wordsAt m (line + i + 1) (word m count - i - 1) ++ (0 ∷ []))
+  pub moved : Wrote m between (line + i) (words_at m (line + i + 1) (word m count - i - 1) ++ (0 ∷ []))
   pub counted : Wrote between m' count ((word m count - 1) ∷ [])
 
 -- the number x joins the end, and the count is one more

@@ -1,10 +1,10 @@
 // Messages into and out of the virtual buffers.
 ghost use Rattle.std.specs.Prelude.{◌≤◌};
-ghost use Rattle.rules.specs.Build.{paper01, groupCount};
+ghost use Rattle.rules.specs.Build.{paper01, group_count};
 ghost use Rattle.rules.specs.Node.{Message};
 ghost use Rattle.rules.specs.Frames.{put};
 ghost use Rattle.rules.specs.Paging.{store};
-ghost use Rattle.memory.specs.Holds.{Some, Becomes, Room, Storable, Kept, Waits, Emptied, putting, wiping, usingUp, freeing, removing};
+ghost use Rattle.memory.specs.Holds.{Some, Becomes, Room, Storable, Kept, Waits, Emptied, putting, wiping, using_up, freeing, removing};
 ghost use Rattle.memory.specs.Paging.{Wanting};
 
 use super::{Node, frames, group, map, paging, words};
@@ -14,7 +14,7 @@ const LAST_PLACE: u32 = 7;
 
 // A message is put behind the last of group g's buffer, which has room for it.
 pub fn put(m: &mut [u32], g: u32, len: u32, words: [u32; 8])
-    requires le_g { (1 ≤ g) × (g ≤ groupCount) }
+    requires le_g { (1 ≤ g) × (g ≤ group_count) }
     requires some { Some m.old (Room g) }
     ensures { (x : Message) → Kept g len words x → Becomes m.old m.new (Room g) (putting x) }
 {
@@ -28,7 +28,7 @@ pub fn put(m: &mut [u32], g: u32, len: u32, words: [u32; 8])
 
 // A message is put at the end of group g's buffer, in a frame taken for it where the buffer is full.
 pub fn append(m: &mut [u32], g: u32, len: u32, words: [u32; 8])
-    requires le_g { (1 ≤ g) × (g ≤ groupCount) }
+    requires le_g { (1 ≤ g) × (g ≤ group_count) }
     requires some { Some m.old (Storable g) }
     ensures { (x : Message) → Kept g len words x → Becomes m.old m.new (Storable g) (put paper01 x) }
 {
@@ -42,7 +42,7 @@ pub fn append(m: &mut [u32], g: u32, len: u32, words: [u32; 8])
 
 // A message moves to the end of group g's buffer: its page is in a frame first.
 pub fn store(m: &mut [u32], g: u32, len: u32, words: [u32; 8])
-    requires le_g { (1 ≤ g) × (g ≤ groupCount) }
+    requires le_g { (1 ≤ g) × (g ≤ group_count) }
     requires some { Some m.old (Wanting g) }
     ensures { (x : Message) → Kept g len words x → Becomes m.old m.new (Wanting g) (store paper01 x) }
 {
@@ -52,7 +52,7 @@ pub fn store(m: &mut [u32], g: u32, len: u32, words: [u32; 8])
 
 // The place of the first message of group g's buffer is wiped.
 pub fn wipe_first(m: &mut [u32], g: u32)
-    requires le_g { (1 ≤ g) × (g ≤ groupCount) }
+    requires le_g { (1 ≤ g) × (g ≤ group_count) }
     requires some { Some m.old (Waits g) }
     ensures { Becomes m.old m.new (Waits g) (wiping g) }
 {
@@ -64,9 +64,9 @@ pub fn wipe_first(m: &mut [u32], g: u32)
 
 // It counts as used up.
 pub fn use_up(m: &mut [u32], g: u32)
-    requires le_g { (1 ≤ g) × (g ≤ groupCount) }
+    requires le_g { (1 ≤ g) × (g ≤ group_count) }
     requires some { Some m.old (Waits g) }
-    ensures { Becomes m.old m.new (Waits g) (usingUp g) }
+    ensures { Becomes m.old m.new (Waits g) (using_up g) }
 {
     let x = group::read(m, g);
     group::set_counts(m, g, x.used + 1, x.count - 1);
@@ -74,7 +74,7 @@ pub fn use_up(m: &mut [u32], g: u32)
 
 // The first frame of group g's buffer, which is wiped by then, is freed, and its first message with it; the frame leaves the order of entry.
 pub fn free_first(m: &mut [u32], g: u32)
-    requires le_g { (1 ≤ g) × (g ≤ groupCount) }
+    requires le_g { (1 ≤ g) × (g ≤ group_count) }
     requires some { Some m.old (Emptied g) }
     ensures { Becomes m.old m.new (Emptied g) (freeing g) }
 {
@@ -85,7 +85,7 @@ pub fn free_first(m: &mut [u32], g: u32)
 
 // The first message of group g's buffer goes. A frame that it leaves has no other message, so it is wiped with the message's place.
 pub fn unbuffer(m: &mut [u32], g: u32)
-    requires le_g { (1 ≤ g) × (g ≤ groupCount) }
+    requires le_g { (1 ≤ g) × (g ≤ group_count) }
     requires some { Some m.old (Waits g) }
     ensures { Becomes m.old m.new (Waits g) (removing g) }
 {

@@ -1,10 +1,10 @@
 // A group's descriptor, by value: adding a word or launching it hands back the next one.
 ghost use Rattle.std.specs.Prelude.{List, [], ◌∷◌, ◌++◌, ◌≡◌, ℕ, ◌≤◌, ◌<◌, length};
-ghost use Rattle.rules.specs.Build.{groupCount, wordLimit};
+ghost use Rattle.rules.specs.Build.{group_count, word_limit};
 ghost use Rattle.rules.specs.Memory.{size};
 ghost use Rattle.rules.specs.Node.{Node, group_of};
 ghost use Rattle.memory.specs.Holds.{Holds, Becomes, Any};
-ghost use Rattle.memory.specs.Descriptors.{descriptorOf, redescribed};
+ghost use Rattle.memory.specs.Descriptors.{descriptor_of, redescribed};
 
 use super::{map, words};
 
@@ -18,8 +18,8 @@ pub struct Descriptor {
 impl Descriptor {
     // A word joins it.
     pub fn described(mut self, w: u32) -> Descriptor
-        requires { self.len < wordLimit }
-        ensures { (d : List ℕ) → self ≡ descriptorOf d → result ≡ descriptorOf (d ++ (w ∷ [])) }
+        requires { self.len < word_limit }
+        ensures { (d : List ℕ) → self ≡ descriptor_of d → result ≡ descriptor_of (d ++ (w ∷ [])) }
     {
         let at = self.len as usize;
         self.words[at] = w;
@@ -29,7 +29,7 @@ impl Descriptor {
 
     // It is sent, and empty.
     pub fn launched(self) -> Descriptor
-        ensures { result ≡ descriptorOf [] }
+        ensures { result ≡ descriptor_of [] }
     {
         Descriptor {
             len: 0,
@@ -40,9 +40,9 @@ impl Descriptor {
 
 // That of group g.
 pub fn read(m: &[u32], g: u32) -> Descriptor
-    requires le_g { (1 ≤ g) × (g ≤ groupCount) }
+    requires le_g { (1 ≤ g) × (g ≤ group_count) }
     requires size_in_bounds { size ≤ length m.now }
-    ensures { (n : Node) (r : List ℕ) → Holds m.now n r → result ≡ descriptorOf (group_of n g).descriptor }
+    ensures { (n : Node) (r : List ℕ) → Holds m.now n r → result ≡ descriptor_of (group_of n g).descriptor }
 {
     let len = map::group_word(m, g, map::DESCRIBED);
     let at = map::group_at(g) + map::DESCRIPTOR;
@@ -55,9 +55,9 @@ pub fn read(m: &[u32], g: u32) -> Descriptor
 
 // The same, written.
 pub fn write(m: &mut [u32], g: u32, x: Descriptor)
-    requires le_g { (1 ≤ g) × (g ≤ groupCount) }
+    requires le_g { (1 ≤ g) × (g ≤ group_count) }
     requires size_in_bounds { size ≤ length m.old }
-    ensures { (d : List ℕ) → length d ≤ wordLimit → x ≡ descriptorOf d → Becomes m.old m.new Any (redescribed g d) }
+    ensures { (d : List ℕ) → length d ≤ word_limit → x ≡ descriptor_of d → Becomes m.old m.new Any (redescribed g d) }
 {
     map::set_group_word(m, g, map::DESCRIBED, x.len);
     let at = map::group_at(g) + map::DESCRIPTOR;

@@ -1,6 +1,6 @@
 // Frames between the free line and the groups' lists, and the order of entry into frames.
 ghost use Rattle.std.specs.Prelude.{◌≤◌};
-ghost use Rattle.rules.specs.Build.{groupCount};
+ghost use Rattle.rules.specs.Build.{group_count};
 ghost use Rattle.memory.specs.Holds.{Some, Becomes, FrameLeft, OrderRoom, InOrder, Emptied, granting, taking, entering, departing, releasing};
 
 use super::{group, lines, map};
@@ -24,7 +24,7 @@ pub fn depart(m: &mut [u32], f: u32)
 
 // The front of the free line goes to the end of group g's list.
 pub fn grant(m: &mut [u32], g: u32)
-    requires le_g { (1 ≤ g) × (g ≤ groupCount) }
+    requires le_g { (1 ≤ g) × (g ≤ group_count) }
     requires some { Some m.old FrameLeft }
     ensures { Becomes m.old m.new FrameLeft (granting g) }
 {
@@ -35,7 +35,7 @@ pub fn grant(m: &mut [u32], g: u32)
 
 // Group g takes a frame, which enters.
 pub fn extend(m: &mut [u32], g: u32)
-    requires le_g { (1 ≤ g) × (g ≤ groupCount) }
+    requires le_g { (1 ≤ g) × (g ≤ group_count) }
     requires some { Some m.old FrameLeft }
     ensures { Becomes m.old m.new FrameLeft (taking g) }
 {
@@ -46,7 +46,7 @@ pub fn extend(m: &mut [u32], g: u32)
 
 // The front of group g's list, which is wiped, goes to the end of the free line, and the first message with it.
 pub fn release(m: &mut [u32], g: u32)
-    requires le_g { (1 ≤ g) × (g ≤ groupCount) }
+    requires le_g { (1 ≤ g) × (g ≤ group_count) }
     requires some { Some m.old (Emptied g) }
     ensures { Becomes m.old m.new (Emptied g) (releasing g) }
 {

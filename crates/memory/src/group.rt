@@ -1,9 +1,9 @@
 // The flags and counts of a group, which stand first in its record: a value that is read, lent to be changed, and written.
 ghost use Rattle.std.specs.Prelude.{◌≡◌, Bool, List, ℕ};
-ghost use Rattle.rules.specs.Node.{Node, bufferHolds, buffered};
-ghost use Rattle.rules.specs.Memory.{countOffset, groupAddress, flagWord};
-ghost use Rattle.memory.specs.Writes.{Wrote, InGroup, groupRead, groupFront, reflagged, retimed, recounted};
-ghost use Rattle.memory.specs.Holds.{Holds, Becomes, Any, flagging, timerFlagging};
+ghost use Rattle.rules.specs.Node.{Node, buffer_holds, buffered};
+ghost use Rattle.rules.specs.Memory.{count_offset, group_address, flag_word};
+ghost use Rattle.memory.specs.Writes.{Wrote, InGroup, group_read, group_front, reflagged, retimed, recounted};
+ghost use Rattle.memory.specs.Holds.{Holds, Becomes, Any, flagging, timer_flagging};
 
 use super::map;
 
@@ -48,8 +48,8 @@ impl Group {
 
 // Those of group g.
 pub fn read(m: &[u32], g: u32) -> Group
-    requires { InGroup m.now g countOffset }
-    ensures { result ≡ groupRead m.now g }
+    requires { InGroup m.now g count_offset }
+    ensures { result ≡ group_read m.now g }
 {
     let a = map::group_at(g);
     Group {
@@ -64,8 +64,8 @@ pub fn read(m: &[u32], g: u32) -> Group
 
 // The same, written.
 pub fn write(m: &mut [u32], g: u32, x: Group)
-    requires { InGroup m.old g countOffset }
-    ensures { Wrote m.old m.new (groupAddress g) (groupFront x) }
+    requires { InGroup m.old g count_offset }
+    ensures { Wrote m.old m.new (group_address g) (group_front x) }
 {
     let a = map::group_at(g);
     m[a] = x.atomic;
@@ -78,15 +78,15 @@ pub fn write(m: &mut [u32], g: u32, x: Group)
 
 // Whether the buffer of group g holds messages.
 pub fn holds(m: &[u32], g: u32) -> bool
-    requires { InGroup m.now g countOffset }
-    ensures { (n : Node) (r : List ℕ) → Holds m.now n r → bufferHolds n g ≡ result }
+    requires { InGroup m.now g count_offset }
+    ensures { (n : Node) (r : List ℕ) → Holds m.now n r → buffer_holds n g ≡ result }
 {
     map::group_word(m, g, map::COUNT) > 0
 }
 
 // Whether group g is buffered: its buffer holds messages, or it is revoked.
 pub fn buffered(m: &[u32], g: u32) -> bool
-    requires { InGroup m.now g countOffset }
+    requires { InGroup m.now g count_offset }
     ensures { (n : Node) (r : List ℕ) → Holds m.now n r → buffered n g ≡ result }
 {
     holds(m, g) || map::group_word(m, g, map::REVOKED) > 0
@@ -94,8 +94,8 @@ pub fn buffered(m: &[u32], g: u32) -> bool
 
 // The flags atomic and pending of group g are set.
 pub fn set_flags(m: &mut [u32], g: u32, atomic: u32, pending: u32)
-    requires { InGroup m.old g countOffset }
-    ensures { (a p : Bool) → atomic ≡ flagWord a → pending ≡ flagWord p → Becomes m.old m.new Any (flagging g a p) }
+    requires { InGroup m.old g count_offset }
+    ensures { (a p : Bool) → atomic ≡ flag_word a → pending ≡ flag_word p → Becomes m.old m.new Any (flagging g a p) }
 {
     let mut x = read(m, g);
     x.set_flags(atomic, pending);
@@ -104,8 +104,8 @@ pub fn set_flags(m: &mut [u32], g: u32, atomic: u32, pending: u32)
 
 // Its timer's flags.
 pub fn set_timer_flags(m: &mut [u32], g: u32, force: u32, revoked: u32)
-    requires { InGroup m.old g countOffset }
-    ensures { (f r : Bool) → force ≡ flagWord f → revoked ≡ flagWord r → Becomes m.old m.new Any (timerFlagging g f r) }
+    requires { InGroup m.old g count_offset }
+    ensures { (f r : Bool) → force ≡ flag_word f → revoked ≡ flag_word r → Becomes m.old m.new Any (timer_flagging g f r) }
 {
     let mut x = read(m, g);
     x.set_timer_flags(force, revoked);
@@ -114,8 +114,8 @@ pub fn set_timer_flags(m: &mut [u32], g: u32, force: u32, revoked: u32)
 
 // And its counts.
 pub fn set_counts(m: &mut [u32], g: u32, used: u32, count: u32)
-    requires { InGroup m.old g countOffset }
-    ensures { Wrote m.old m.new (groupAddress g) (groupFront (recounted used count (groupRead m.old g))) }
+    requires { InGroup m.old g count_offset }
+    ensures { Wrote m.old m.new (group_address g) (group_front (recounted used count (group_read m.old g))) }
 {
     let mut x = read(m, g);
     x.set_counts(used, count);

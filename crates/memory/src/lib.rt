@@ -11,10 +11,10 @@ pub mod words;
 
 ghost use Rattle.std.specs.Prelude.{◌≡◌, ◌≤◌, length};
 ghost use Rattle.rules.specs.Build.{paper01};
-ghost use Rattle.rules.specs.Node.{powerOn};
+ghost use Rattle.rules.specs.Node.{power_on};
 ghost use Rattle.rules.specs.Memory.{size};
-ghost use Rattle.rules.specs.MemoryTest.{powerOnMemory, replaced};
-ghost use Rattle.rules.specs.Types.{buildOf, limits};
+ghost use Rattle.rules.specs.MemoryTest.{power_on_memory, replaced};
+ghost use Rattle.rules.specs.Types.{build_of, limits};
 ghost use Rattle.memory.specs.Answers.{Answers};
 
 use rules::{Build, Limits, Report};
@@ -44,7 +44,7 @@ impl Node {
 
     // The build that the limits make: paper 01's.
     pub fn build() -> Build
-        ensures { result ≡ buildOf paper01 }
+        ensures { result ≡ build_of paper01 }
     {
         Build {
             frames: Node::FRAMES,
@@ -69,7 +69,7 @@ impl Node {
 
     // Power-on: any memory that is long enough becomes a node.
     pub fn power_on(memory: &mut [u32]) -> Report
-        ensures { Answers memory.new result (powerOnMemory memory.old) }
+        ensures { Answers memory.new result (power_on_memory memory.old) }
     {
         if memory.len() < map::SIZE {
             return Report::refused(Report::NOT_NODE);
@@ -81,7 +81,7 @@ impl Node {
     // The same on memory that is known to be long enough: all 0, but the free line, 0 to 31, and the swap line, 32 to 95.
     pub fn start(memory: &mut [u32])
         requires { size ≤ length memory.old }
-        ensures { memory.new ≡ replaced (powerOn paper01) memory.old }
+        ensures { memory.new ≡ replaced (power_on paper01) memory.old }
     {
         words::clear(memory, 0, map::SIZE);
         memory[map::FREE_COUNT] = Node::FRAMES;

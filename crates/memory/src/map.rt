@@ -1,8 +1,8 @@
 // Where each number of a node stands (docs/MEMORY.md), and the words of a group's record.
 ghost use Rattle.std.specs.Prelude.{◌≡◌, [], ◌∷◌, ◌+◌, ◌*◌, ◌≤◌, ◌<◌, length};
-ghost use Rattle.rules.specs.Build.{paper01, pageCount, groupCount};
-ghost use Rattle.rules.specs.Frames.{ceilDiv};
-ghost use Rattle.rules.specs.Memory.{size, queueAt, queueStride, placeStride, word, groupAddress, frameAddress};
+ghost use Rattle.rules.specs.Build.{paper01, page_count, group_count};
+ghost use Rattle.rules.specs.Frames.{ceil_div};
+ghost use Rattle.rules.specs.Memory.{size, queue_at, queue_stride, place_stride, word, group_address, frame_address};
 ghost use Rattle.memory.specs.Writes.{Wrote, InGroup};
 
 use super::Node;
@@ -94,23 +94,23 @@ pub const SIZE: usize = 8104;
 // Where place i of the hardware queue stands.
 pub fn queue_at(i: u32) -> usize
     requires { i ≤ paper01.places }
-    ensures { result ≡ queueAt + queueStride * i }
+    ensures { result ≡ queue_at + queue_stride * i }
 {
     QUEUE_AT + QUEUE_STRIDE * (i as usize)
 }
 
 // Where the record of group g stands.
 pub fn group_at(g: u32) -> usize
-    requires { (1 ≤ g) × (g ≤ groupCount) }
-    ensures { result ≡ groupAddress g }
+    requires { (1 ≤ g) × (g ≤ group_count) }
+    ensures { result ≡ group_address g }
 {
     GROUPS_AT + GROUP_STRIDE * (g as usize - 1)
 }
 
 // Where a place of the frame or swap page with number f stands.
 pub fn place_at(f: u32, place: u32) -> usize
-    requires { (f < pageCount paper01) × (place < paper01.perFrame) }
-    ensures { result ≡ frameAddress f + placeStride * place }
+    requires { (f < page_count paper01) × (place < paper01.per_frame) }
+    ensures { result ≡ frame_address f + place_stride * place }
 {
     FRAMES_AT + FRAME_STRIDE * (f as usize) + PLACE_STRIDE * (place as usize)
 }
@@ -118,7 +118,7 @@ pub fn place_at(f: u32, place: u32) -> usize
 // Word k of the record of group g.
 pub fn group_word(m: &[u32], g: u32, k: usize) -> u32
     requires { InGroup m.now g k }
-    ensures { result ≡ word m.now (groupAddress g + k) }
+    ensures { result ≡ word m.now (group_address g + k) }
 {
     m[group_at(g) + k]
 }
@@ -126,7 +126,7 @@ pub fn group_word(m: &[u32], g: u32, k: usize) -> u32
 // The same, written.
 pub fn set_group_word(m: &mut [u32], g: u32, k: usize, x: u32)
     requires { InGroup m.old g k }
-    ensures { Wrote m.old m.new (groupAddress g + k) (x ∷ []) }
+    ensures { Wrote m.old m.new (group_address g + k) (x ∷ []) }
 {
     m[group_at(g) + k] = x;
 }
@@ -134,8 +134,8 @@ pub fn set_group_word(m: &mut [u32], g: u32, k: usize, x: u32)
 // Word k of place i of the hardware queue.
 pub fn queue_word(m: &[u32], i: u32, k: usize) -> u32
     requires size_in_bounds { size ≤ length m.now }
-    requires i_lt_places { (i < paper01.places) × (k < queueStride) }
-    ensures { result ≡ word m.now (queueAt + queueStride * i + k) }
+    requires i_lt_places { (i < paper01.places) × (k < queue_stride) }
+    ensures { result ≡ word m.now (queue_at + queue_stride * i + k) }
 {
     m[QUEUE_AT + QUEUE_STRIDE * (i as usize) + k]
 }
@@ -143,7 +143,7 @@ pub fn queue_word(m: &[u32], i: u32, k: usize) -> u32
 // The frames that so many places take, rounded up.
 pub fn frames_for(places: u32) -> u32
     requires { places ≤ 65535 }
-    ensures { result ≡ ceilDiv places paper01.perFrame }
+    ensures { result ≡ ceil_div places paper01.per_frame }
 {
     (places + 7) / Node::PER_FRAME
 }

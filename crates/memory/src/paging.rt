@@ -1,8 +1,8 @@
 // Pages between frames and swap space.
 ghost use Rattle.std.specs.Prelude.{◌≡◌, [], ◌∷◌, ◌+◌, ◌≤◌, ◌<◌, length};
-ghost use Rattle.rules.specs.Build.{paper01, pageCount, groupCount};
-ghost use Rattle.rules.specs.Memory.{word, groupAddress, frameAddress, heldOffset};
-ghost use Rattle.rules.specs.Paging.{traded, more, resident, prepared, runnerResident};
+ghost use Rattle.rules.specs.Build.{paper01, page_count, group_count};
+ghost use Rattle.rules.specs.Memory.{word, group_address, frame_address, held_offset};
+ghost use Rattle.rules.specs.Paging.{traded, more, resident, prepared, runner_resident};
 ghost use Rattle.rules.specs.Sound.{Sound};
 ghost use Rattle.memory.specs.Writes.{Wrote, InGroup};
 ghost use Rattle.memory.specs.Holds.{Some, Becomes};
@@ -25,8 +25,8 @@ pub fn traded(x: u32, p: u32, q: u32) -> u32
 
 // The same in the list of group g.
 pub fn trade_list(m: &mut [u32], g: u32, p: u32, q: u32)
-    requires in_group { InGroup m.old g heldOffset }
-    requires held_offset_bound { word m.old (groupAddress g + heldOffset) ≤ pageCount paper01 }
+    requires in_group { InGroup m.old g held_offset }
+    requires held_offset_bound { word m.old (group_address g + held_offset) ≤ page_count paper01 }
     ensures { ListTraded m.old m.new p q g }
 {
     let k = map::group_word(m, g, map::HELD) as usize;
@@ -42,7 +42,7 @@ pub fn trade_list(m: &mut [u32], g: u32, p: u32, q: u32)
 // And in the lists of all groups.
 pub fn trade(m: &mut [u32], p: u32, q: u32)
     requires { Listing m.old }
-    ensures { Traded m.old m.new p q groupCount }
+    ensures { Traded m.old m.new p q group_count }
 {
     let mut g: u32 = 0;
     while g < Node::GROUPS {
@@ -53,15 +53,15 @@ pub fn trade(m: &mut [u32], p: u32, q: u32)
 
 // Where page p stands.
 pub fn page_at(p: u32) -> usize
-    requires { p < pageCount paper01 }
-    ensures { result ≡ frameAddress p }
+    requires { p < page_count paper01 }
+    ensures { result ≡ frame_address p }
 {
     map::FRAMES_AT + map::FRAME_STRIDE * (p as usize)
 }
 
 // The page in p is copied to q, and is there from now on; what it leaves is wiped.
 pub fn move_page(m: &mut [u32], p: u32, q: u32)
-    requires p_bound { (p < pageCount paper01) × (q < pageCount paper01) }
+    requires p_bound { (p < page_count paper01) × (q < page_count paper01) }
     requires listing { Listing m.old }
     ensures { PageMoved m.old m.new p q }
 {
@@ -74,7 +74,7 @@ pub fn move_page(m: &mut [u32], p: u32, q: u32)
 
 // The pages in f and p, which is behind it, trade places.
 pub fn swap_pages(m: &mut [u32], f: u32, p: u32)
-    requires f_lt_p { (f < p) × (p < pageCount paper01) }
+    requires f_lt_p { (f < p) × (p < page_count paper01) }
     requires listing { Listing m.old }
     ensures { PagesSwapped m.old m.new f p }
 {
@@ -186,7 +186,7 @@ pub fn resident(m: &mut [u32], p: u32)
 
 // What a message for group g needs before it is written: its page in a frame, or a free frame where it begins a page.
 pub fn prepare(m: &mut [u32], g: u32)
-    requires le_g { (1 ≤ g) × (g ≤ groupCount) }
+    requires le_g { (1 ≤ g) × (g ≤ group_count) }
     requires some { Some m.old (Wanting g) }
     ensures { Becomes m.old m.new (Wanting g) (prepared paper01 g) }
 {
@@ -204,7 +204,7 @@ pub fn prepare(m: &mut [u32], g: u32)
 // The running group's first page is in a frame from now on.
 pub fn runner_resident(m: &mut [u32])
     requires { Some m.old (Sound paper01) }
-    ensures { Becomes m.old m.new (Sound paper01) (runnerResident paper01) }
+    ensures { Becomes m.old m.new (Sound paper01) (runner_resident paper01) }
 {
     let g = m[map::RUNNING];
     if g == 0 {

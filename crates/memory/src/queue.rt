@@ -1,6 +1,6 @@
 // The hardware queue.
 ghost use Rattle.std.specs.Prelude.{◌≤◌, length};
-ghost use Rattle.rules.specs.Build.{groupCount, wordLimit};
+ghost use Rattle.rules.specs.Build.{group_count, word_limit};
 ghost use Rattle.rules.specs.Refusal.{queued};
 ghost use Rattle.memory.specs.Holds.{Some, Becomes, Queued, QueueRoom, dropping};
 
@@ -8,8 +8,8 @@ use super::{map, words};
 
 // A message joins the end of the queue.
 pub fn join(m: &mut [u32], g: u32, words: &[u32])
-    requires le_g { (1 ≤ g) × (g ≤ groupCount) }
-    requires in_bounds { (1 ≤ length words.now) × (length words.now ≤ wordLimit) }
+    requires le_g { (1 ≤ g) × (g ≤ group_count) }
+    requires in_bounds { (1 ≤ length words.now) × (length words.now ≤ word_limit) }
     requires some { Some m.old QueueRoom }
     ensures { Becomes m.old m.new QueueRoom (queued (record { group = g; words = words.now })) }
 {

@@ -1,13 +1,13 @@
 // Words copied, moved, cleared and tested, whatever they stand for.
 ghost use Rattle.std.specs.Prelude.{◌≡◌, ◌∷◌, ◌++◌, ◌+◌, ◌≤◌, ◌<◌, length, replicate};
-ghost use Rattle.rules.specs.Memory.{wordsAt};
-ghost use Rattle.rules.specs.MemoryTest.{zeroAt};
+ghost use Rattle.rules.specs.Memory.{words_at};
+ghost use Rattle.rules.specs.MemoryTest.{zero_at};
 ghost use Rattle.memory.specs.Writes.{Wrote, Swapped};
 
 // Eight words from address a on.
 pub fn eight(m: &[u32], a: usize) -> [u32; 8]
     requires { a + 8 ≤ length m.now }
-    ensures { result ≡ wordsAt m.now a 8 }
+    ensures { result ≡ words_at m.now a 8 }
 {
     [
         m[a],
@@ -61,7 +61,7 @@ pub fn put_eight(m: &mut [u32], at: usize, words: [u32; 8])
 pub fn copy(m: &mut [u32], to: usize, from: usize, n: usize)
     requires n_in_bounds { (to + n ≤ length m.old) × (from + n ≤ length m.old) }
     requires n_bound { from < to → from + n ≤ to }
-    ensures { Wrote m.old m.new to (wordsAt m.old from n) }
+    ensures { Wrote m.old m.new to (words_at m.old from n) }
 {
     let mut i = 0;
     while i < n {
@@ -99,7 +99,7 @@ pub fn clear(m: &mut [u32], at: usize, n: usize)
 // The first `by` words from address `at` on go: the n behind them move down, and zeros follow.
 pub fn shift(m: &mut [u32], at: usize, by: usize, n: usize)
     requires { at + by + n ≤ length m.old }
-    ensures { Wrote m.old m.new at (wordsAt m.old (at + by) n ++ replicate by 0) }
+    ensures { Wrote m.old m.new at (words_at m.old (at + by) n ++ replicate by 0) }
 {
     copy(m, at, at + by, n);
     clear(m, at + n, by);
@@ -108,7 +108,7 @@ pub fn shift(m: &mut [u32], at: usize, by: usize, n: usize)
 // Whether the n words from address a on are 0: their | is. No branch depends on a word, so that several are read at once.
 pub fn zeros(m: &[u32], a: usize, n: usize) -> bool
     requires { a + n ≤ length m.now }
-    ensures { zeroAt m.now a n ≡ result }
+    ensures { zero_at m.now a n ≡ result }
 {
     let mut sum: u32 = 0;
     let mut i = 0;

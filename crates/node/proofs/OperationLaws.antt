@@ -1,5 +1,5 @@
 -- Operations by their Rattle names: which are requests of the running group, and which operation each is. Assumes nothing.
-use Rattle.rules.specs.Types.{operationOf, reportOf}
+use Rattle.rules.specs.Types.{operation_of, report_of}
 use Rattle.rules.specs.declared.Operation.TheVariants.{Arrive, Schedule, Preempt, Dispatch, Tick, Turn, Poll, Peek, Dispose, BeginAtomic, EndAtomic, Describe, Launch, Unknown}
 use Rattle.rules.specs.contracts.Operation.{the_type}
 use denote.Enum.Declared.{tag_of}
@@ -13,7 +13,7 @@ use borrow.Author.Tests.{eq-eqb}
 use Rattle.rules.specs.Build.{paper01}
 use Rattle.rules.specs.Memory.{running_at, word}
 use Rattle.rules.specs.Node.{Node}
-use Rattle.rules.specs.Operation.{Operation, Request, beginAtomic, describe, dispose, endAtomic, launch, nobodyRuns, peek, poll, refused, unknown, unreadable, user}
+use Rattle.rules.specs.Operation.{Operation, Request, begin_atomic, describe, dispose, end_atomic, launch, nobody_runs, peek, poll, refused, unknown, unreadable, user}
 use Rattle.rules.specs.Refusal.{refusal}
 use Rattle.rules.specs.Valid.{Valid}
 use Rattle.rules.specs.declared.Operation.{Operation as Operation·rt}
@@ -24,15 +24,15 @@ use Rattle.node.specs.declared.acted.Act.{Act as Act·rt}
 use Rattle.node.proofs.StepMap.{acted-refused}
 
 -- the tags of M to L, and of the others
-abbrev requestTags : List ℕ
-requestTags = 6 ∷ 7 ∷ 8 ∷ 9 ∷ 10 ∷ 11 ∷ 12 ∷ []
+abbrev request_tags : List ℕ
+request_tags = 6 ∷ 7 ∷ 8 ∷ 9 ∷ 10 ∷ 11 ∷ 12 ∷ []
 
 abbrev other_tags : List ℕ
 other_tags = 0 ∷ 1 ∷ 2 ∷ 3 ∷ 4 ∷ 5 ∷ 13 ∷ []
 
 -- one of the others is no request
-pub not-request : (op : Operation·rt) → OneOf other_tags (tag_of the_type op) → (q : Request) → operationOf op [] ≡ user q → ⊥
-unfolding operationOf
+pub not-request : (op : Operation·rt) → OneOf other_tags (tag_of the_type op) → (q : Request) → operation_of op [] ≡ user q → ⊥
+unfolding operation_of
 not-request (Arrive g) k q e = let z : ◌≡◌ {A = ℕ} 0 1 = cc in omega arith
 not-request (Schedule g) k q e = let z : ◌≡◌ {A = ℕ} 0 1 = cc in omega arith
 not-request Preempt k q e = let z : ◌≡◌ {A = ℕ} 0 1 = cc in omega arith
@@ -51,25 +51,25 @@ not-request Unknown k q e = let z : ◌≡◌ {A = ℕ} 0 1 = cc in omega arith
 -- a request is the same whatever words are lent beside it
 pub record Asks (op : Operation·rt) (ws : List ℕ) : Type 0 where
   pub request : Request
-  pub alone : operationOf op [] ≡ user request
-  pub beside : operationOf op ws ≡ user request
+  pub alone : operation_of op [] ≡ user request
+  pub beside : operation_of op ws ≡ user request
 
-pub a-request : (op : Operation·rt) → OneOf requestTags (tag_of the_type op) → (ws : List ℕ) → Asks op ws
-unfolding operationOf
-a-request (Arrive g) k ws = absurd (miss requestTags 0 tt k)
-a-request (Schedule g) k ws = absurd (miss requestTags 1 tt k)
-a-request Preempt k ws = absurd (miss requestTags 2 tt k)
-a-request (Dispatch g) k ws = absurd (miss requestTags 3 tt k)
-a-request (Tick n) k ws = absurd (miss requestTags 4 tt k)
-a-request Turn k ws = absurd (miss requestTags 5 tt k)
+pub a-request : (op : Operation·rt) → OneOf request_tags (tag_of the_type op) → (ws : List ℕ) → Asks op ws
+unfolding operation_of
+a-request (Arrive g) k ws = absurd (miss request_tags 0 tt k)
+a-request (Schedule g) k ws = absurd (miss request_tags 1 tt k)
+a-request Preempt k ws = absurd (miss request_tags 2 tt k)
+a-request (Dispatch g) k ws = absurd (miss request_tags 3 tt k)
+a-request (Tick n) k ws = absurd (miss request_tags 4 tt k)
+a-request Turn k ws = absurd (miss request_tags 5 tt k)
 a-request Poll k ws = record { request = poll; alone = refl; beside = refl }
 a-request (Peek i) k ws = record { request = peek i; alone = refl; beside = refl }
 a-request Dispose k ws = record { request = dispose; alone = refl; beside = refl }
-a-request (BeginAtomic f) k ws = record { request = beginAtomic f; alone = refl; beside = refl }
-a-request EndAtomic k ws = record { request = endAtomic; alone = refl; beside = refl }
+a-request (BeginAtomic f) k ws = record { request = begin_atomic f; alone = refl; beside = refl }
+a-request EndAtomic k ws = record { request = end_atomic; alone = refl; beside = refl }
 a-request (Describe w) k ws = record { request = describe w; alone = refl; beside = refl }
 a-request (Launch n) k ws = record { request = launch n; alone = refl; beside = refl }
-a-request Unknown k ws = absurd (miss requestTags 13 tt k)
+a-request Unknown k ws = absurd (miss request_tags 13 tt k)
 
 -- what is told of an operation is told of it by another name
 pub acted-named : {m : List ℕ} {n : Node} {r : List ℕ} {o o' : Operation} {a : Act·rt} → o ≡ o' → Acted m n r o a → Acted m n r o' a
@@ -77,7 +77,7 @@ acted-named {m} {n} {r} {a = a} e s = subst (λ (o : Operation). Acted m n r o a
 
 -- nobody runs
 pub nobody-acts : {m : List ℕ} {n : Node} {r : List ℕ} {a : Act·rt} → Holds m n r → word m running_at ≡ 0 → (q : Request)
-    → a ≡ done (reportOf (refused nobodyRuns)) → Acted m n r (user q) a
+    → a ≡ done (report_of (refused nobody_runs)) → Acted m n r (user q) a
 unfolding refusal
 nobody-acts {n = n} h e q = acted-refused (user q) 6 (rw (eq-eqb n.running 0 (sym (holds-pieces h).running ∙ e))) h
 
@@ -86,6 +86,6 @@ pub somebody-runs : {m : List ℕ} {n : Node} {r : List ℕ} → Holds m n r →
 somebody-runs h d v = record { valid = v; some = let e = (holds-pieces h).running in omega arith }
 
 -- an unknown operation
-pub unknown-acts : {m : List ℕ} {n : Node} {r : List ℕ} {a : Act·rt} → Holds m n r → a ≡ done (reportOf (refused unreadable)) → Acted m n r unknown a
+pub unknown-acts : {m : List ℕ} {n : Node} {r : List ℕ} {a : Act·rt} → Holds m n r → a ≡ done (report_of (refused unreadable)) → Acted m n r unknown a
 unfolding refusal
 unknown-acts h = acted-refused unknown 1 refl h

@@ -10,9 +10,9 @@ use Rattle.rules.specs.Build.{paper01}
 use Rattle.rules.specs.Memory.{word}
 use Rattle.rules.specs.Node.{Node}
 use Rattle.rules.specs.Operation.{Report, Request, accepted, refused, user}
-use Rattle.rules.specs.Refusal.{refusal, refuseRequest}
+use Rattle.rules.specs.Refusal.{refusal, refuse_request}
 use Rattle.rules.specs.Step.{Effect, act, serve}
-use Rattle.rules.specs.Types.{reportOf}
+use Rattle.rules.specs.Types.{report_of}
 use Rattle.rules.specs.declared.Report.{Report as Report·rt}
 use Rattle.rules.specs.Sound.{Sound}
 use Rattle.rules.proofs.Steps.StepLaws.{act-sound}
@@ -29,38 +29,38 @@ unfolding word
 runner h = (holds-pieces h).running
 
 -- the request's own report: no upcall
-unfoldable pub ownReport : Effect → Report
-ownReport e = record { answer = accepted; value = e.value; trap = e.trap; upcall = 0; moved = e.moved; sent = e.sent }
+unfoldable pub own_report : Effect → Report
+own_report e = record { answer = accepted; value = e.value; trap = e.trap; upcall = 0; moved = e.moved; sent = e.sent }
 
 module _ {n : Node} (runs : Running n) (q : Request) where
   -- a request is refused for its own reasons alone where a group runs
-  pub request-refusal : refusal paper01 n (user q) ≡ refuseRequest n q
+  pub request-refusal : refusal paper01 n (user q) ≡ refuse_request n q
   unfolding refusal
   request-refusal = rw (ne_eqb n.running 0 (λ e. omega (arith, runs.some)))
 
   -- an accepted one leaves a sound node
-  pub request-sound : refuseRequest n q ≡ accepted → Sound paper01 (serve paper01 n q).node
+  pub request-sound : refuse_request n q ≡ accepted → Sound paper01 (serve paper01 n q).node
   unfolding act
   request-sound e = act-sound runs.valid (user q) (request-refusal ∙ e)
 
   module _ {m : List ℕ} {r : List ℕ} {rep : Report·rt} where
     -- refused
-    pub request-refused : Holds m n r → (k : ℕ) → refuseRequest n q ≡ suc k → rep ≡ reportOf (refused (suc k)) → Stepping m n r (user q) rep
+    pub request-refused : Holds m n r → (k : ℕ) → refuse_request n q ≡ suc k → rep ≡ report_of (refused (suc k)) → Stepping m n r (user q) rep
     request-refused h k e report = stepping-refused (user q) k (request-refusal ∙ e) h report
 
     -- accepted, with nothing to settle and no upcall due
-    pub request-quiet : refuseRequest n q ≡ accepted → Quiet paper01 (serve paper01 n q).node
-        → rep ≡ reportOf (ownReport (serve paper01 n q)) → Holds m (serve paper01 n q).node r → Stepping m n r (user q) rep
-    unfolding act ownReport
+    pub request-quiet : refuse_request n q ≡ accepted → Quiet paper01 (serve paper01 n q).node
+        → rep ≡ report_of (own_report (serve paper01 n q)) → Holds m (serve paper01 n q).node r → Stepping m n r (user q) rep
+    unfolding act own_report
     request-quiet e quiet report h = stepping-quiet (user q) (serve paper01 n q) (one-act n (user q) tt (request-refusal ∙ e) refl) quiet h report
 
   module _ {m : List ℕ} {r : List ℕ} {a : Act·rt} where
     -- the same of one that acts: refused
-    pub acting-refused : Holds m n r → (k : ℕ) → refuseRequest n q ≡ suc k → a ≡ done (reportOf (refused (suc k))) → Acted m n r (user q) a
+    pub acting-refused : Holds m n r → (k : ℕ) → refuse_request n q ≡ suc k → a ≡ done (report_of (refused (suc k))) → Acted m n r (user q) a
     acting-refused h k e told = acted-refused (user q) k (request-refusal ∙ e) h told
 
     -- accepted, and to settle
-    pub acting-unsettled : (k : Node) (trap moved : ℕ) → refuseRequest n q ≡ accepted → serve paper01 n q ≡ effect k trap moved → Sound paper01 k
+    pub acting-unsettled : (k : Node) (trap moved : ℕ) → refuse_request n q ≡ accepted → serve paper01 n q ≡ effect k trap moved → Sound paper01 k
         → moved ≤ paper01.places → Holds m k r → a ≡ unsettled trap moved → Acted m n r (user q) a
     unfolding act
     acting-unsettled k trap moved fine same s few h told =

@@ -5,10 +5,10 @@ use mathlib.Core.List.{List}
 use mathlib.Core.Path.{◌∙◌, ◌≡◌, ap, refl, subst, sym}
 use Rattle.rules.specs.Build.{paper01}
 use Rattle.rules.specs.Node.{Node}
-use Rattle.rules.specs.Operation.{Operation, accepted, acceptedWith, allZero, refused}
+use Rattle.rules.specs.Operation.{Operation, accepted, accepted_with, all_zero, refused}
 use Rattle.rules.specs.Refusal.{refusal}
 use Rattle.rules.specs.Step.{act, finish, step, Effect, Stepped}
-use Rattle.rules.specs.Types.{reportOf}
+use Rattle.rules.specs.Types.{report_of}
 use Rattle.rules.specs.declared.Report.{Report as Report·rt}
 use Rattle.rules.proofs.Steps.StepLaws.{OneAct, step-accepted, step-refused}
 use Rattle.memory.specs.Holds.{Holds}
@@ -24,15 +24,15 @@ one-act n op one in_order same = step-accepted paper01 n op one in_order ∙ ap 
 
 module _ {m : List ℕ} {n : Node} {r : List ℕ} (op : Operation) {rep : Report·rt} where
   -- a step by what it is
-  stepping-as : {s : Stepped} → step paper01 n op ≡ s → rep ≡ reportOf s.report → Holds m s.node r → Stepping m n r op rep
+  stepping-as : {s : Stepped} → step paper01 n op ≡ s → rep ≡ report_of s.report → Holds m s.node r → Stepping m n r op rep
   stepping-as same e h =
       record {
-        report = e ∙ ap (λ (t : Stepped). reportOf t.report) (sym same);
+        report = e ∙ ap (λ (t : Stepped). report_of t.report) (sym same);
         holds = subst (λ (t : Stepped). Holds m t.node r) (sym same) h;
       }
 
   -- a refused step leaves the memory as it was
-  pub stepping-refused : (k : ℕ) → refusal paper01 n op ≡ suc k → Holds m n r → rep ≡ reportOf (refused (suc k)) → Stepping m n r op rep
+  pub stepping-refused : (k : ℕ) → refusal paper01 n op ≡ suc k → Holds m n r → rep ≡ report_of (refused (suc k)) → Stepping m n r op rep
   stepping-refused k out h e = stepping-as (step-refused paper01 n op k out) e h
 
   -- what has acted and is then finished
@@ -42,7 +42,7 @@ module _ {m : List ℕ} {n : Node} {r : List ℕ} (op : Operation) {rep : Report
 
   -- and where nothing settles and no upcall is due, it is what the operation did
   pub stepping-quiet : (e : Effect) → step paper01 n op ≡ finish paper01 e → Quiet paper01 e.node → Holds m e.node r
-      → rep ≡ reportOf (record { answer = accepted; value = e.value; trap = e.trap; upcall = 0; moved = e.moved; sent = e.sent }) → Stepping m n r op rep
+      → rep ≡ report_of (record { answer = accepted; value = e.value; trap = e.trap; upcall = 0; moved = e.moved; sent = e.sent }) → Stepping m n r op rep
   stepping-quiet e same q h report = stepping-as (same ∙ quiet-finish e q) report h
 
 module _ {m : List ℕ} {n : Node} {r : List ℕ} (op : Operation) {a : Act·rt} where
@@ -51,16 +51,16 @@ module _ {m : List ℕ} {n : Node} {r : List ℕ} (op : Operation) {a : Act·rt}
   acted-done e s = subst (Acted m n r op) (sym e) (record { whole = λ z. s; partly = λ z. absurd (false≢true z) })
 
   -- one that is refused
-  pub acted-refused : (k : ℕ) → refusal paper01 n op ≡ suc k → Holds m n r → a ≡ done (reportOf (refused (suc k))) → Acted m n r op a
+  pub acted-refused : (k : ℕ) → refusal paper01 n op ≡ suc k → Holds m n r → a ≡ done (report_of (refused (suc k))) → Acted m n r op a
   acted-refused k out h e = acted-done e (stepping-refused op k out h refl)
 
   -- one that does nothing
-  pub acted-still : step paper01 n op ≡ record { report = allZero; node = n } → Holds m n r → a ≡ done (reportOf (acceptedWith 0 0 0 0)) → Acted m n r op a
+  pub acted-still : step paper01 n op ≡ record { report = all_zero; node = n } → Holds m n r → a ≡ done (report_of (accepted_with 0 0 0 0)) → Acted m n r op a
   acted-still same h told = acted-done told (stepping-as op same refl h)
 
   -- one after which nothing settles and no upcall is due
   pub acted-quiet : (e : Effect) → step paper01 n op ≡ finish paper01 e → Quiet paper01 e.node → Holds m e.node r
-      → a ≡ done (reportOf (record { answer = accepted; value = e.value; trap = e.trap; upcall = 0; moved = e.moved; sent = e.sent })) → Acted m n r op a
+      → a ≡ done (report_of (record { answer = accepted; value = e.value; trap = e.trap; upcall = 0; moved = e.moved; sent = e.sent })) → Acted m n r op a
   acted-quiet e same q h told = acted-done told (stepping-quiet op e same q h refl)
 
   -- one that is to settle

@@ -2,12 +2,12 @@
 use Rattle.std.specs.Prelude.{ℕ, ◌+◌, ◌%◌, ◌≤◌, true, cond, false, List, [], ◌∷◌, ◌≡◌, length, get_or}
 use Rattle.rules.specs.Build.{paper01}
 use Rattle.rules.specs.Lists.{is_empty}
-use Rattle.rules.specs.Node.{Message, Node, group_of, withTimer, buffered, forced, line}
-use Rattle.rules.specs.Operation.{Request, Operation, user, acceptedWith, disposeExtend, noTrap, timeoutTrap}
+use Rattle.rules.specs.Node.{Message, Node, group_of, with_timer, buffered, forced, line}
+use Rattle.rules.specs.Operation.{Request, Operation, user, accepted_with, dispose_extend, no_trap, timeout_trap}
 use Rattle.rules.specs.Paging.{store}
-use Rattle.rules.specs.Settling.{mayStay, settle, drain, upcall, upcallGroup}
+use Rattle.rules.specs.Settling.{may_stay, settle, drain, upcall, upcall_group}
 use Rattle.rules.specs.Step.{Effect, finish, revoke, step, removed}
-use Rattle.rules.specs.Types.{operationOf, reportOf}
+use Rattle.rules.specs.Types.{operation_of, report_of}
 use Rattle.rules.specs.declared.Operation.{Operation as Operation·rt}
 use Rattle.rules.specs.Valid.{Valid}
 use Rattle.rules.specs.declared.Report.{Report as Report·rt}
@@ -30,7 +30,7 @@ IsRunning m = Some m Running
 
 -- what a step does
 pub record Stepping (m' : List ℕ) (n : Node) (rest : List ℕ) (op : Operation) (rep : Report·rt) : Type 0 where
-  pub report : rep ≡ reportOf (step paper01 n op).report
+  pub report : rep ≡ report_of (step paper01 n op).report
   pub holds : Holds m' (step paper01 n op).node rest
 
 -- whatever node m held, the report and the node that m' holds are those of this operation's step
@@ -43,7 +43,7 @@ done rep = record { settles = false; report = rep }
 
 -- it is accepted, with this trap and so many messages moved, and settling is to come
 abbrev pub unsettled : ℕ → ℕ → Act·rt
-unsettled trap moved = record { settles = true; report = reportOf (acceptedWith 0 trap 0 moved) }
+unsettled trap moved = record { settles = true; report = report_of (accepted_with 0 trap 0 moved) }
 
 -- an operation without a value, that sends nothing
 abbrev pub effect : Node → ℕ → ℕ → Effect
@@ -76,7 +76,7 @@ Serves m m' q rep = (n : Node) (r : List ℕ) → Holds m n r → Running n → 
 
 -- a request by its Rattle name, whoever runs
 abbrev pub Requests : List ℕ → List ℕ → Operation·rt → Act·rt → Type 0
-Requests m m' op a = (q : Request) → operationOf op [] ≡ user q → Acts m m' (user q) a
+Requests m m' op a = (q : Request) → operation_of op [] ≡ user q → Acts m m' (user q) a
 
 -- a node in the middle of a step, with a message in its queue
 pub record Headed (n : Node) : Type 0 where
@@ -88,8 +88,8 @@ unfoldable pub head_of : Node → Message
 head_of n = get_or n.queue 0 blank
 
 -- it moves to the end of its group's buffer
-unfoldable pub movingHead : Node → Node
-movingHead n = dropping 1 (store paper01 (head_of n) n)
+unfoldable pub moving_head : Node → Node
+moving_head n = dropping 1 (store paper01 (head_of n) n)
 
 -- what settling does: "how many heads it moved, equal to the definition's count and the queue's loss"
 pub record Settled (m' : List ℕ) (n : Node) (rest : List ℕ) (moved : ℕ) : Type 0 where
@@ -106,11 +106,11 @@ pub record Drained (m' : List ℕ) (n : Node) (rest : List ℕ) (moved : ℕ) : 
 -- settled: the queue's head may stay
 pub record Settles (n : Node) : Type 0 where
   pub sound : Sound paper01 n
-  pub head : (x : Message) (q : List Message) → n.queue ≡ x ∷ q → mayStay n x ≡ true
+  pub head : (x : Message) (q : List Message) → n.queue ≡ x ∷ q → may_stay n x ≡ true
 
 -- what an upcall does
 pub record Called (m' : List ℕ) (n : Node) (rest : List ℕ) (g : ℕ) : Type 0 where
-  pub group : g ≡ upcallGroup n
+  pub group : g ≡ upcall_group n
   pub holds : Holds m' (upcall n) rest
 
 -- a node in the middle of a step whose timer runs: a group runs, and it is atomic
@@ -129,16 +129,16 @@ LeftOver m t x = (n : Node) (r : List ℕ) → Holds m n r → Sound paper01 n �
 
 -- t ticks on the timer reach the timeout
 abbrev pub late : ℕ → Node → Effect
-late t n = effect (withTimer (rest t n) (revoke (drain paper01 n.queue n))) timeoutTrap (length n.queue)
+late t n = effect (with_timer (rest t n) (revoke (drain paper01 n.queue n))) timeout_trap (length n.queue)
 
 -- what comes after an operation with this effect
 pub record Finished (m' : List ℕ) (e : Effect) (rest : List ℕ) (rep : Report·rt) : Type 0 where
-  pub report : rep ≡ reportOf (finish paper01 e).report
+  pub report : rep ≡ report_of (finish paper01 e).report
   pub holds : Holds m' (finish paper01 e).node rest
 
 -- what t ticks that reach the timeout have done
 pub record TimedOut (m' : List ℕ) (n : Node) (rest : List ℕ) (t : ℕ) (a : Act·rt) : Type 0 where
-  pub told : a ≡ unsettled timeoutTrap (length n.queue)
+  pub told : a ≡ unsettled timeout_trap (length n.queue)
   pub holds : Holds m' (late t n).node rest
 
 -- whatever node with its timer running m held, this is what they have done
@@ -157,5 +157,5 @@ pub record WithLine (g : ℕ) (n : Node) : Type 0 where
 
 -- the first message of the running group's line is gone, with the trap that this brings
 pub record TookFirst (m' : List ℕ) (n : Node) (rest : List ℕ) (trap : ℕ) : Type 0 where
-  pub extended : trap ≡ cond (buffered n n.running) disposeExtend noTrap
+  pub extended : trap ≡ cond (buffered n n.running) dispose_extend no_trap
   pub holds : Holds m' (removed paper01 n) rest

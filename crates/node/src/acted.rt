@@ -1,7 +1,7 @@
 // What an operation has done of its step: the report so far, and whether settling is to come. So one place settles after all of them.
 ghost use Rattle.std.specs.Prelude.{◌≡◌};
-ghost use Rattle.rules.specs.Operation.{acceptedWith, refused};
-ghost use Rattle.rules.specs.Types.{reportOf};
+ghost use Rattle.rules.specs.Operation.{accepted_with, refused};
+ghost use Rattle.rules.specs.Types.{report_of};
 ghost use Rattle.node.specs.Steps.{done, unsettled};
 
 use rules::Report;
@@ -25,7 +25,7 @@ impl Act {
 
     // It is refused.
     pub fn refused(answer: u32) -> Act
-        ensures { result ≡ done (reportOf (refused answer)) }
+        ensures { result ≡ done (report_of (refused answer)) }
     {
         Act {
             settles: false,
@@ -35,7 +35,7 @@ impl Act {
 
     // It is accepted, and there is nothing more to do.
     pub fn accepted() -> Act
-        ensures { result ≡ done (reportOf (acceptedWith 0 0 0 0)) }
+        ensures { result ≡ done (report_of (accepted_with 0 0 0 0)) }
     {
         Act {
             settles: false,

@@ -9,10 +9,10 @@ pub mod turn;
 pub mod user;
 
 ghost use Rattle.std.specs.Prelude.{◌≡◌};
-ghost use Rattle.rules.specs.MemoryTest.{isMemory, stepMemory, headPart, headWords, pageCounts};
-ghost use Rattle.rules.specs.Types.{operationOf};
+ghost use Rattle.rules.specs.MemoryTest.{is_memory, step_memory, head_part, head_words, page_counts};
+ghost use Rattle.rules.specs.Types.{operation_of};
 ghost use Rattle.memory.specs.Answers.{Answers};
-ghost use Rattle.node.specs.Counts.{countsOf};
+ghost use Rattle.node.specs.Counts.{counts_of};
 ghost use Rattle.node.specs.Parts.{part_of};
 ghost use Rattle.node.specs.Steps.{IsNode, Steps, Acts, Requests};
 
@@ -25,7 +25,7 @@ use validate::is_node;
 // A step: any memory and any operation, an arrival's words lent beside it. D wipes the place of its message, and a page that goes from a frame
 // or swap page wipes what it leaves, so a node has no old words after any step.
 pub fn step(memory: &mut [u32], op: Operation, words: &[u32]) -> Report
-    ensures { Answers memory.new result (stepMemory memory.old (operationOf op words.now)) }
+    ensures { Answers memory.new result (step_memory memory.old (operation_of op words.now)) }
 {
     let good = is_node(memory);
     step_known(memory, good, op, words)
@@ -33,7 +33,7 @@ pub fn step(memory: &mut [u32], op: Operation, words: &[u32]) -> Report
 
 // The words of the running group's first message as a part of the lent memory: empty if there is none or the memory is no node.
 pub fn head(memory: &[u32]) -> &[u32]
-    ensures { result.now ≡ headWords memory.now }
+    ensures { result.now ≡ head_words memory.now }
 {
     if !is_node(memory) {
         return &memory[0..0];
@@ -43,7 +43,7 @@ pub fn head(memory: &[u32]) -> &[u32]
 
 // Where they stand, and how many they are.
 pub fn head_part(memory: &[u32]) -> Part
-    ensures { result ≡ part_of (headPart memory.now) }
+    ensures { result ≡ part_of (head_part memory.now) }
 {
     if !is_node(memory) {
         return Part { start: 0, len: 0 };
@@ -60,7 +60,7 @@ pub struct PageCounts {
 
 // These counts, zeros if the memory is no node.
 pub fn page_counts(memory: &[u32]) -> PageCounts
-    ensures { result ≡ countsOf (pageCounts memory.now) }
+    ensures { result ≡ counts_of (page_counts memory.now) }
 {
     if !is_node(memory) {
         return PageCounts { out: 0, brought: 0 };
@@ -73,8 +73,8 @@ pub fn page_counts(memory: &[u32]) -> PageCounts
 
 // A step on memory of which it is known whether it is a node.
 pub fn step_known(memory: &mut [u32], good: bool, op: Operation, words: &[u32]) -> Report
-    requires { isMemory memory.old ≡ good }
-    ensures { Answers memory.new result (stepMemory memory.old (operationOf op words.now)) }
+    requires { is_memory memory.old ≡ good }
+    ensures { Answers memory.new result (step_memory memory.old (operation_of op words.now)) }
 {
     if !good {
         return Report::refused(Report::NOT_NODE);
@@ -85,7 +85,7 @@ pub fn step_known(memory: &mut [u32], good: bool, op: Operation, words: &[u32]) 
 // A step on memory that holds a node, untested: it leaves one.
 pub fn step_node(memory: &mut [u32], op: Operation, words: &[u32]) -> Report
     requires { IsNode memory.old }
-    ensures { Steps memory.old memory.new (operationOf op words.now) result }
+    ensures { Steps memory.old memory.new (operation_of op words.now) result }
 {
     let a = act(memory, op, words);
     let report = a.report;
@@ -98,7 +98,7 @@ pub fn step_node(memory: &mut [u32], op: Operation, words: &[u32]) -> Report
 // What comes before settling.
 fn act(memory: &mut [u32], op: Operation, words: &[u32]) -> Act
     requires { IsNode memory.old }
-    ensures { Acts memory.old memory.new (operationOf op words.now) result }
+    ensures { Acts memory.old memory.new (operation_of op words.now) result }
 {
     match op {
         Operation::Arrive(g) => network::arrive(memory, g, words),

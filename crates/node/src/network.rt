@@ -1,7 +1,7 @@
 // The network's operation: A.
 ghost use Rattle.std.specs.Prelude.{◌≡◌, List, ℕ, ◌≤◌, length};
-ghost use Rattle.rules.specs.Build.{paper01, groupCount};
-ghost use Rattle.rules.specs.Node.{Message, Node, inQueue};
+ghost use Rattle.rules.specs.Build.{paper01, group_count};
+ghost use Rattle.rules.specs.Node.{Message, Node, in_queue};
 ghost use Rattle.rules.specs.Frames.{pledge, pledges};
 ghost use Rattle.rules.specs.Operation.{arrive};
 ghost use Rattle.rules.specs.Refusal.{queued, refusal};
@@ -17,7 +17,7 @@ use rules::Report;
 // How many messages of group g are in the hardware queue.
 pub fn queued_of(m: &[u32], g: u32) -> u32
     requires { Some m.now Any }
-    ensures { (n : Node) (r : List ℕ) → Holds m.now n r → result ≡ length (inQueue n g) }
+    ensures { (n : Node) (r : List ℕ) → Holds m.now n r → result ≡ length (in_queue n g) }
 {
     let mut k: u32 = 0;
     let mut i: u32 = 0;
@@ -32,7 +32,7 @@ pub fn queued_of(m: &[u32], g: u32) -> u32
 
 // The pledge of group i, with one message more for group g.
 pub fn pledge_of(m: &[u32], i: u32, g: u32) -> u32
-    requires le_i { (1 ≤ i) × (i ≤ groupCount) }
+    requires le_i { (1 ≤ i) × (i ≤ group_count) }
     requires some { Some m.now (Sound paper01) }
     ensures { (n : Node) (r : List ℕ) → Holds m.now n r → (x : Message) → x.group ≡ g → result ≡ pledge paper01 (queued x n) i }
 {

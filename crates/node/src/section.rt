@@ -1,7 +1,7 @@
 // The running group's section and its messages' disposal: B, N and D.
 ghost use Rattle.std.specs.Prelude.{List, ℕ};
 ghost use Rattle.rules.specs.Node.{Node};
-ghost use Rattle.rules.specs.Operation.{beginAtomic, endAtomic, dispose};
+ghost use Rattle.rules.specs.Operation.{begin_atomic, end_atomic, dispose};
 ghost use Rattle.memory.specs.Holds.{Holds, Some};
 ghost use Rattle.node.specs.Steps.{IsRunning, Serves, ActsFor, WithLine, TookFirst};
 
@@ -12,7 +12,7 @@ use rules::Report;
 // B: atomic on, and force too if it is so asked.
 pub fn begin(m: &mut [u32], force: bool) -> Report
     requires { IsRunning m.old }
-    ensures { Serves m.old m.new (beginAtomic force) result }
+    ensures { Serves m.old m.new (begin_atomic force) result }
 {
     let g = m[map::RUNNING];
     let x = group::read(m, g);
@@ -25,7 +25,7 @@ pub fn begin(m: &mut [u32], force: bool) -> Report
 // N: atomic off, and with it force and revoked.
 pub fn end(m: &mut [u32]) -> Act
     requires { IsRunning m.old }
-    ensures { ActsFor m.old m.new endAtomic result }
+    ensures { ActsFor m.old m.new end_atomic result }
 {
     let g = m[map::RUNNING];
     let x = group::read(m, g);

@@ -1,21 +1,21 @@
 // What comes after an accepted operation: settling, the running group's first page in a frame, and the upcall; and the drain at a timeout.
 ghost use Rattle.std.specs.Prelude.{◌≡◌, List, ℕ, ◌≤◌, length};
-ghost use Rattle.rules.specs.Build.{paper01, groupCount};
+ghost use Rattle.rules.specs.Build.{paper01, group_count};
 ghost use Rattle.rules.specs.Memory.{size};
-ghost use Rattle.rules.specs.Node.{Message, Node, forced, timerRuns};
-ghost use Rattle.rules.specs.Settling.{mayStay, restTimer};
+ghost use Rattle.rules.specs.Node.{Message, Node, forced, timer_runs};
+ghost use Rattle.rules.specs.Settling.{may_stay, rest_timer};
 ghost use Rattle.rules.specs.Sound.{Sound};
 ghost use Rattle.memory.specs.Holds.{Holds, Some, Becomes};
-ghost use Rattle.node.specs.Steps.{Headed, Settled, Drained, Settles, Called, Finishes, movingHead, effect};
+ghost use Rattle.node.specs.Steps.{Headed, Settled, Drained, Settles, Called, Finishes, moving_head, effect};
 
 use memory::{buffer, group, map, paging, queue, words};
 use rules::Report;
 
 // Whether a message of group g may stay at the head of the queue.
 pub fn stays(m: &[u32], g: u32) -> bool
-    requires le_g { (1 ≤ g) × (g ≤ groupCount) }
+    requires le_g { (1 ≤ g) × (g ≤ group_count) }
     requires size_in_bounds { size ≤ length m.now }
-    ensures { (n : Node) (r : List ℕ) → Holds m.now n r → (x : Message) → x.group ≡ g → mayStay n x ≡ result }
+    ensures { (n : Node) (r : List ℕ) → Holds m.now n r → (x : Message) → x.group ≡ g → may_stay n x ≡ result }
 {
     if m[map::RUNNING] != g {
         return false;
@@ -26,7 +26,7 @@ pub fn stays(m: &[u32], g: u32) -> bool
 // The head of the queue moves to the end of its group's buffer.
 pub fn move_head(m: &mut [u32])
     requires { Some m.old Headed }
-    ensures { Becomes m.old m.new Headed movingHead }
+    ensures { Becomes m.old m.new Headed moving_head }
 {
     let g = m[map::QUEUE_AT];
     let len = m[map::QUEUE_AT + 1];
@@ -50,7 +50,7 @@ pub fn forced(m: &[u32]) -> bool
 // Whether the timer runs: a message is queued, or it is forced.
 pub fn timer_runs(m: &[u32]) -> bool
     requires { Some m.now (Sound paper01) }
-    ensures { (n : Node) (r : List ℕ) → Holds m.now n r → Sound paper01 n → timerRuns n ≡ result }
+    ensures { (n : Node) (r : List ℕ) → Holds m.now n r → Sound paper01 n → timer_runs n ≡ result }
 {
     if m[map::QUEUED] != 0 {
         return true;
@@ -61,7 +61,7 @@ pub fn timer_runs(m: &[u32]) -> bool
 // A timer that does not run is put to rest.
 pub fn rest_timer(m: &mut [u32])
     requires { Some m.old (Sound paper01) }
-    ensures { Becomes m.old m.new (Sound paper01) restTimer }
+    ensures { Becomes m.old m.new (Sound paper01) rest_timer }
 {
     if !timer_runs(m) {
         m[map::TIMER] = 0;

@@ -2,8 +2,8 @@
 // descriptor. Nothing settles after them, and no upcall is due.
 ghost use Rattle.std.specs.Prelude.{List, ◌≡◌, ℕ};
 ghost use Rattle.rules.specs.Operation.{poll, peek, describe, launch};
-ghost use Rattle.rules.specs.Types.{reportOf};
-ghost use Rattle.memory.specs.Descriptors.{descriptorOf};
+ghost use Rattle.rules.specs.Types.{report_of};
+ghost use Rattle.memory.specs.Descriptors.{descriptor_of};
 ghost use Rattle.node.specs.Sending.{sending};
 ghost use Rattle.node.specs.Steps.{IsRunning, Serves};
 
@@ -55,7 +55,7 @@ pub fn describe(m: &mut [u32], w: u32) -> Report
 
 // What is reported of a descriptor that group g sends.
 fn sent(to: u32, g: u32, d: Descriptor) -> Report
-    ensures { (ws : List ℕ) → d ≡ descriptorOf ws → result ≡ reportOf (sending to g ws) }
+    ensures { (ws : List ℕ) → d ≡ descriptor_of ws → result ≡ report_of (sending to g ws) }
 {
     let words = d.words;
     let sent = Sent {

@@ -10,13 +10,13 @@ use lib.Dec.{eqb}
 use lib.ListN.{replicate, drop}
 use Rattle.rules.specs.Lists.{is_empty}
 use Rattle.rules.specs.Build.{Build}
-use Rattle.rules.specs.Node.{Message, Node, group_of, with_flags, withTimer, withQueue, withGroup, bufferHolds, buffered, line}
+use Rattle.rules.specs.Node.{Message, Node, group_of, with_flags, with_timer, with_queue, with_group, buffer_holds, buffered, line}
 use Rattle.rules.specs.Operation.{dispose}
-use Rattle.rules.specs.Operation.{user, noTrap, disposeExtend}
-use Rattle.rules.specs.Refusal.{refusal, refuseRequest}
-use Rattle.rules.specs.Run.{disposedBy}
+use Rattle.rules.specs.Operation.{user, no_trap, dispose_extend}
+use Rattle.rules.specs.Refusal.{refusal, refuse_request}
+use Rattle.rules.specs.Run.{disposed_by}
 use Rattle.rules.specs.Settling.{pass, settle}
-use Rattle.rules.specs.Step.{act, disposed, extending, flagged, removed, serve, withoutFirst}
+use Rattle.rules.specs.Step.{act, disposed, extending, flagged, removed, serve, without_first}
 use Rattle.rules.specs.Valid.{Valid}
 use Rattle.rules.proofs.Private.RequestLaws.{dispose-some}
 use Rattle.rules.proofs.Steps.ActLaws.{user-accepted}
@@ -24,10 +24,10 @@ use Rattle.rules.proofs.Steps.LineLaws.{buffered-empty, buffered-holds, direct-h
 use Rattle.rules.proofs.Steps.NodeLaws.{kept}
 use Rattle.rules.proofs.Steps.SettlingLaws.{pass-queue, settle-queue}
 use Rattle.rules.proofs.Steps.StepLaws.{act-sound, finish-queue}
-use Rattle.reasons.specs.ByPlace.{firstReason, laterReason, leaving}
+use Rattle.reasons.specs.ByPlace.{first_reason, later_reason, leaving}
 use Rattle.reasons.specs.Why.{Heading}
-use Rattle.reasons.specs.Moments.{Moment, moved, disposed as disposing, nextHeaded, actMoments, disposeMoments, oneActMoments, passMoments}
-use Rattle.reasons.proofs.Trail.{Trail, disposes, headedBy, pending, trail-next}
+use Rattle.reasons.specs.Moments.{Moment, moved, disposed as disposing, next_headed, act_moments, dispose_moments, one_act_moments, pass_moments}
+use Rattle.reasons.proofs.Trail.{Trail, disposes, headed_by, pending, trail-next}
 use Rattle.reasons.proofs.SettleTrail.{pass-direct}
 use Rattle.reasons.proofs.ActTrail.{Acted, acted, gone-counts, left-for, no-head, still}
 
@@ -37,19 +37,19 @@ module _ {b : Build} {n : Node} (v : Valid b n) (accepts : refusal b n (user dis
   low = (user-accepted n dispose accepts).0
 
   some : is_empty (line n n.running) ≡ false
-  unfolding refusal refuseRequest
+  unfolding refusal refuse_request
   some = dispose-some (line n n.running) (user-accepted n dispose accepts).1
 
   -- D of a buffered message finds the queue empty
-  buffered-trail : bufferHolds n n.running ≡ true → Acted b false n (user dispose)
-  unfolding act serve extending actMoments disposeMoments disposedBy disposed flagged withTimer withGroup
+  buffered-trail : buffer_holds n n.running ≡ true → Acted b false n (user dispose)
+  unfolding act serve extending act_moments dispose_moments disposed_by disposed flagged with_timer with_group
   buffered-trail holds =
       let held : buffered n n.running ≡ true = buffered-holds v some ∙ holds in
       let kept : (disposed b n).queue ≡ n.queue = removed-queue-buffered b n holds in
       still b n false (user dispose) (rw holds) kept (λ m q e. no-head (kept ∙ buffered-empty v held) e) refl (rw held)
 
   -- D of a queued one disposes of the head, and moves those of other groups behind it
-  module _ (none : bufferHolds n n.running ≡ false) where
+  module _ (none : buffer_holds n n.running ≡ false) where
     abbrev k : Node
     k = disposed b n
 
@@ -57,46 +57,46 @@ module _ {b : Build} {n : Node} (v : Valid b n) (accepts : refusal b n (user dis
     direct = buffered-holds v some ∙ none
 
     behind : k.queue ≡ drop 1 n.queue
-    unfolding disposed flagged withTimer withGroup
+    unfolding disposed flagged with_timer with_group
     behind = removed-queue-direct v none
 
     -- the group stays direct
     still-empty : (group_of k n.running).buffer.count ≡ 0
-    unfolding disposed flagged with_flags withTimer group_of withQueue
+    unfolding disposed flagged with_flags with_timer group_of with_queue
     still-empty =
         kept (λ K. K.buffer.count) (removed b n) (removed b n).running
         (with_flags (group_of n n.running).atomic false (group_of (removed b n) (removed b n).running)) refl n.running
         ∙ removed-cases (λ r. (group_of r n.running).buffer.count ≡ 0) b n (λ holds. absurd (true≢false (sym holds ∙ none))) (λ e. direct-none n n.running direct)
 
     still-held : (group_of k n.running).revoked ≡ false
-    unfolding disposed flagged with_flags withTimer group_of buffered
+    unfolding disposed flagged with_flags with_timer group_of buffered
     still-held =
         kept (λ K. K.revoked) (removed b n) (removed b n).running
         (with_flags (group_of n n.running).atomic false (group_of (removed b n) (removed b n).running)) refl n.running
         ∙ (removed-flags b n n.running).revoked
-        ∙ (neither (bufferHolds n n.running) (group_of n n.running).revoked direct).1
+        ∙ (neither (buffer_holds n n.running) (group_of n n.running).revoked direct).1
 
-    passed : Trail (headedBy n.running k.queue) (passMoments b false k.queue k) (replicate (pass b k.queue k).moved 3) (pending (pass b k.queue k).node.queue)
-    unfolding withQueue act serve extending disposed flagged withTimer withGroup
+    passed : Trail (headed_by n.running k.queue) (pass_moments b false k.queue k) (replicate (pass b k.queue k).moved 3) (pending (pass b k.queue k).node.queue)
+    unfolding with_queue act serve extending disposed flagged with_timer with_group
     passed =
         pass-direct n.running low k.queue k (act-sound v (user dispose) accepts) (removed-running b n) still-empty still-held
 
-    moments : oneActMoments b false n (user dispose) ≡ disposing ∷ nextHeaded n.running k.queue ++ passMoments b false k.queue k
-    unfolding oneActMoments actMoments disposeMoments act serve extending
+    moments : one_act_moments b false n (user dispose) ≡ disposing ∷ next_headed n.running k.queue ++ pass_moments b false k.queue k
+    unfolding one_act_moments act_moments dispose_moments act serve extending
     moments =
-        let first : disposeMoments n ≡ disposing ∷ nextHeaded n.running k.queue =
-        ap (λ (t : Bool). cond t [] (disposing ∷ nextHeaded n.running (withoutFirst n.running n.queue))) none
-        ∙ ap {B = List Moment} (λ q. disposing ∷ nextHeaded n.running q) (without-running v ∙ sym behind) in
-        ap (λ (ms : List Moment). ms ++ passMoments b false k.queue k) first
+        let first : dispose_moments n ≡ disposing ∷ next_headed n.running k.queue =
+        ap (λ (t : Bool). cond t [] (disposing ∷ next_headed n.running (without_first n.running n.queue))) none
+        ∙ ap {B = List Moment} (λ q. disposing ∷ next_headed n.running q) (without-running v ∙ sym behind) in
+        ap (λ (ms : List Moment). ms ++ pass_moments b false k.queue k) first
 
     direct-trail : Acted b false n (user dispose)
-    unfolding act serve extending settle leaving firstReason laterReason disposedBy pending
+    unfolding act serve extending settle leaving first_reason later_reason disposed_by pending
     direct-trail =
         let head = direct-head v none some in
-        let trap : disposedBy (user dispose) (eqb (cond (buffered n n.running) disposeExtend noTrap) noTrap) ≡ 1 =
-        ap (λ (t : Bool). disposedBy (user dispose) (eqb (cond t disposeExtend noTrap) noTrap)) direct in
+        let trap : disposed_by (user dispose) (eqb (cond (buffered n n.running) dispose_extend no_trap) no_trap) ≡ 1 =
+        ap (λ (t : Bool). disposed_by (user dispose) (eqb (cond t dispose_extend no_trap) no_trap)) direct in
         let rs : List ℕ = 1 ∷ replicate (pass b k.queue k).moved 3 in
-        let ms : List Moment = disposing ∷ nextHeaded n.running k.queue ++ passMoments b false k.queue k in
+        let ms : List Moment = disposing ∷ next_headed n.running k.queue ++ pass_moments b false k.queue k in
         let p : List Heading = pending (pass b k.queue k).node.queue in
         acted b n false (user dispose) moments
         (left-for b n (user dispose) (suc (pass b k.queue k).moved) (gone-counts b n (user dispose) ∙ omega (arith, trap)))
@@ -104,8 +104,8 @@ module _ {b : Build} {n : Node} (v : Valid b n) (accepts : refusal b n (user dis
         (subst (λ (q : List Message). Trail (pending q) ms rs p) (sym head.2) (disposes (trail-next n.running k.queue passed)))
 
   pub dispose-trail : Acted b false n (user dispose)
-  dispose-trail = go (bufferHolds n n.running) refl
+  dispose-trail = go (buffer_holds n n.running) refl
     where
-      go : (t : Bool) → bufferHolds n n.running ≡ t → Acted b false n (user dispose)
+      go : (t : Bool) → buffer_holds n n.running ≡ t → Acted b false n (user dispose)
       go true holds = buffered-trail holds
       go false none = direct-trail none

@@ -10,7 +10,7 @@ use lib.ListN.{length}
 use borrow.Author.Tests.{eqb-false, ne_eqb}
 use Rattle.reasons.specs.Moments.{Facts, Dated}
 use Rattle.reasons.specs.Why.{Because, disposed-of, group-revoked, not-running, older-waiting, processor-taken, still-queued, timed-out}
-use Rattle.reasons.specs.Why.{Departure, Heading, How, Leaving, MovedWith, Named, NamedLine, Nth, Told, byDisposal, byMove, headings, here, leavings, movedFor, tellMessage, there, told}
+use Rattle.reasons.specs.Why.{Departure, Heading, How, Leaving, MovedWith, Named, NamedLine, Nth, Told, by_disposal, by_move, headings, here, leavings, moved_for, tell_message, there, told}
 use Rattle.reasons.proofs.RunTrail.{Matched, none_left, was-disposed, was-moved}
 
 -- the i-th is one, and within the list
@@ -29,23 +29,23 @@ nth_inside here = omega arith
 nth_inside (there p) = omega (arith, nth_inside p)
 
 -- a move is no disposal
-disposedOf : How → Bool
-disposedOf byDisposal = true
-disposedOf (byMove f) = false
+disposed_of : How → Bool
+disposed_of by_disposal = true
+disposed_of (by_move f) = false
 
 facts_of : Facts → How → Facts
-facts_of g byDisposal = g
-facts_of g (byMove f) = f
+facts_of g by_disposal = g
+facts_of g (by_move f) = f
 
 -- The reasons that exclude every other.
 
 module _ {ds : List Dated} {i : ℕ} where
   pub disposed-only : (k : ℕ) → Because ds i 1 → Because ds i k → k ≡ 1
-  unfolding disposedOf
+  unfolding disposed_of
   disposed-only k (disposed-of p) other = go other
     where
       unmoved : {f : Facts} → MovedWith ds i f → ⊥
-      unmoved m = true≢false (ap (λ (x : Leaving). disposedOf x.how) (nth-same p m.1))
+      unmoved m = true≢false (ap (λ (x : Leaving). disposed_of x.how) (nth-same p m.1))
 
       go : {k : ℕ} → Because ds i k → k ≡ 1
       go (disposed-of q) = refl
@@ -78,8 +78,8 @@ abbrev picked : Bool → Bool → Bool → Bool → ℕ
 picked out ran older revoked = cond out 6 (cond (not ran) 3 (cond older 4 (cond revoked 5 7)))
 
 -- a timeout's is 6; else it is no larger than any that holds
-timeout-six : (f : Facts) (ran : Bool) → f.timeout ≡ true → movedFor f ran ≡ 6
-unfolding movedFor
+timeout-six : (f : Facts) (ran : Bool) → f.timeout ≡ true → moved_for f ran ≡ 6
+unfolding moved_for
 timeout-six f ran e = rw e
 
 -- what is said of a reason that is none of a timeout
@@ -89,8 +89,8 @@ record NoLarger (ran older revoked : Bool) (k : ℕ) : Type 0 where
   group-revoked : revoked ≡ true → k ≤ 5
   any : k ≤ 7
 
-no-larger : (f : Facts) (ran : Bool) → movedFor f ran ≢ 6 → NoLarger ran f.older f.revoked (movedFor f ran)
-unfolding movedFor
+no-larger : (f : Facts) (ran : Bool) → moved_for f ran ≢ 6 → NoLarger ran f.older f.revoked (moved_for f ran)
+unfolding moved_for
 no-larger f ran = go f.timeout ran f.older f.revoked
   where
     go : (out ran older revoked : Bool) → picked out ran older revoked ≢ 6 → NoLarger ran older revoked (picked out ran older revoked)
@@ -113,16 +113,16 @@ no-larger f ran = go f.timeout ran f.older f.revoked
 abbrev ran : Heading → Bool
 ran h = eqb h.group h.runner
 
-module _ (ds : List Dated) {i l : ℕ} {f : Facts} {h : Heading} (p : Nth i (leavings ds) (record { line = l; how = byMove f })) (q : Nth i (headings ds) h)
-    (seven : movedFor f (ran h) ≡ 7 → f.taken ≡ true) where
+module _ (ds : List Dated) {i l : ℕ} {f : Facts} {h : Heading} (p : Nth i (leavings ds) (record { line = l; how = by_move f })) (q : Nth i (headings ds) h)
+    (seven : moved_for f (ran h) ≡ 7 → f.taken ≡ true) where
   -- the facts are those of its move
   same-facts : {g : Facts} → MovedWith ds i g → g ≡ f
   unfolding facts_of
   same-facts {g} m = ap (λ (x : Leaving). facts_of g x.how) (nth-same m.1 p)
 
   -- it holds
-  moved_holds : Because ds i (movedFor f (ran h))
-  unfolding movedFor
+  moved_holds : Because ds i (moved_for f (ran h))
+  unfolding moved_for
   moved_holds = go f.timeout (ran h) f.older f.revoked refl refl refl refl seven
     where
       go : (out r older revoked : Bool) → f.timeout ≡ out → ran h ≡ r → f.older ≡ older → f.revoked ≡ revoked → (picked out r older revoked ≡ 7 → f.taken ≡ true)
@@ -134,12 +134,12 @@ module _ (ds : List Dated) {i l : ℕ} {f : Facts} {h : Heading} (p : Nth i (lea
       go false true false false e₁ e₂ e₃ e₄ s = processor-taken (l, p) (s refl)
 
   -- no smaller one does, but for a timeout's
-  none-smaller : movedFor f (ran h) ≢ 6 → {k : ℕ} → Because ds i k → movedFor f (ran h) ≤ k
-  unfolding disposedOf
+  none-smaller : moved_for f (ran h) ≢ 6 → {k : ℕ} → Because ds i k → moved_for f (ran h) ≤ k
+  unfolding disposed_of
   none-smaller six other = go (no-larger f (ran h) six) other
     where
-      go : NoLarger (ran h) f.older f.revoked (movedFor f (ran h)) → {k : ℕ} → Because ds i k → movedFor f (ran h) ≤ k
-      go n (disposed-of r) = absurd (true≢false (ap (λ (x : Leaving). disposedOf x.how) (nth-same r p)))
+      go : NoLarger (ran h) f.older f.revoked (moved_for f (ran h)) → {k : ℕ} → Because ds i k → moved_for f (ran h) ≤ k
+      go n (disposed-of r) = absurd (true≢false (ap (λ (x : Leaving). disposed_of x.how) (nth-same r p)))
       go n (still-queued few) = absurd (omega (arith, nth_inside p))
       go n (not-running m r apart) = n.not-running (ne_eqb h.group h.runner (subst (λ (x : Heading). x.group ≢ x.runner) (nth-same r q) apart))
       go n (older-waiting m e) = n.older-waiting (subst (λ (g : Facts). g.older ≡ true) (same-facts m) e)
@@ -148,10 +148,10 @@ module _ (ds : List Dated) {i l : ℕ} {f : Facts} {h : Heading} (p : Nth i (lea
       go n (processor-taken m e) = n.any
 
   -- where a timeout's holds it is that
-  timeout-named : Because ds i 6 → movedFor f (ran h) ≡ 6
+  timeout-named : Because ds i 6 → moved_for f (ran h) ≡ 6
   timeout-named (timed-out m e) = timeout-six f (ran h) (subst (λ (g : Facts). g.timeout ≡ true) (same-facts m) e)
 
-  moved_named : Named ds i (movedFor f (ran h))
+  moved_named : Named ds i (moved_for f (ran h))
   moved_named =
       record {
         holds = moved_holds;
@@ -173,23 +173,23 @@ only-named six holds only =
 -- the message before which k were accepted: still queued, disposed of or moved
 pub data Outcome (hs : List Heading) (xs : List Leaving) (i : ℕ) : Told → ℕ → Type 0 where
   waits : {last : ℕ} → length xs < i → Outcome hs xs i (told 2 last) last
-  disposed : {l last : ℕ} → Nth i xs (record { line = l; how = byDisposal }) → Outcome hs xs i (told 1 l) last
-  moved : {l last : ℕ} {f : Facts} {h : Heading} → Nth i xs (record { line = l; how = byMove f }) → Nth i hs h
-      → (movedFor f (eqb h.group h.runner) ≡ 7 → f.taken ≡ true)
-      → Outcome hs xs i (told (movedFor f (eqb h.group h.runner)) l) last
+  disposed : {l last : ℕ} → Nth i xs (record { line = l; how = by_disposal }) → Outcome hs xs i (told 1 l) last
+  moved : {l last : ℕ} {f : Facts} {h : Heading} → Nth i xs (record { line = l; how = by_move f }) → Nth i hs h
+      → (moved_for f (eqb h.group h.runner) ≡ 7 → f.taken ≡ true)
+      → Outcome hs xs i (told (moved_for f (eqb h.group h.runner)) l) last
 
 later : {h : Heading} {hs : List Heading} {x : Leaving} {xs : List Leaving} {i last : ℕ} {t : Told} → Outcome hs xs i t last → Outcome (h ∷ hs) (x ∷ xs) (suc i) t last
 later (waits few) = waits (omega arith)
 later (disposed p) = disposed (there p)
 later (moved p q seven) = moved (there p) (there q) seven
 
-pub outcome : {hs : List Heading} {xs : List Leaving} {ds : List Departure} → Matched hs xs ds → (k last : ℕ) → Outcome hs xs (suc k) (tellMessage last ds k) last
-unfolding tellMessage
+pub outcome : {hs : List Heading} {xs : List Leaving} {ds : List Departure} → Matched hs xs ds → (k last : ℕ) → Outcome hs xs (suc k) (tell_message last ds k) last
+unfolding tell_message
 outcome none_left k last = waits (omega arith)
 outcome (was-disposed m) zero last = disposed here
 outcome (was-disposed m) (suc k) last = later (outcome m k last)
 outcome (was-moved {h = h} {hs = hs} {i = i} {xs = xs} f k e seven m) zero last =
-    subst (λ (r : ℕ). Outcome (h ∷ hs) (record { line = i; how = byMove f } ∷ xs) 1 (told r i) last) e (moved {h = h} here here (λ s. seven (sym e ∙ s)))
+    subst (λ (r : ℕ). Outcome (h ∷ hs) (record { line = i; how = by_move f } ∷ xs) 1 (told r i) last) e (moved {h = h} here here (λ s. seven (sym e ∙ s)))
 outcome (was-moved f k e seven m) (suc j) last = later (outcome m j last)
 
 -- so what is told of it is named

@@ -6,8 +6,8 @@ use mathlib.Core.Bool.{true}
 use mathlib.Core.List.{List, [], ◌∷◌, ◌++◌}
 use lib.Dec.{eqb}
 use Rattle.rules.specs.Node.{Message}
-use Rattle.reasons.specs.Moments.{Facts, Moment, joined, headed, disposed, moved, nextHeaded}
-use Rattle.reasons.specs.Why.{Heading, movedFor}
+use Rattle.reasons.specs.Moments.{Facts, Moment, joined, headed, disposed, moved, next_headed}
+use Rattle.reasons.specs.Why.{Heading, moved_for}
 
 -- a heading of group g while r ran
 abbrev pub heading : ℕ → ℕ → Heading
@@ -21,7 +21,7 @@ pub data Trail : List Heading → List Moment → List ℕ → List Heading → 
   heads : {g r : ℕ} {p' : List Heading} {ms : List Moment} {rs : List ℕ} → Trail (heading g r ∷ []) ms rs p' → Trail [] (headed g r ∷ ms) rs p'
   disposes : {h : Heading} {p' : List Heading} {ms : List Moment} {rs : List ℕ} → Trail [] ms rs p' → Trail (h ∷ []) (disposed ∷ ms) (1 ∷ rs) p'
   moves : {h : Heading} {p' : List Heading} {ms : List Moment} {rs : List ℕ} (f : Facts) (k : ℕ)
-      → movedFor f (eqb h.group h.runner) ≡ k
+      → moved_for f (eqb h.group h.runner) ≡ k
       → (k ≡ 7 → f.taken ≡ true)
       → Trail [] ms rs p'
       → Trail (h ∷ []) (moved f ∷ ms) (k ∷ rs) p'
@@ -35,13 +35,13 @@ trail-then (disposes t) u = disposes (trail-then t u)
 trail-then (moves f k e s t) u = moves f k e s (trail-then t u)
 
 -- the head of a queue, where r ran as it became that
-unfoldable pub headedBy : ℕ → List Message → List Heading
-headedBy r [] = []
-headedBy r (m ∷ q) = heading m.group r ∷ []
+unfoldable pub headed_by : ℕ → List Message → List Heading
+headed_by r [] = []
+headed_by r (m ∷ q) = heading m.group r ∷ []
 
 -- the next becomes head
-pub trail-next : (r : ℕ) (q : List Message) {p : List Heading} {ms : List Moment} {ks : List ℕ} → Trail (headedBy r q) ms ks p → Trail [] (nextHeaded r q ++ ms) ks p
-unfolding headedBy nextHeaded
+pub trail-next : (r : ℕ) (q : List Message) {p : List Heading} {ms : List Moment} {ks : List ℕ} → Trail (headed_by r q) ms ks p → Trail [] (next_headed r q ++ ms) ks p
+unfolding headed_by next_headed
 trail-next r [] t = t
 trail-next r (m ∷ q) t = heads t
 
@@ -51,6 +51,6 @@ pending [] = []
 pending (m ∷ q) = heading m.group m.group ∷ []
 
 -- it did, where it was its own group that ran
-pub pending-headed : (r : ℕ) (m : Message) (q : List Message) → m.group ≡ r → pending (m ∷ q) ≡ headedBy r (m ∷ q)
-unfolding headedBy pending
+pub pending-headed : (r : ℕ) (m : Message) (q : List Message) → m.group ≡ r → pending (m ∷ q) ≡ headed_by r (m ∷ q)
+unfolding headed_by pending
 pending-headed r m q same = ap (λ (k : ℕ). heading m.group k ∷ []) same

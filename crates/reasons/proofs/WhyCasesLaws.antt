@@ -1,18 +1,18 @@
 -- The cases of order 6 hold, by computation. Assumes nothing.
 use mathlib.Core.Path.{refl}
-use Rattle.rules.specs.Run.{arrived, arrivedBy, wasAccepted}
+use Rattle.rules.specs.Run.{arrived, arrived_by, was_accepted}
 use Rattle.rules.proofs.Cases.Computes.{computes}
-use Rattle.reasons.specs.Moments.{actMoments, disposeMoments, drainMoments, facts, joinMoments, nextHeaded, oneActMoments, passMoments, performedMoments, runMoments, stepMoments, switchMoments, takeMoments, tickMoments, ticksMoments}
-use Rattle.reasons.specs.Why.{arrivalLines, departures, headingIn, headings, leavingIn, leavings, leftFor, momentsOf, movedFor, reasonWords, steps_of, tellEvent, tellLine, tellMessage, why, whyAll, whyLine}
+use Rattle.reasons.specs.Moments.{act_moments, dispose_moments, drain_moments, facts, join_moments, next_headed, one_act_moments, pass_moments, performed_moments, run_moments, step_moments, switch_moments, take_moments, tick_moments, ticks_moments}
+use Rattle.reasons.specs.Why.{arrival_lines, departures, heading_in, headings, leaving_in, leavings, left_for, moments_of, moved_for, reason_words, steps_of, tell_event, tell_line, tell_message, why, why_all, why_line}
 use Rattle.reasons.specs.WhyCases.{LineCases, MomentCases, RefusalCases, WhyCases}
 
 -- what is told of a script is computed
 unfoldable tells : Unit {0}
 unfolding
     computes
-    arrived arrivedBy wasAccepted
-    actMoments disposeMoments drainMoments facts joinMoments nextHeaded oneActMoments passMoments performedMoments runMoments stepMoments switchMoments takeMoments tickMoments ticksMoments
-    arrivalLines departures headingIn headings leavingIn leavings leftFor momentsOf movedFor reasonWords steps_of tellEvent tellLine tellMessage why whyAll whyLine
+    arrived arrived_by was_accepted
+    act_moments dispose_moments drain_moments facts join_moments next_headed one_act_moments pass_moments performed_moments run_moments step_moments switch_moments take_moments tick_moments ticks_moments
+    arrival_lines departures heading_in headings leaving_in leavings left_for moments_of moved_for reason_words steps_of tell_event tell_line tell_message why why_all why_line
 tells = tt
 
 pub why-cases : WhyCases

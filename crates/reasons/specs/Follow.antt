@@ -1,14 +1,14 @@
 -- Following messages through the queue, line after line, by what is seen of each line: one message by its place, and every message by the numbers of
 -- the lines whose messages are queued. This is how the tool goes; `Following` (Told) says that it tells what `why` does. Assumes nothing.
 use Rattle.std.specs.Prelude.{ℕ, zero, suc, ◌+◌, Bool, cond, not, List, [], ◌∷◌, ◌++◌, map, eqb, length, take, drop}
-use Rattle.rules.specs.Lists.{is_empty, concatMap}
+use Rattle.rules.specs.Lists.{is_empty, concat_map}
 use Rattle.rules.specs.Build.{Build, paper01}
 use Rattle.rules.specs.Node.{Node}
 use Rattle.rules.specs.Operation.{unreadable}
 use Rattle.rules.specs.Step.{step}
 use Rattle.rules.specs.Run.{Input, asked, Event, arrived}
-use Rattle.reasons.specs.Why.{Told, told, untold, noArrival, whyLine}
-use Rattle.reasons.specs.ByPlace.{eventReasons}
+use Rattle.reasons.specs.Why.{Told, told, untold, no_arrival, why_line}
+use Rattle.reasons.specs.ByPlace.{event_reasons}
 
 -- what is seen of a line: its answer, whether it is an accepted arrival, how many are queued after it, and why those leave that leave the queue at it
 pub record Seen : Type 0 where
@@ -18,16 +18,16 @@ pub record Seen : Type 0 where
   pub reasons : List ℕ
 
 -- of a step of which e was seen, where n is the node after it
-unfoldable pub seenOf : Event → Node → Seen
-seenOf e n =
-    record { answer = e.report.answer; arrival = not (is_empty (arrived e)); queued = length n.queue; reasons = eventReasons e n }
+unfoldable pub seen_of : Event → Node → Seen
+seen_of e n =
+    record { answer = e.report.answer; arrival = not (is_empty (arrived e)); queued = length n.queue; reasons = event_reasons e n }
 
 -- of a run
-unfoldable pub seenRun : Build → Node → List Input → List Seen
-seenRun b n [] = []
-seenRun b n (x ∷ is) =
+unfoldable pub seen_run : Build → Node → List Input → List Seen
+seen_run b n [] = []
+seen_run b n (x ∷ is) =
     let s = step b n (asked x) in
-    seenOf (record { runner = n.running; operation = asked x; report = s.report }) s.node ∷ seenRun b s.node is
+    seen_of (record { runner = n.running; operation = asked x; report = s.report }) s.node ∷ seen_run b s.node is
 
 -- One message.
 
@@ -38,35 +38,35 @@ pub record Followed : Type 0 where
 
 -- nothing yet: "17 one that isn't an accepted arrival or isn't in the script"
 abbrev pub unfollowed : Followed
-unfollowed = record { place = 0; told = untold noArrival }
+unfollowed = record { place = 0; told = untold no_arrival }
 
 -- of a message at this place, where t is told so far, when messages leave in line i for these reasons
-unfoldable pub movedUp : ℕ → Told → ℕ → List ℕ → Followed
-movedUp i t place [] = record { place = place; told = t }
-movedUp i t zero (r ∷ rs) = record { place = 0; told = t }
-movedUp i t (suc zero) (r ∷ rs) = record { place = 0; told = told r i }
-movedUp i t (suc (suc p)) (r ∷ rs) = movedUp i t (suc p) rs
+unfoldable pub moved_up : ℕ → Told → ℕ → List ℕ → Followed
+moved_up i t place [] = record { place = place; told = t }
+moved_up i t zero (r ∷ rs) = record { place = 0; told = t }
+moved_up i t (suc zero) (r ∷ rs) = record { place = 0; told = told r i }
+moved_up i t (suc (suc p)) (r ∷ rs) = moved_up i t (suc p) rs
 
 -- at the line wanted: what has arrived there was the last in the queue before any left
-unfoldable pub pickedUp : Seen → Followed → Followed
-pickedUp s f =
+unfoldable pub picked_up : Seen → Followed → Followed
+picked_up s f =
     cond (eqb s.answer unreadable) (record { place = 0; told = untold unreadable })
     (cond s.arrival (record { place = s.queued + length s.reasons; told = f.told }) f)
 
 -- line i, where line w is wanted
-unfoldable pub followLine : ℕ → ℕ → Followed → Seen → Followed
-followLine w i f s =
-    let g = cond (eqb i w) (pickedUp s f) f in
-    movedUp i g.told g.place s.reasons
+unfoldable pub follow_line : ℕ → ℕ → Followed → Seen → Followed
+follow_line w i f s =
+    let g = cond (eqb i w) (picked_up s f) f in
+    moved_up i g.told g.place s.reasons
 
 -- lines, the first of them line i
-unfoldable pub followLines : ℕ → ℕ → Followed → List Seen → Followed
-followLines w i f [] = f
-followLines w i f (s ∷ ss) = followLines w (suc i) (followLine w i f s) ss
+unfoldable pub follow_lines : ℕ → ℕ → Followed → List Seen → Followed
+follow_lines w i f [] = f
+follow_lines w i f (s ∷ ss) = follow_lines w (suc i) (follow_line w i f s) ss
 
 -- at the script's end
-unfoldable pub toldAt : ℕ → Followed → Told
-toldAt last f = cond (eqb f.place 0) f.told (told 2 last)
+unfoldable pub told_at : ℕ → Followed → Told
+told_at last f = cond (eqb f.place 0) f.told (told 2 last)
 
 -- Every message.
 
@@ -83,26 +83,26 @@ tellings i (w ∷ ws) [] = []
 tellings i (w ∷ ws) (r ∷ rs) = record { arrival = w; reason = r; line = i } ∷ tellings i ws rs
 
 -- the lines whose messages are queued once that of line i has joined them, before any leaves: no more than the queue has places
-unfoldable pub waitingWith : ℕ → Seen → List ℕ → List ℕ
-waitingWith i s ws = take paper01.places (ws ++ cond s.arrival (i ∷ []) [])
+unfoldable pub waiting_with : ℕ → Seen → List ℕ → List ℕ
+waiting_with i s ws = take paper01.places (ws ++ cond s.arrival (i ∷ []) [])
 
 -- and after the line
-unfoldable pub waitingAfter : ℕ → Seen → List ℕ → List ℕ
-waitingAfter i s ws = drop (length s.reasons) (waitingWith i s ws)
+unfoldable pub waiting_after : ℕ → Seen → List ℕ → List ℕ
+waiting_after i s ws = drop (length s.reasons) (waiting_with i s ws)
 
 -- over lines, the first of them line i: what is told, and the lines whose messages are still queued
-unfoldable pub tellLines : ℕ → List ℕ → List Seen → List Telling
-tellLines i ws [] = []
-tellLines i ws (s ∷ ss) = tellings i (waitingWith i s ws) s.reasons ++ tellLines (suc i) (waitingAfter i s ws) ss
+unfoldable pub tell_lines : ℕ → List ℕ → List Seen → List Telling
+tell_lines i ws [] = []
+tell_lines i ws (s ∷ ss) = tellings i (waiting_with i s ws) s.reasons ++ tell_lines (suc i) (waiting_after i s ws) ss
 
-unfoldable pub stillWaiting : ℕ → List ℕ → List Seen → List ℕ
-stillWaiting i ws [] = ws
-stillWaiting i ws (s ∷ ss) = stillWaiting (suc i) (waitingAfter i s ws) ss
+unfoldable pub still_waiting : ℕ → List ℕ → List Seen → List ℕ
+still_waiting i ws [] = ws
+still_waiting i ws (s ∷ ss) = still_waiting (suc i) (waiting_after i s ws) ss
 
 -- at the script's end
-unfoldable pub tellQueued : ℕ → List ℕ → List Telling
-tellQueued last ws = map (λ (w : ℕ). record { arrival = w; reason = 2; line = last }) ws
+unfoldable pub tell_queued : ℕ → List ℕ → List Telling
+tell_queued last ws = map (λ (w : ℕ). record { arrival = w; reason = 2; line = last }) ws
 
 -- as text, a line each
-unfoldable pub tellingLines : List Telling → List ℕ
-tellingLines ts = concatMap (λ t. whyLine t.arrival t.reason t.line) ts
+unfoldable pub telling_lines : List Telling → List ℕ
+telling_lines ts = concat_map (λ t. why_line t.arrival t.reason t.line) ts

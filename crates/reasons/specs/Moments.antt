@@ -3,13 +3,13 @@
 use Rattle.std.specs.Prelude.{ℕ, zero, suc, ◌+◌, Bool, true, false, cond, not, List, [], ◌∷◌, ◌++◌, map, eqb}
 use Rattle.rules.specs.Lists.{is_empty}
 use Rattle.rules.specs.Build.{Build}
-use Rattle.rules.specs.Node.{Message, Node, group_of, bufferHolds, timerRuns}
-use Rattle.rules.specs.Operation.{poll, peek, dispose, beginAtomic, endAtomic, describe, launch}
+use Rattle.rules.specs.Node.{Message, Node, group_of, buffer_holds, timer_runs}
+use Rattle.rules.specs.Operation.{poll, peek, dispose, begin_atomic, end_atomic, describe, launch}
 use Rattle.rules.specs.Operation.{Operation, arrive, schedule, preempt, dispatch, tick, turn, user, unknown}
 use Rattle.rules.specs.Paging.{store}
 use Rattle.rules.specs.Refusal.{refusal}
-use Rattle.rules.specs.Settling.{mayStay}
-use Rattle.rules.specs.Step.{Effect, valued, oneTick, withoutFirst, act, finish, step}
+use Rattle.rules.specs.Settling.{may_stay}
+use Rattle.rules.specs.Step.{Effect, valued, one_tick, without_first, act, finish, step}
 use Rattle.rules.specs.Run.{Input, asked}
 
 -- what holds of a head just before it moves to its buffer
@@ -31,98 +31,98 @@ pub data Moment : Type 0 where
   moved : Facts → Moment
 
 -- the next in the queue becomes head, if there is one
-unfoldable pub nextHeaded : ℕ → List Message → List Moment
-nextHeaded r [] = []
-nextHeaded r (m ∷ q) = headed m.group r ∷ []
+unfoldable pub next_headed : ℕ → List Message → List Moment
+next_headed r [] = []
+next_headed r (m ∷ q) = headed m.group r ∷ []
 
 -- as a head of node n is about to move
 unfoldable pub facts : Bool → Bool → Node → Message → Facts
 facts timeout taken n m =
-    record { timeout = timeout; older = bufferHolds n m.group; revoked = (group_of n m.group).revoked; taken = taken }
+    record { timeout = timeout; older = buffer_holds n m.group; revoked = (group_of n m.group).revoked; taken = taken }
 
 -- as `pass` goes
-unfoldable pub passMoments : Build → Bool → List Message → Node → List Moment
-passMoments b taken [] n = []
-passMoments b taken (m ∷ q) n =
-    elim (mayStay n m) [
+unfoldable pub pass_moments : Build → Bool → List Message → Node → List Moment
+pass_moments b taken [] n = []
+pass_moments b taken (m ∷ q) n =
+    elim (may_stay n m) [
       | true ↦ []
-      | false ↦ moved (facts false taken n m) ∷ nextHeaded n.running q ++ passMoments b taken q (store b m n)
+      | false ↦ moved (facts false taken n m) ∷ next_headed n.running q ++ pass_moments b taken q (store b m n)
     ]
 
 -- as `drain` goes
-unfoldable pub drainMoments : Build → List Message → Node → List Moment
-drainMoments b [] n = []
-drainMoments b (m ∷ q) n = moved (facts true false n m) ∷ nextHeaded n.running q ++ drainMoments b q (store b m n)
+unfoldable pub drain_moments : Build → List Message → Node → List Moment
+drain_moments b [] n = []
+drain_moments b (m ∷ q) n = moved (facts true false n m) ∷ next_headed n.running q ++ drain_moments b q (store b m n)
 
--- as `oneTick` and `ticks` go
-unfoldable pub tickMoments : Build → Effect → List Moment
-tickMoments b e =
-    cond (timerRuns e.node) (cond (eqb (e.node.timer + 1) b.timeout) (drainMoments b e.node.queue e.node) []) []
+-- as `one_tick` and `ticks` go
+unfoldable pub tick_moments : Build → Effect → List Moment
+tick_moments b e =
+    cond (timer_runs e.node) (cond (eqb (e.node.timer + 1) b.timeout) (drain_moments b e.node.queue e.node) []) []
 
-unfoldable pub ticksMoments : Build → ℕ → Effect → List Moment
-ticksMoments b zero e = []
-ticksMoments b (suc k) e = tickMoments b e ++ ticksMoments b k (oneTick b e)
+unfoldable pub ticks_moments : Build → ℕ → Effect → List Moment
+ticks_moments b zero e = []
+ticks_moments b (suc k) e = tick_moments b e ++ ticks_moments b k (one_tick b e)
 
 -- what D does to the queue: nothing where it takes the message from the buffer
-unfoldable pub disposeMoments : Node → List Moment
-disposeMoments n =
-    cond (bufferHolds n n.running) [] (disposed ∷ nextHeaded n.running (withoutFirst n.running n.queue))
+unfoldable pub dispose_moments : Node → List Moment
+dispose_moments n =
+    cond (buffer_holds n n.running) [] (disposed ∷ next_headed n.running (without_first n.running n.queue))
 
 -- a message that joins an empty queue is its head
-unfoldable pub joinMoments : Node → ℕ → List Moment
-joinMoments n g = joined ∷ elim (is_empty n.queue) [ true ↦ headed g n.running ∷ [] | false ↦ [] ]
+unfoldable pub join_moments : Node → ℕ → List Moment
+join_moments n g = joined ∷ elim (is_empty n.queue) [ true ↦ headed g n.running ∷ [] | false ↦ [] ]
 
 -- before settling
-unfoldable pub actMoments : Build → Node → Operation → List Moment
-actMoments b n (arrive g ws) = joinMoments n g
-actMoments b n preempt = []
-actMoments b n (dispatch g) = []
-actMoments b n (schedule g) = []
-actMoments b n (tick k) = ticksMoments b k (valued 0 n)
-actMoments b n turn = []
-actMoments b n (user poll) = []
-actMoments b n (user (peek i)) = []
-actMoments b n (user dispose) = disposeMoments n
-actMoments b n (user (beginAtomic force)) = []
-actMoments b n (user endAtomic) = []
-actMoments b n (user (describe w)) = []
-actMoments b n (user (launch k)) = []
-actMoments b n unknown = []
+unfoldable pub act_moments : Build → Node → Operation → List Moment
+act_moments b n (arrive g ws) = join_moments n g
+act_moments b n preempt = []
+act_moments b n (dispatch g) = []
+act_moments b n (schedule g) = []
+act_moments b n (tick k) = ticks_moments b k (valued 0 n)
+act_moments b n turn = []
+act_moments b n (user poll) = []
+act_moments b n (user (peek i)) = []
+act_moments b n (user dispose) = dispose_moments n
+act_moments b n (user (begin_atomic force)) = []
+act_moments b n (user end_atomic) = []
+act_moments b n (user (describe w)) = []
+act_moments b n (user (launch k)) = []
+act_moments b n unknown = []
 
 -- an act, and the settling behind it
-unfoldable pub oneActMoments : Build → Bool → Node → Operation → List Moment
-oneActMoments b taken n op =
+unfoldable pub one_act_moments : Build → Bool → Node → Operation → List Moment
+one_act_moments b taken n op =
     let e = act b n op in
-    actMoments b n op ++ passMoments b taken e.node.queue e.node
+    act_moments b n op ++ pass_moments b taken e.node.queue e.node
 
 -- O takes the processor where a group runs; its settling goes on with nobody running
-unfoldable pub takeMoments : Build → Node → List Moment
-takeMoments b n = oneActMoments b (not (eqb n.running 0)) n preempt
+unfoldable pub take_moments : Build → Node → List Moment
+take_moments b n = one_act_moments b (not (eqb n.running 0)) n preempt
 
 -- S: those of its two acts, of O, "and I unless g is 0"
-unfoldable pub switchMoments : Build → Node → ℕ → List Moment
-switchMoments b n g =
+unfoldable pub switch_moments : Build → Node → ℕ → List Moment
+switch_moments b n g =
     elim (eqb g n.running) [
       | true ↦ []
       | false ↦
-          takeMoments b n
-          ++ elim (eqb g 0) [ true ↦ [] | false ↦ oneActMoments b false (finish b (act b n preempt)).node (dispatch g) ]
+          take_moments b n
+          ++ elim (eqb g 0) [ true ↦ [] | false ↦ one_act_moments b false (finish b (act b n preempt)).node (dispatch g) ]
     ]
 
 -- an accepted operation's
-unfoldable pub performedMoments : Build → Node → Operation → List Moment
-performedMoments b n (arrive g ws) = oneActMoments b false n (arrive g ws)
-performedMoments b n preempt = takeMoments b n
-performedMoments b n (dispatch g) = oneActMoments b false n (dispatch g)
-performedMoments b n (schedule g) = switchMoments b n g
-performedMoments b n (tick k) = oneActMoments b false n (tick k)
-performedMoments b n turn = oneActMoments b false n turn
-performedMoments b n (user r) = oneActMoments b false n (user r)
-performedMoments b n unknown = oneActMoments b false n unknown
+unfoldable pub performed_moments : Build → Node → Operation → List Moment
+performed_moments b n (arrive g ws) = one_act_moments b false n (arrive g ws)
+performed_moments b n preempt = take_moments b n
+performed_moments b n (dispatch g) = one_act_moments b false n (dispatch g)
+performed_moments b n (schedule g) = switch_moments b n g
+performed_moments b n (tick k) = one_act_moments b false n (tick k)
+performed_moments b n turn = one_act_moments b false n turn
+performed_moments b n (user r) = one_act_moments b false n (user r)
+performed_moments b n unknown = one_act_moments b false n unknown
 
 -- a step's; a refused one has none
-unfoldable pub stepMoments : Build → Node → Operation → List Moment
-stepMoments b n op = elim (refusal b n op) [ zero ↦ performedMoments b n op | suc r ↦ [] ]
+unfoldable pub step_moments : Build → Node → Operation → List Moment
+step_moments b n op = elim (refusal b n op) [ zero ↦ performed_moments b n op | suc r ↦ [] ]
 
 -- a moment, and the line, or step, that it was in
 pub record Dated : Type 0 where
@@ -130,7 +130,7 @@ pub record Dated : Type 0 where
   pub moment : Moment
 
 -- those of a run, the first step of which has number i
-unfoldable pub runMoments : Build → ℕ → Node → List Input → List Dated
-runMoments b i n [] = []
-runMoments b i n (x ∷ is) =
-    map (λ (m : Moment). record { line = i; moment = m }) (stepMoments b n (asked x)) ++ runMoments b (suc i) (step b n (asked x)).node is
+unfoldable pub run_moments : Build → ℕ → Node → List Input → List Dated
+run_moments b i n [] = []
+run_moments b i n (x ∷ is) =
+    map (λ (m : Moment). record { line = i; moment = m }) (step_moments b n (asked x)) ++ run_moments b (suc i) (step b n (asked x)).node is

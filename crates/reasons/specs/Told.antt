@@ -2,38 +2,38 @@
 use Rattle.std.specs.Prelude.{ℕ, ◌+◌, ◌≡◌, ◌≢◌, cond, List, [], ◌∷◌, ◌++◌, map, length}
 use Rattle.rules.specs.Lists.{is_empty, sum}
 use Rattle.rules.specs.Build.{Build, Sensible, paper01}
-use Rattle.rules.specs.Node.{Message, powerOn}
+use Rattle.rules.specs.Node.{Message, power_on}
 use Rattle.rules.specs.Run.{Input, Event, run, arrived, arrivals, left}
-use Rattle.rules.specs.Script.{scriptLines}
-use Rattle.reasons.specs.Moments.{Moment, joined, headed, disposed, moved, Dated, runMoments}
-use Rattle.reasons.specs.Why.{Because, Named, NamedLine, headings, leavings, departures, Told, untold, steps_of, momentsOf, why, whyAll}
-use Rattle.reasons.specs.ByPlace.{placeDepartures}
-use Rattle.reasons.specs.Follow.{Seen, seenRun, unfollowed, followLines, toldAt, tellLines, stillWaiting, tellQueued, tellingLines}
+use Rattle.rules.specs.Script.{script_lines}
+use Rattle.reasons.specs.Moments.{Moment, joined, headed, disposed, moved, Dated, run_moments}
+use Rattle.reasons.specs.Why.{Because, Named, NamedLine, headings, leavings, departures, Told, untold, steps_of, moments_of, why, why_all}
+use Rattle.reasons.specs.ByPlace.{place_departures}
+use Rattle.reasons.specs.Follow.{Seen, seen_run, unfollowed, follow_lines, told_at, tell_lines, still_waiting, tell_queued, telling_lines}
 
 -- how many moments are of each kind
-unfoldable pub isJoined : Moment → ℕ
-isJoined joined = 1
-isJoined (headed g r) = 0
-isJoined disposed = 0
-isJoined (moved f) = 0
+unfoldable pub is_joined : Moment → ℕ
+is_joined joined = 1
+is_joined (headed g r) = 0
+is_joined disposed = 0
+is_joined (moved f) = 0
 
-unfoldable pub isHeaded : Moment → ℕ
-isHeaded joined = 0
-isHeaded (headed g r) = 1
-isHeaded disposed = 0
-isHeaded (moved f) = 0
+unfoldable pub is_headed : Moment → ℕ
+is_headed joined = 0
+is_headed (headed g r) = 1
+is_headed disposed = 0
+is_headed (moved f) = 0
 
-unfoldable pub isDisposed : Moment → ℕ
-isDisposed joined = 0
-isDisposed (headed g r) = 0
-isDisposed disposed = 1
-isDisposed (moved f) = 0
+unfoldable pub is_disposed : Moment → ℕ
+is_disposed joined = 0
+is_disposed (headed g r) = 0
+is_disposed disposed = 1
+is_disposed (moved f) = 0
 
-unfoldable pub isMoved : Moment → ℕ
-isMoved joined = 0
-isMoved (headed g r) = 0
-isMoved disposed = 0
-isMoved (moved f) = 1
+unfoldable pub is_moved : Moment → ℕ
+is_moved joined = 0
+is_moved (headed g r) = 0
+is_moved disposed = 0
+is_moved (moved f) = 1
 
 unfoldable pub count : (Moment → ℕ) → List Dated → ℕ
 count f ds = sum (map (λ d. f d.moment) ds)
@@ -41,15 +41,15 @@ count f ds = sum (map (λ d. f d.moment) ds)
 -- the moments of a run are those that demand 3 speaks of
 pub record Counted (b : Build) (is : List Input) : Type 0 where
   -- as many join as are accepted
-  pub joins : count isJoined (runMoments b 1 (powerOn b) is) ≡ length (arrivals (run b is).events)
+  pub joins : count is_joined (run_moments b 1 (power_on b) is) ≡ length (arrivals (run b is).events)
   -- as many move as the reports say
-  pub moves : count isMoved (runMoments b 1 (powerOn b) is) ≡ sum (map (λ e. e.report.moved) (run b is).events)
+  pub moves : count is_moved (run_moments b 1 (power_on b) is) ≡ sum (map (λ e. e.report.moved) (run b is).events)
   -- as many leave as `left` counts
   pub leaves :
-      count isMoved (runMoments b 1 (powerOn b) is) + count isDisposed (runMoments b 1 (powerOn b) is) ≡ left (run b is).events
+      count is_moved (run_moments b 1 (power_on b) is) + count is_disposed (run_moments b 1 (power_on b) is) ≡ left (run b is).events
   -- as many become head as leave, and one more exactly where the queue isn't empty
   pub heads :
-      count isHeaded (runMoments b 1 (powerOn b) is) ≡ left (run b is).events + cond (is_empty (run b is).node.queue) 0 1
+      count is_headed (run_moments b 1 (power_on b) is) ≡ left (run b is).events + cond (is_empty (run b is).node.queue) 0 1
 
 -- line w of a script: what was seen of it, and of the lines before it
 pub record LineSeen (s : List ℕ) (w : ℕ) (before : List Event) (e : Event) : Type 0 where
@@ -70,11 +70,11 @@ pub record Tells (s : List ℕ) (w : ℕ) (t : Told) : Type 0 where
   pub named : (before : List Event) (e : Event) (m : Message)
       → LineSeen s w before e
       → arrived e ≡ m ∷ []
-      → Named (momentsOf s) (length (arrivals before) + 1) t.reason
+      → Named (moments_of s) (length (arrivals before) + 1) t.reason
   pub line-named : (before : List Event) (e : Event) (m : Message)
       → LineSeen s w before e
       → arrived e ≡ m ∷ []
-      → NamedLine (momentsOf s) (length (scriptLines s)) (length (arrivals before) + 1) t.line
+      → NamedLine (moments_of s) (length (script_lines s)) (length (arrivals before) + 1) t.line
 
 -- order 6, whole: for every script and every line number
 pub record WhyTold : Type 0 where
@@ -86,14 +86,14 @@ pub record WhyTold : Type 0 where
   pub counted : (b : Build) → Sensible b → (is : List Input) → Counted b is
   -- and the rule by place is the definition's
   pub by_place : (b : Build) → Sensible b → (is : List Input)
-      → departures (headings (runMoments b 1 (powerOn b) is)) (leavings (runMoments b 1 (powerOn b) is)) ≡ placeDepartures b 1 (powerOn b) is
+      → departures (headings (run_moments b 1 (power_on b) is)) (leavings (run_moments b 1 (power_on b) is)) ≡ place_departures b 1 (power_on b) is
 
 -- what is seen of a script's lines
-abbrev pub seenOfScript : List ℕ → List Seen
-seenOfScript s = seenRun paper01 (powerOn paper01) (steps_of s)
+abbrev pub seen_of_script : List ℕ → List Seen
+seen_of_script s = seen_run paper01 (power_on paper01) (steps_of s)
 
 -- to follow a message, or every one, is to tell why
 pub record Following : Type 0 where
-  pub one : (s : List ℕ) (w : ℕ) → toldAt (length (scriptLines s)) (followLines w 1 unfollowed (seenOfScript s)) ≡ why s w
+  pub one : (s : List ℕ) (w : ℕ) → told_at (length (script_lines s)) (follow_lines w 1 unfollowed (seen_of_script s)) ≡ why s w
   pub every : (s : List ℕ)
-      → tellingLines (tellLines 1 [] (seenOfScript s) ++ tellQueued (length (scriptLines s)) (stillWaiting 1 [] (seenOfScript s))) ≡ whyAll s
+      → telling_lines (tell_lines 1 [] (seen_of_script s) ++ tell_queued (length (script_lines s)) (still_waiting 1 [] (seen_of_script s))) ≡ why_all s

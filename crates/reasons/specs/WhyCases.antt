@@ -4,15 +4,15 @@ use Rattle.std.specs.Prelude.{ℕ, ◌≡◌, true, false, List, [], ◌∷◌, 
 use Prim.Native.String.{String}
 use Rattle.rules.specs.Text.{bytes}
 use Rattle.reasons.specs.Moments.{Moment, Dated, joined, headed, disposed, moved}
-use Rattle.reasons.specs.Why.{Told, told, untold, momentsOf, why, whyAll}
+use Rattle.reasons.specs.Why.{Told, told, untold, moments_of, why, why_all}
 
 -- of each of these lines of a script
 abbrev pub answers : String → List ℕ → List Told
 answers s ws = map (why (bytes s)) ws
 
 -- a script that meets every reason
-abbrev pub eachReason : String
-eachReason =
+abbrev pub each_reason : String
+each_reason =
     "S,1\nA,1,7\nD\nN\nA,2,5\nA,1,7\nT,256\nA,1,8\nD\nD\nA,1,9\nD\nN\nA,1,3\nD\nN\nA,1,4\nA,2,6\nO\nI,3\nA,3,1\n"
 
 -- the reasons
@@ -67,7 +67,7 @@ at i m = record { line = i; moment = m }
 pub record MomentCases : Type 0 where
   -- a message joins an empty queue, and is its head at once; one behind it becomes head as that is disposed of, while group 1 runs
   pub disposing :
-      momentsOf (bytes "S,1\nA,1,7\nA,2,8\nD\n")
+      moments_of (bytes "S,1\nA,1,7\nA,2,8\nD\n")
       ≡ at 2 joined
       ∷ at 2 (headed 1 1)
       ∷ at 3 joined
@@ -77,7 +77,7 @@ pub record MomentCases : Type 0 where
       ∷ []
   -- O takes the processor: what is behind the head becomes head while nobody runs
   pub taking :
-      momentsOf (bytes "S,1\nA,1,7\nA,1,8\nO\n")
+      moments_of (bytes "S,1\nA,1,7\nA,1,8\nO\n")
       ≡ at 2 joined
       ∷ at 2 (headed 1 1)
       ∷ at 3 joined
@@ -87,7 +87,7 @@ pub record MomentCases : Type 0 where
       ∷ []
   -- a timeout moves both while group 1 runs, and revokes it behind the second; then it is revoked, and its buffer holds a message
   pub timing-out :
-      momentsOf (bytes "S,1\nA,1,7\nA,2,8\nT,256\nA,1,9\n")
+      moments_of (bytes "S,1\nA,1,7\nA,2,8\nT,256\nA,1,9\n")
       ≡ at 2 joined
       ∷ at 2 (headed 1 1)
       ∷ at 3 joined
@@ -99,11 +99,11 @@ pub record MomentCases : Type 0 where
       ∷ at 5 (moved (record { timeout = false; older = true; revoked = true; taken = false }))
       ∷ []
   -- with nobody running there is none to take the processor from, and a refused step has no moments
-  pub nothing : momentsOf (bytes "O\nS,0\nD\nA,9,1\nX\n") ≡ []
+  pub nothing : moments_of (bytes "O\nS,0\nD\nA,9,1\nX\n") ≡ []
 
 -- the answers as lines of text
 pub record LineCases : Type 0 where
   pub every-reason :
-      whyAll (bytes eachReason)
+      why_all (bytes each_reason)
       ≡ bytes "line 2: reason 1 at line 3: never buffered, disposed of\nline 5: reason 3 at line 5: its group wasn't running when it became head\nline 6: reason 6 at line 7: timeout\nline 8: reason 4 at line 8: older messages of its group were waiting in the buffer\nline 11: reason 5 at line 11: its group was revoked\nline 14: reason 1 at line 15: never buffered, disposed of\nline 17: reason 7 at line 19: the processor was taken\nline 18: reason 3 at line 19: its group wasn't running when it became head\nline 21: reason 2 at line 21: still in the hardware queue\n"
-  pub none-accepted : whyAll (bytes "S,1\nA,9,1\n") ≡ []
+  pub none-accepted : why_all (bytes "S,1\nA,9,1\n") ≡ []

@@ -1,26 +1,26 @@
 -- "Who can cause a refusal" as a table: the number of each refusal, and when it is due. It is written from the paper with the paper's own
 -- numbers, and not from Refusal: DemandOne says that the two agree. Assumes nothing.
 use Rattle.std.specs.Prelude.{ℕ, ◌+◌, ◌/◌, ◌≤◌, ◌<◌, ◌≡◌, ◌≢◌, ◌⊎◌, true, false, cond, List, [], ◌∷◌, eqb, length}
-use Rattle.rules.specs.Node.{Message, Node, group_of, inQueue, line}
-use Rattle.rules.specs.Operation.{peek, dispose, endAtomic, describe, launch}
+use Rattle.rules.specs.Node.{Message, Node, group_of, in_queue, line}
+use Rattle.rules.specs.Operation.{peek, dispose, end_atomic, describe, launch}
 use Rattle.rules.specs.Operation.{Request, Operation, arrive, schedule, dispatch, tick, user, unknown}
-use Rattle.rules.specs.MemoryTest.{isMemory}
+use Rattle.rules.specs.MemoryTest.{is_memory}
 
 -- "(h + n + k) / 8 rounded up", with k the messages of group g in the hardware queue once one more has arrived for group a
-unfoldable pub pledgeWith : Node → ℕ → ℕ → ℕ
-pledgeWith n a g =
-    ((group_of n g).buffer.used + (group_of n g).buffer.count + (length (inQueue n g) + cond (eqb a g) 1 0) + 7) / 8
+unfoldable pub pledge_with : Node → ℕ → ℕ → ℕ
+pledge_with n a g =
+    ((group_of n g).buffer.used + (group_of n g).buffer.count + (length (in_queue n g) + cond (eqb a g) 1 0) + 7) / 8
 
 -- the pledges of the eight groups
-unfoldable pub pledgesWith : Node → ℕ → ℕ
-pledgesWith n a =
-    pledgeWith n a 1 + pledgeWith n a 2 + pledgeWith n a 3 + pledgeWith n a 4 + pledgeWith n a 5 + pledgeWith n a 6 + pledgeWith n a 7
-    + pledgeWith n a 8
+unfoldable pub pledges_with : Node → ℕ → ℕ
+pledges_with n a =
+    pledge_with n a 1 + pledge_with n a 2 + pledge_with n a 3 + pledge_with n a 4 + pledge_with n a 5 + pledge_with n a 6 + pledge_with n a 7
+    + pledge_with n a 8
 
 -- the table: which operation is due which refusal, by its number, on memory m that holds node n
 pub data Due (m : List ℕ) (n : Node) : Operation → ℕ → Type 0 where
   -- "1: memory too short, or not a node."
-  not-node : {op : Operation} → isMemory m ≡ false → Due m n op 1
+  not-node : {op : Operation} → is_memory m ≡ false → Due m n op 1
   -- "2: unknown operation or unreadable line."
   unreadable : Due m n unknown 2
   -- "3: group not 1 to 8."
@@ -30,7 +30,7 @@ pub data Due (m : List ℕ) (n : Node) : Operation → ℕ → Type 0 where
   -- "5: 16 messages already in the hardware queue."
   queue-full : {g : ℕ} {ws : List ℕ} → length n.queue ≡ 16 → Due m n (arrive g ws) 5
   -- "6: with this message the pledges would sum to above 32."; "Answer 6 .. now read[s] 96 for 32"
-  no_frames : {g : ℕ} {ws : List ℕ} → 96 < pledgesWith n g → Due m n (arrive g ws) 6
+  no-frames : {g : ℕ} {ws : List ℕ} → 96 < pledges_with n g → Due m n (arrive g ws) 6
   -- "7: nobody runs"
   nobody-runs : {r : Request} → n.running ≡ 0 → Due m n (user r) 7
   -- "8: D or E with an empty line."
@@ -42,7 +42,7 @@ pub data Due (m : List ℕ) (n : Node) : Operation → ℕ → Type 0 where
       → length first.words ≤ i
       → Due m n (user (peek i)) 9
   -- "10: N while pending."
-  still-pending : (group_of n n.running).pending ≡ true → Due m n (user endAtomic) 10
+  still-pending : (group_of n n.running).pending ≡ true → Due m n (user end_atomic) 10
   -- "11: P with 8 words in the descriptor."
   descriptor-full : {w : ℕ} → length (group_of n n.running).descriptor ≡ 8 → Due m n (user (describe w)) 11
   -- "12: L with an empty descriptor; 13, after it: node above 63."

@@ -3,19 +3,19 @@
 -- queue has left it once p timeouts' ticks have followed. Assumes nothing.
 use Rattle.std.specs.Prelude.{ℕ, ◌+◌, ◌*◌, ◌≤◌, ◌≡◌, true, List, [], ◌∷◌, ◌++◌, length, drop}
 use Rattle.rules.specs.Lists.{filter}
-use Rattle.rules.specs.Build.{Build, Sensible, paper01, groupCount}
+use Rattle.rules.specs.Build.{Build, Sensible, paper01, group_count}
 use Rattle.rules.specs.Node.{Message, is_of, line}
 use Rattle.rules.specs.Valid.{Valid}
-use Rattle.rules.specs.Memory.{size, nodeAt}
-use Rattle.rules.specs.MemoryTest.{isMemory}
-use Rattle.rules.specs.Run.{Input, Event, run, runMemory, arrived, arrivals, answersOf, upcallsOf, disposals, left, ticked, listen}
+use Rattle.rules.specs.Memory.{size, node_at}
+use Rattle.rules.specs.MemoryTest.{is_memory}
+use Rattle.rules.specs.Run.{Input, Event, run, run_memory, arrived, arrivals, answers_of, upcalls_of, disposals, left, ticked, listen}
 
 -- what holds of group g after a run of which es was seen, where own is its line, queue the hardware queue, and timeout a timeout's ticks
 pub record Delivered (timeout : ℕ) (g : ℕ) (es : List Event) (own queue : List Message) : Type 0 where
   -- "its answers, in order, equal the private line's"
-  pub answers : answersOf g es ≡ (listen g es).answers
+  pub answers : answers_of g es ≡ (listen g es).answers
   -- "a report names it for an upcall exactly at the steps where the private line has one"
-  pub upcalls : upcallsOf g es ≡ (listen g es).upcalls
+  pub upcalls : upcalls_of g es ≡ (listen g es).upcalls
   -- "its line in memory equals the private line's list, groups, words and order"
   pub line-private : own ≡ (listen g es).line.messages
   -- "and that is its accepted messages without as many from the front as it had accepted D"
@@ -36,17 +36,17 @@ pub record OverNodes (b : Build) (is : List Input) : Type 0 where
   pub stays-node : Valid b (run b is).node
   pub delivered : (g : ℕ)
       → 1 ≤ g
-      → g ≤ groupCount
+      → g ≤ group_count
       → Delivered b.timeout g (run b is).events (line (run b is).node g) (run b is).node.queue
 
 -- over memory at paper 01's sizes: the memory stays a node, nothing past its size is touched, and each group has the same
 pub record OverMemory (m : List ℕ) (is : List Input) : Type 0 where
-  pub stays-node : isMemory (runMemory m is).memory ≡ true
-  pub rest-kept : drop size (runMemory m is).memory ≡ drop size m
+  pub stays-node : is_memory (run_memory m is).memory ≡ true
+  pub rest-kept : drop size (run_memory m is).memory ≡ drop size m
   pub delivered : (g : ℕ)
       → 1 ≤ g
-      → g ≤ groupCount
-      → Delivered paper01.timeout g (runMemory m is).events (line (nodeAt (runMemory m is).memory) g) (nodeAt (runMemory m is).memory).queue
+      → g ≤ group_count
+      → Delivered paper01.timeout g (run_memory m is).events (line (node_at (run_memory m is).memory) g) (node_at (run_memory m is).memory).queue
 
 -- the whole of demand 3: over nodes, for every build that makes sense; over memory, from any lent words long enough
 pub record DemandThree : Type 0 where

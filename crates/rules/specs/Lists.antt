@@ -28,9 +28,9 @@ module _ {A : Type 0} where
   is_empty (x ∷ xs) = false
 
   -- the lists that f gives, joined
-  abbrev pub concatMap : {B : Type 0} → (A → List B) → List A → List B
-  concatMap f [] = []
-  concatMap f (x ∷ xs) = f x ++ concatMap f xs
+  abbrev pub concat_map : {B : Type 0} → (A → List B) → List A → List B
+  concat_map f [] = []
+  concat_map f (x ∷ xs) = f x ++ concat_map f xs
 
 -- the sum of the numbers
 abbrev pub sum : List ℕ → ℕ

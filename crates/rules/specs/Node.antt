@@ -3,7 +3,7 @@
 -- says where a page is. Assumes nothing.
 use Rattle.std.specs.Prelude.{ℕ, pred, ◌+◌, Bool, false, not, ◌&&◌, ◌||◌, List, [], ◌++◌, map, ltb, eqb, length, take, drop, get_or, set, replicate}
 use Rattle.rules.specs.Lists.{filter, is_empty, up_from, pad}
-use Rattle.rules.specs.Build.{Build, groupCount, wordLimit}
+use Rattle.rules.specs.Build.{Build, group_count, word_limit}
 
 -- "A message has a group and 1 to 8 words of 32 bits."
 pub record Message : Type 0 where
@@ -59,68 +59,68 @@ pub record Node : Type 0 where
   pub groups : List Group
 
 -- "every queue, buffer, flag and descriptor is empty or off, all message words are 0": an empty place
-abbrev pub emptyPlace : Place
-emptyPlace = record { len = 0; words = pad wordLimit [] }
+abbrev pub empty_place : Place
+empty_place = record { len = 0; words = pad word_limit [] }
 
 -- a page of them: a frame or swap page that no buffer holds is wiped
-unfoldable pub emptyPage : Build → List Place
-emptyPage b = replicate b.perFrame emptyPlace
+unfoldable pub empty_page : Build → List Place
+empty_page b = replicate b.per_frame empty_place
 
 -- a buffer with no message and no frame
-abbrev pub emptyBuffer : Buffer
-emptyBuffer = record { used = 0; count = 0; frames = []; places = [] }
+abbrev pub empty_buffer : Buffer
+empty_buffer = record { used = 0; count = 0; frames = []; places = [] }
 
 -- a group with nothing waiting, its flags off and its descriptor empty
-abbrev pub emptyGroup : Group
-emptyGroup = record { atomic = false; pending = false; force = false; revoked = false; buffer = emptyBuffer; descriptor = [] }
+abbrev pub empty_group : Group
+empty_group = record { atomic = false; pending = false; force = false; revoked = false; buffer = empty_buffer; descriptor = [] }
 
 -- no page is in a frame, none was sent out or brought in, and every swap page is free, the first in front
-unfoldable pub emptyPaging : Build → Paging
-emptyPaging b = record { swap = up_from b.frames b.swap; entered = []; out = 0; brought = 0 }
+unfoldable pub empty_paging : Build → Paging
+empty_paging b = record { swap = up_from b.frames b.swap; entered = []; out = 0; brought = 0 }
 
 -- "At power-on nobody runs"; "Free frames stand in a line, at power-on 0 to 31."
-unfoldable pub powerOn : Build → Node
-powerOn b =
+unfoldable pub power_on : Build → Node
+power_on b =
     record {
       running = 0;
       timer = 0;
       queue = [];
       free = up_from 0 b.frames;
-      paging = emptyPaging b;
-      groups = replicate groupCount emptyGroup;
+      paging = empty_paging b;
+      groups = replicate group_count empty_group;
     }
 
 -- the group of that number
 unfoldable pub group_of : Node → ℕ → Group
-group_of n g = get_or n.groups (pred g) emptyGroup
+group_of n g = get_or n.groups (pred g) empty_group
 
 -- the node with this running group
-unfoldable pub withRunning : ℕ → Node → Node
-withRunning g n = record { running = g; timer = n.timer; queue = n.queue; free = n.free; paging = n.paging; groups = n.groups }
+unfoldable pub with_running : ℕ → Node → Node
+with_running g n = record { running = g; timer = n.timer; queue = n.queue; free = n.free; paging = n.paging; groups = n.groups }
 
 -- with this timer
-unfoldable pub withTimer : ℕ → Node → Node
-withTimer t n = record { running = n.running; timer = t; queue = n.queue; free = n.free; paging = n.paging; groups = n.groups }
+unfoldable pub with_timer : ℕ → Node → Node
+with_timer t n = record { running = n.running; timer = t; queue = n.queue; free = n.free; paging = n.paging; groups = n.groups }
 
 -- with this hardware queue
-unfoldable pub withQueue : List Message → Node → Node
-withQueue q n = record { running = n.running; timer = n.timer; queue = q; free = n.free; paging = n.paging; groups = n.groups }
+unfoldable pub with_queue : List Message → Node → Node
+with_queue q n = record { running = n.running; timer = n.timer; queue = q; free = n.free; paging = n.paging; groups = n.groups }
 
 -- with this free line
-unfoldable pub withFree : List ℕ → Node → Node
-withFree fs n = record { running = n.running; timer = n.timer; queue = n.queue; free = fs; paging = n.paging; groups = n.groups }
+unfoldable pub with_free : List ℕ → Node → Node
+with_free fs n = record { running = n.running; timer = n.timer; queue = n.queue; free = fs; paging = n.paging; groups = n.groups }
 
 -- with this paging
-unfoldable pub withPaging : Paging → Node → Node
-withPaging s n = record { running = n.running; timer = n.timer; queue = n.queue; free = n.free; paging = s; groups = n.groups }
+unfoldable pub with_paging : Paging → Node → Node
+with_paging s n = record { running = n.running; timer = n.timer; queue = n.queue; free = n.free; paging = s; groups = n.groups }
 
 -- with these groups
-unfoldable pub withGroups : List Group → Node → Node
-withGroups Gs n = record { running = n.running; timer = n.timer; queue = n.queue; free = n.free; paging = n.paging; groups = Gs }
+unfoldable pub with_groups : List Group → Node → Node
+with_groups Gs n = record { running = n.running; timer = n.timer; queue = n.queue; free = n.free; paging = n.paging; groups = Gs }
 
 -- with this group under number g
-unfoldable pub withGroup : ℕ → Group → Node → Node
-withGroup g G n =
+unfoldable pub with_group : ℕ → Group → Node → Node
+with_group g G n =
     record {
       running = n.running;
       timer = n.timer;
@@ -131,8 +131,8 @@ withGroup g G n =
     }
 
 -- the paging with this order of entry
-unfoldable pub withEntered : List ℕ → Paging → Paging
-withEntered es s = record { swap = s.swap; entered = es; out = s.out; brought = s.brought }
+unfoldable pub with_entered : List ℕ → Paging → Paging
+with_entered es s = record { swap = s.swap; entered = es; out = s.out; brought = s.brought }
 
 -- the group with these of the flags atomic and pending
 unfoldable pub with_flags : Bool → Bool → Group → Group
@@ -140,27 +140,27 @@ with_flags a p G =
     record { atomic = a; pending = p; force = G.force; revoked = G.revoked; buffer = G.buffer; descriptor = G.descriptor }
 
 -- with these of the timer's flags, force and revoked
-unfoldable pub withTimerFlags : Bool → Bool → Group → Group
-withTimerFlags f r G =
+unfoldable pub with_timer_flags : Bool → Bool → Group → Group
+with_timer_flags f r G =
     record { atomic = G.atomic; pending = G.pending; force = f; revoked = r; buffer = G.buffer; descriptor = G.descriptor }
 
 -- with this buffer
-unfoldable pub withBuffer : Buffer → Group → Group
-withBuffer v G =
+unfoldable pub with_buffer : Buffer → Group → Group
+with_buffer v G =
     record { atomic = G.atomic; pending = G.pending; force = G.force; revoked = G.revoked; buffer = v; descriptor = G.descriptor }
 
 -- with this descriptor
-unfoldable pub withDescriptor : List ℕ → Group → Group
-withDescriptor d G =
+unfoldable pub with_descriptor : List ℕ → Group → Group
+with_descriptor d G =
     record { atomic = G.atomic; pending = G.pending; force = G.force; revoked = G.revoked; buffer = G.buffer; descriptor = d }
 
 -- messages of group g wait in its buffer: "n is above 0"
-unfoldable pub bufferHolds : Node → ℕ → Bool
-bufferHolds n g = ltb 0 (group_of n g).buffer.count
+unfoldable pub buffer_holds : Node → ℕ → Bool
+buffer_holds n g = ltb 0 (group_of n g).buffer.count
 
 -- "A group is buffered while n is above 0, else direct."; a revoked one "counts as buffered, empty or not"
 unfoldable pub buffered : Node → ℕ → Bool
-buffered n g = bufferHolds n g || (group_of n g).revoked
+buffered n g = buffer_holds n g || (group_of n g).revoked
 
 -- "With force on and the group running and atomic"
 unfoldable pub forced : Node → Bool
@@ -168,16 +168,16 @@ forced n = not (eqb n.running 0) && ((group_of n n.running).force && (group_of n
 
 -- what makes a tick count: "A tick adds 1 to the timer if the hardware queue isn't empty."; with the timer forced "ticks count with an empty
 -- queue too"
-unfoldable pub timerRuns : Node → Bool
-timerRuns n = not (is_empty n.queue) || forced n
+unfoldable pub timer_runs : Node → Bool
+timer_runs n = not (is_empty n.queue) || forced n
 
 -- a message as it is kept in a place: its length, its words, 0 past them
 unfoldable pub place_of : Message → Place
-place_of m = record { len = length m.words; words = pad wordLimit m.words }
+place_of m = record { len = length m.words; words = pad word_limit m.words }
 
 -- and back, as a message of group g
-unfoldable pub messageOf : ℕ → Place → Message
-messageOf g p = record { group = g; words = take p.len p.words }
+unfoldable pub message_of : ℕ → Place → Message
+message_of g p = record { group = g; words = take p.len p.words }
 
 -- the places of a buffer's waiting messages: n of them behind the h used-up ones
 unfoldable pub waiting : Buffer → List Place
@@ -188,17 +188,17 @@ unfoldable pub unused : Buffer → List Place
 unused v = take v.used v.places ++ drop (v.used + v.count) v.places
 
 -- the messages of group g in its buffer
-unfoldable pub inBuffer : Node → ℕ → List Message
-inBuffer n g = map (messageOf g) (waiting (group_of n g).buffer)
+unfoldable pub in_buffer : Node → ℕ → List Message
+in_buffer n g = map (message_of g) (waiting (group_of n g).buffer)
 
 -- the message is of group g
 unfoldable pub is_of : ℕ → Message → Bool
 is_of g m = eqb m.group g
 
 -- "its messages in the hardware queue"
-unfoldable pub inQueue : Node → ℕ → List Message
-inQueue n g = filter (is_of g) n.queue
+unfoldable pub in_queue : Node → ℕ → List Message
+in_queue n g = filter (is_of g) n.queue
 
 -- "Its line is its buffer, then its messages in the hardware queue."
 unfoldable pub line : Node → ℕ → List Message
-line n g = inBuffer n g ++ inQueue n g
+line n g = in_buffer n g ++ in_queue n g

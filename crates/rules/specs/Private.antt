@@ -2,11 +2,11 @@
 -- not from the node. Assumes nothing.
 use Rattle.std.specs.Prelude.{ℕ, Bool, true, false, cond, not, ◌&&◌, List, [], ◌∷◌, ◌++◌, eqb, leb, ltb, length, get_or}
 use Rattle.rules.specs.Lists.{is_empty}
-use Rattle.rules.specs.Build.{wordLimit, lastNode}
+use Rattle.rules.specs.Build.{word_limit, last_node}
 use Rattle.rules.specs.Node.{Message}
-use Rattle.rules.specs.Operation.{Request, poll, peek, dispose, beginAtomic, endAtomic, describe, launch}
+use Rattle.rules.specs.Operation.{Request, poll, peek, dispose, begin_atomic, end_atomic, describe, launch}
 use Rattle.rules.specs.Operation.{Operation, arrive, schedule, preempt, dispatch, tick, turn, user, unknown}
-use Rattle.rules.specs.Operation.{accepted, noMessage, pastMessage, stillPending, descriptorFull, descriptorEmpty, badNode}
+use Rattle.rules.specs.Operation.{accepted, no_message, past_message, still_pending, descriptor_full, descriptor_empty, bad_node}
 
 -- "It keeps: having the processor, atomic, pending, a list of messages and a descriptor"
 pub record PrivateLine : Type 0 where
@@ -17,8 +17,8 @@ pub record PrivateLine : Type 0 where
   pub descriptor : List ℕ
 
 -- "at first all off or empty"
-unfoldable pub atFirst : PrivateLine
-atFirst = record { has = false; atomic = false; pending = false; messages = []; descriptor = [] }
+unfoldable pub at_first : PrivateLine
+at_first = record { has = false; atomic = false; pending = false; messages = []; descriptor = [] }
 
 -- what a private line may be told of a step, and nothing else
 pub data Told : Type 0 where
@@ -68,63 +68,63 @@ unfoldable pub unchanged : Answer → PrivateLine → Served
 unchanged a p = record { answer = a; line = p }
 
 -- "M: value the words in the first message, 0 if none."
-unfoldable pub ownPoll : List Message → Answer
-ownPoll [] = says 0
-ownPoll (m ∷ ms) = says (length m.words)
+unfoldable pub own_poll : List Message → Answer
+own_poll [] = says 0
+own_poll (m ∷ ms) = says (length m.words)
 
 -- "E, i: 8 if the list is empty, 9 if i is not below the first message's length, else value its word i."
-unfoldable pub ownPeek : List Message → ℕ → Answer
-ownPeek [] i = refuses noMessage
-ownPeek (m ∷ ms) i = cond (ltb i (length m.words)) (says (get_or m.words i 0)) (refuses pastMessage)
+unfoldable pub own_peek : List Message → ℕ → Answer
+own_peek [] i = refuses no_message
+own_peek (m ∷ ms) i = cond (ltb i (length m.words)) (says (get_or m.words i 0)) (refuses past_message)
 
 -- "D: 8 if the list is empty, else the first goes and pending is off."
-unfoldable pub ownDispose : List Message → PrivateLine → Served
-ownDispose [] p = unchanged (refuses noMessage) p
-ownDispose (m ∷ ms) p =
+unfoldable pub own_dispose : List Message → PrivateLine → Served
+own_dispose [] p = unchanged (refuses no_message) p
+own_dispose (m ∷ ms) p =
     record {
       answer = says 0;
       line = record { has = p.has; atomic = p.atomic; pending = false; messages = ms; descriptor = p.descriptor };
     }
 
 -- the line with this flag
-unfoldable pub withAtomic : Bool → PrivateLine → PrivateLine
-withAtomic a p = record { has = p.has; atomic = a; pending = p.pending; messages = p.messages; descriptor = p.descriptor }
+unfoldable pub with_atomic : Bool → PrivateLine → PrivateLine
+with_atomic a p = record { has = p.has; atomic = a; pending = p.pending; messages = p.messages; descriptor = p.descriptor }
 
 -- the line with this descriptor
-unfoldable pub withOwnDescriptor : List ℕ → PrivateLine → PrivateLine
-withOwnDescriptor d p = record { has = p.has; atomic = p.atomic; pending = p.pending; messages = p.messages; descriptor = d }
+unfoldable pub with_own_descriptor : List ℕ → PrivateLine → PrivateLine
+with_own_descriptor d p = record { has = p.has; atomic = p.atomic; pending = p.pending; messages = p.messages; descriptor = d }
 
 -- "N: 10 while pending, else atomic off."
-unfoldable pub ownEnd : PrivateLine → Served
-ownEnd p = cond p.pending (unchanged (refuses stillPending) p) (record { answer = says 0; line = withAtomic false p })
+unfoldable pub own_end : PrivateLine → Served
+own_end p = cond p.pending (unchanged (refuses still_pending) p) (record { answer = says 0; line = with_atomic false p })
 
 -- "P: 11 at 8 words, else the word joins; value the new length."
-unfoldable pub ownDescribe : PrivateLine → ℕ → Served
-ownDescribe p w =
+unfoldable pub own_describe : PrivateLine → ℕ → Served
+own_describe p w =
     let d = p.descriptor ++ (w ∷ []) in
-    cond (leb wordLimit (length p.descriptor)) (unchanged (refuses descriptorFull) p)
-    (record { answer = says (length d); line = withOwnDescriptor d p })
+    cond (leb word_limit (length p.descriptor)) (unchanged (refuses descriptor_full) p)
+    (record { answer = says (length d); line = with_own_descriptor d p })
 
 -- "L: 12 with an empty descriptor, 13 for a node above 63, else it sends node, g and the words; value their count; the descriptor is then
 -- empty."
-unfoldable pub ownLaunch : ℕ → List ℕ → PrivateLine → ℕ → Served
-ownLaunch g [] p k = unchanged (refuses descriptorEmpty) p
-ownLaunch g (w ∷ d) p k =
-    cond (ltb lastNode k) (unchanged (refuses badNode) p)
+unfoldable pub own_launch : ℕ → List ℕ → PrivateLine → ℕ → Served
+own_launch g [] p k = unchanged (refuses descriptor_empty) p
+own_launch g (w ∷ d) p k =
+    cond (ltb last_node k) (unchanged (refuses bad_node) p)
     (record {
       answer = record { number = accepted; value = length (w ∷ d); sent = k ∷ g ∷ w ∷ d };
-      line = withOwnDescriptor [] p;
+      line = with_own_descriptor [] p;
     })
 
 -- M to L; B is heard alike with and without force
 unfoldable pub own : ℕ → PrivateLine → Request → Served
-own g p poll = unchanged (ownPoll p.messages) p
-own g p (peek i) = unchanged (ownPeek p.messages i) p
-own g p dispose = ownDispose p.messages p
-own g p (beginAtomic force) = unchanged (says 0) (withAtomic true p)
-own g p endAtomic = ownEnd p
-own g p (describe w) = ownDescribe p w
-own g p (launch k) = ownLaunch g p.descriptor p k
+own g p poll = unchanged (own_poll p.messages) p
+own g p (peek i) = unchanged (own_peek p.messages i) p
+own g p dispose = own_dispose p.messages p
+own g p (begin_atomic force) = unchanged (says 0) (with_atomic true p)
+own g p end_atomic = own_end p
+own g p (describe w) = own_describe p w
+own g p (launch k) = own_launch g p.descriptor p k
 
 -- what a step is to a private line: its answers, none or one, whether it has an upcall, and the line after it
 pub record Heard : Type 0 where
@@ -133,19 +133,19 @@ pub record Heard : Type 0 where
   pub line : PrivateLine
 
 -- "if g has the processor, isn't atomic and its list isn't empty, atomic and pending go on: an upcall"
-unfoldable pub isCalled : PrivateLine → Bool
-isCalled p = p.has && (not p.atomic && not (is_empty p.messages))
+unfoldable pub is_called : PrivateLine → Bool
+is_called p = p.has && (not p.atomic && not (is_empty p.messages))
 
 -- the line after the upcall rule
 unfoldable pub called : PrivateLine → PrivateLine
 called p =
-    cond (isCalled p)
+    cond (is_called p)
     (record { has = p.has; atomic = true; pending = true; messages = p.messages; descriptor = p.descriptor })
     p
 
 -- "After each accepted one above"
 unfoldable pub afterwards : List Answer → PrivateLine → Heard
-afterwards xs p = record { answers = xs; upcall = isCalled p; line = called p }
+afterwards xs p = record { answers = xs; upcall = is_called p; line = called p }
 
 -- "A refused operation changes nothing."
 unfoldable pub answered : Served → Heard
@@ -169,12 +169,12 @@ joined g ws p =
     }
 
 -- "An accepted S: g has the processor exactly if S names g."
-unfoldable pub withHas : Bool → PrivateLine → PrivateLine
-withHas h p = record { has = h; atomic = p.atomic; pending = p.pending; messages = p.messages; descriptor = p.descriptor }
+unfoldable pub with_has : Bool → PrivateLine → PrivateLine
+with_has h p = record { has = h; atomic = p.atomic; pending = p.pending; messages = p.messages; descriptor = p.descriptor }
 
 -- one step of the private line of group g; "While g has it, M to L are g's own."
 unfoldable pub hear : ℕ → PrivateLine → Told → Heard
 hear g p (message ws) = afterwards [] (joined g ws p)
-hear g p (processor h) = afterwards [] (withHas h p)
+hear g p (processor h) = afterwards [] (with_has h p)
 hear g p (request r) = cond p.has (answered (own g p r)) (unheard p)
 hear g p nothing = unheard p

@@ -4,14 +4,14 @@
 use Rattle.std.specs.Prelude.{ℕ, ◌+◌, ◌*◌, ◌≤◌, ◌<◌, ◌≡◌, ◌↔◌, true, List, length, get_or}
 use Rattle.rules.specs.Build.{paper01}
 use Rattle.rules.specs.Operation.{peek, user, Report}
-use Rattle.rules.specs.Memory.{running_at, queueAt, placeStride, word, frameAddress}
-use Rattle.rules.specs.MemoryTest.{isMemory, stepMemory, Part, headPart, headWords}
+use Rattle.rules.specs.Memory.{running_at, queue_at, place_stride, word, frame_address}
+use Rattle.rules.specs.MemoryTest.{is_memory, step_memory, Part, head_part, head_words}
 
 -- "from queue place or frame place": the part begins behind the group and the length that are kept at the queue's first place, or behind the
 -- length that is kept at a place of a frame. A swap page is not among them.
 pub data InPlace (p : Part) : Type 0 where
-  in-queue : p.start ≡ queueAt + 2 → InPlace p
-  in_frame : (f place : ℕ) → f < paper01.frames → place < paper01.perFrame → p.start ≡ frameAddress f + placeStride * place + 1 → InPlace p
+  in-queue : p.start ≡ queue_at + 2 → InPlace p
+  in-frame : (f place : ℕ) → f < paper01.frames → place < paper01.per_frame → p.start ≡ frame_address f + place_stride * place + 1 → InPlace p
 
 -- what E with i answers on memory m, and with which value, where the head call on the same memory shows part p, and hands back the words ws
 pub record Reads (m : List ℕ) (i answer value : ℕ) (p : Part) (ws : List ℕ) : Type 0 where
@@ -26,15 +26,15 @@ pub record Reads (m : List ℕ) (i answer value : ℕ) (p : Part) (ws : List ℕ
   -- "9: E with i not below the message's length.": exactly an i not below the length of a part that is not empty
   pub past-message : (answer ≡ 9) ↔ ((1 ≤ p.len) × (p.len ≤ i))
   -- "8: D or E with an empty line.": exactly an empty part while a group of a node runs
-  pub no-message : (answer ≡ 8) ↔ ((isMemory m ≡ true) × ((1 ≤ word m running_at) × (p.len ≡ 0)))
+  pub no-message : (answer ≡ 8) ↔ ((is_memory m ≡ true) × ((1 ≤ word m running_at) × (p.len ≡ 0)))
 
 -- what E with i reports on memory m
 abbrev pub peeked : List ℕ → ℕ → Report
-peeked m i = (stepMemory m (user (peek i))).report
+peeked m i = (step_memory m (user (peek i))).report
 
 -- the same of the rules' own step and head call
 abbrev pub AnyPeek : List ℕ → ℕ → Type 0
-AnyPeek m i = Reads m i (peeked m i).answer (peeked m i).value (headPart m) (headWords m)
+AnyPeek m i = Reads m i (peeked m i).answer (peeked m i).value (head_part m) (head_words m)
 
 -- on any memory, with any i
 pub record Reading : Type 0 where

@@ -1,15 +1,15 @@
 -- What each accepted operation does, and a step: refused, or acted, settled and called up. Assumes nothing.
 use Rattle.std.specs.Prelude.{ℕ, zero, suc, ◌+◌, Bool, true, false, cond, ◌||◌, List, [], ◌∷◌, ◌++◌, eqb, length, get_or}
 use Rattle.rules.specs.Build.{Build}
-use Rattle.rules.specs.Node.{Message, Node, group_of, withRunning, withTimer, withQueue, withGroup, with_flags, withTimerFlags, withDescriptor, bufferHolds, buffered, timerRuns, is_of, line}
-use Rattle.rules.specs.Frames.{removeFirst, withStock}
-use Rattle.rules.specs.Paging.{runnerResident}
-use Rattle.rules.specs.Operation.{Request, poll, peek, dispose, beginAtomic, endAtomic, describe, launch}
+use Rattle.rules.specs.Node.{Message, Node, group_of, with_running, with_timer, with_queue, with_group, with_flags, with_timer_flags, with_descriptor, buffer_holds, buffered, timer_runs, is_of, line}
+use Rattle.rules.specs.Frames.{remove_first, with_stock}
+use Rattle.rules.specs.Paging.{runner_resident}
+use Rattle.rules.specs.Operation.{Request, poll, peek, dispose, begin_atomic, end_atomic, describe, launch}
 use Rattle.rules.specs.Operation.{Operation, arrive, schedule, preempt, dispatch, tick, turn, user, unknown}
-use Rattle.rules.specs.Operation.{Report, accepted, noTrap, disposeExtend, atomicityExtend, timeoutTrap, refused, allZero}
+use Rattle.rules.specs.Operation.{Report, accepted, no_trap, dispose_extend, atomicity_extend, timeout_trap, refused, all_zero}
 use Rattle.rules.specs.Refusal.{refusal, queued}
-use Rattle.rules.specs.Settling.{settle, drain, upcall, upcallGroup}
-use Rattle.rules.specs.Turn.{whoseTurn}
+use Rattle.rules.specs.Settling.{settle, drain, upcall, upcall_group}
+use Rattle.rules.specs.Turn.{whose_turn}
 
 -- what an accepted operation does before settling: the node, and its part of the report
 pub record Effect : Type 0 where
@@ -21,27 +21,27 @@ pub record Effect : Type 0 where
 
 -- "Value is 0 where none is named."
 unfoldable pub valued : ℕ → Node → Effect
-valued x n = record { node = n; value = x; trap = noTrap; moved = 0; sent = [] }
+valued x n = record { node = n; value = x; trap = no_trap; moved = 0; sent = [] }
 
 -- O "takes [the processor] from whoever runs"; "O zeroes the timer."; "with nobody running, it changes nothing": the timer is then 0
 unfoldable pub preempted : Node → Node
-preempted n = withTimer 0 (withRunning 0 n)
+preempted n = with_timer 0 (with_running 0 n)
 
 -- the running group's flags force and revoked set
-unfoldable pub timerFlagged : Bool → Bool → Node → Node
-timerFlagged f r n = withGroup n.running (withTimerFlags f r (group_of n n.running)) n
+unfoldable pub timer_flagged : Bool → Bool → Node → Node
+timer_flagged f r n = with_group n.running (with_timer_flags f r (group_of n n.running)) n
 
 -- "At any timeout the running group is marked revoked": where a tick counts, a group runs
 unfoldable pub revoke : Node → Node
-revoke n = timerFlagged (group_of n n.running).force true n
+revoke n = timer_flagged (group_of n n.running).force true n
 
 -- "At 256: timeout, the whole hardware queue moves to the buffers, timer 0"
-unfoldable pub timedOut : Build → Effect → Effect
-timedOut b e =
+unfoldable pub timed_out : Build → Effect → Effect
+timed_out b e =
     record {
-      node = withTimer 0 (revoke (drain b e.node.queue e.node));
+      node = with_timer 0 (revoke (drain b e.node.queue e.node));
       value = e.value;
-      trap = timeoutTrap;
+      trap = timeout_trap;
       moved = e.moved + length e.node.queue;
       sent = e.sent;
     }
@@ -50,7 +50,7 @@ timedOut b e =
 unfoldable pub counted : Effect → Effect
 counted e =
     record {
-      node = withTimer (e.node.timer + 1) e.node;
+      node = with_timer (e.node.timer + 1) e.node;
       value = e.value;
       trap = e.trap;
       moved = e.moved;
@@ -58,18 +58,18 @@ counted e =
     }
 
 -- a tick counts where the timer runs, and is else nothing
-unfoldable pub oneTick : Build → Effect → Effect
-oneTick b e = cond (timerRuns e.node) (cond (eqb (e.node.timer + 1) b.timeout) (timedOut b e) (counted e)) e
+unfoldable pub one_tick : Build → Effect → Effect
+one_tick b e = cond (timer_runs e.node) (cond (eqb (e.node.timer + 1) b.timeout) (timed_out b e) (counted e)) e
 
 -- T: "n single ticks"
 unfoldable pub ticks : Build → ℕ → Effect → Effect
 ticks b zero e = e
-ticks b (suc k) e = ticks b k (oneTick b e)
+ticks b (suc k) e = ticks b k (one_tick b e)
 
 -- M: "words in the line's first message, 0 if none"
-unfoldable pub firstLength : List Message → ℕ
-firstLength [] = 0
-firstLength (m ∷ ms) = length m.words
+unfoldable pub first_length : List Message → ℕ
+first_length [] = 0
+first_length (m ∷ ms) = length m.words
 
 -- E: "word i of that message, from 0"
 unfoldable pub first_word : List Message → ℕ → ℕ
@@ -77,56 +77,56 @@ first_word [] i = 0
 first_word (m ∷ ms) i = get_or m.words i 0
 
 -- the queue without the first message of group g
-unfoldable pub withoutFirst : ℕ → List Message → List Message
-withoutFirst g [] = []
-withoutFirst g (m ∷ q) = elim (is_of g m) [ true ↦ q | false ↦ m ∷ withoutFirst g q ]
+unfoldable pub without_first : ℕ → List Message → List Message
+without_first g [] = []
+without_first g (m ∷ q) = elim (is_of g m) [ true ↦ q | false ↦ m ∷ without_first g q ]
 
 -- D: "removes that message"; it is in the buffer where that holds one, else in the hardware queue
 unfoldable pub removed : Build → Node → Node
 removed b n =
-    cond (bufferHolds n n.running)
-    (withStock n.running (removeFirst b n.free n.paging.entered (group_of n n.running).buffer) n)
-    (withQueue (withoutFirst n.running n.queue) n)
+    cond (buffer_holds n n.running)
+    (with_stock n.running (remove_first b n.free n.paging.entered (group_of n n.running).buffer) n)
+    (with_queue (without_first n.running n.queue) n)
 
 -- the running group's flags changed
 unfoldable pub flagged : Bool → Bool → Node → Node
-flagged a p n = withGroup n.running (with_flags a p (group_of n n.running)) n
+flagged a p n = with_group n.running (with_flags a p (group_of n n.running)) n
 
 -- D: "pending off; timer 0"
 unfoldable pub disposed : Build → Node → Node
-disposed b n = withTimer 0 (flagged (group_of n n.running).atomic false (removed b n))
+disposed b n = with_timer 0 (flagged (group_of n n.running).atomic false (removed b n))
 
 -- B: "atomic on. Not counted"; "`B,1` turns force on, `B,0` and plain `B` leave it"
-unfoldable pub sectionBegun : Bool → Node → Node
-sectionBegun force n =
+unfoldable pub section_begun : Bool → Node → Node
+section_begun force n =
     let G = group_of n n.running in
-    timerFlagged (force || G.force) G.revoked (flagged true G.pending n)
+    timer_flagged (force || G.force) G.revoked (flagged true G.pending n)
 
 -- N: "atomic off"; "an accepted N turns [force] off", and a group is revoked "until its next accepted N"
-unfoldable pub sectionEnded : Node → Node
-sectionEnded n = flagged false (group_of n n.running).pending (timerFlagged false false n)
+unfoldable pub section_ended : Node → Node
+section_ended n = flagged false (group_of n n.running).pending (timer_flagged false false n)
 
 -- a trap that is reported where the running group is buffered as the operation begins
 unfoldable pub extending : ℕ → Node → Node → Effect
-extending t n after = record { node = after; value = 0; trap = cond (buffered n n.running) t noTrap; moved = 0; sent = [] }
+extending t n after = record { node = after; value = 0; trap = cond (buffered n n.running) t no_trap; moved = 0; sent = [] }
 
 -- the running group's descriptor replaced
 unfoldable pub described : List ℕ → Node → Node
-described d n = withGroup n.running (withDescriptor d (group_of n n.running)) n
+described d n = with_group n.running (with_descriptor d (group_of n n.running)) n
 
 -- L: "sends the descriptor to node 0 to 63, stamped with the running group; value: its length; empties it"
 unfoldable pub launched : ℕ → Node → Effect
 launched k n =
     let d = (group_of n n.running).descriptor in
-    record { node = described [] n; value = length d; trap = noTrap; moved = 0; sent = k ∷ n.running ∷ d }
+    record { node = described [] n; value = length d; trap = no_trap; moved = 0; sent = k ∷ n.running ∷ d }
 
 -- M to L, for the running group
 unfoldable pub serve : Build → Node → Request → Effect
-serve b n poll = valued (firstLength (line n n.running)) n
+serve b n poll = valued (first_length (line n n.running)) n
 serve b n (peek i) = valued (first_word (line n n.running) i) n
-serve b n dispose = extending disposeExtend n (disposed b n)
-serve b n (beginAtomic force) = valued 0 (sectionBegun force n)
-serve b n endAtomic = extending atomicityExtend n (sectionEnded n)
+serve b n dispose = extending dispose_extend n (disposed b n)
+serve b n (begin_atomic force) = valued 0 (section_begun force n)
+serve b n end_atomic = extending atomicity_extend n (section_ended n)
 serve b n (describe w) =
     let d = (group_of n n.running).descriptor ++ (w ∷ []) in
     valued (length d) (described d n)
@@ -137,11 +137,11 @@ unfoldable pub act : Build → Node → Operation → Effect
 act b n (arrive g ws) = valued 0 (queued (record { group = g; words = ws }) n)
 act b n preempt = valued 0 (preempted n)
 -- "`I,g` gives it to g"
-act b n (dispatch g) = valued 0 (withRunning g n)
+act b n (dispatch g) = valued 0 (with_running g n)
 act b n (schedule g) = valued 0 n
 act b n (tick k) = ticks b k (valued 0 n)
 -- "C changes nothing"
-act b n turn = valued (whoseTurn n) n
+act b n turn = valued (whose_turn n) n
 act b n (user r) = serve b n r
 act b n unknown = valued 0 n
 
@@ -154,14 +154,14 @@ pub record Stepped : Type 0 where
 unfoldable pub finish : Build → Effect → Stepped
 finish b e =
     let s = settle b e.node in
-    let n = runnerResident b s.node in
+    let n = runner_resident b s.node in
     record {
       report =
           record {
             answer = accepted;
             value = e.value;
             trap = e.trap;
-            upcall = upcallGroup n;
+            upcall = upcall_group n;
             moved = e.moved + s.moved;
             sent = e.sent;
           };
@@ -169,8 +169,8 @@ finish b e =
     }
 
 -- two steps in a row as one: the second's report, "with the moved counts summed"
-unfoldable pub inARow : Stepped → Stepped → Stepped
-inARow s t =
+unfoldable pub in_arow : Stepped → Stepped → Stepped
+in_arow s t =
     let r = t.report in
     record {
       report =
@@ -189,10 +189,10 @@ inARow s t =
 unfoldable pub switched : Build → Node → ℕ → Stepped
 switched b n g =
     elim (eqb g n.running) [
-      | true ↦ record { report = allZero; node = n }
+      | true ↦ record { report = all_zero; node = n }
       | false ↦
           let taken = finish b (act b n preempt) in
-          elim (eqb g 0) [ true ↦ taken | false ↦ inARow taken (finish b (act b taken.node (dispatch g))) ]
+          elim (eqb g 0) [ true ↦ taken | false ↦ in_arow taken (finish b (act b taken.node (dispatch g))) ]
     ]
 
 -- what an accepted operation does, whole: S is a line of two acts, every other operation one

@@ -9,36 +9,36 @@ bytes end = []
 bytes (c then s) = code c ∷ bytes s
 
 -- x in front of the first part
-unfoldable pub extendFirst : ℕ → List (List ℕ) → List (List ℕ)
-extendFirst x [] = (x ∷ []) ∷ []
-extendFirst x (p ∷ ps) = (x ∷ p) ∷ ps
+unfoldable pub extend_first : ℕ → List (List ℕ) → List (List ℕ)
+extend_first x [] = (x ∷ []) ∷ []
+extend_first x (p ∷ ps) = (x ∷ p) ∷ ps
 
 -- the parts of a text that the separator s parts: one more than there are separators
 unfoldable pub split : ℕ → List ℕ → List (List ℕ)
 split s [] = [] ∷ []
-split s (x ∷ xs) = elim (eqb x s) [ true ↦ [] ∷ split s xs | false ↦ extendFirst x (split s xs) ]
+split s (x ∷ xs) = elim (eqb x s) [ true ↦ [] ∷ split s xs | false ↦ extend_first x (split s xs) ]
 
 -- a decimal digit
-unfoldable pub isDigit : ℕ → Bool
-isDigit c = leb (code "0") c && leb c (code "9")
+unfoldable pub is_digit : ℕ → Bool
+is_digit c = leb (code "0") c && leb c (code "9")
 
 -- the number that decimal digits write, behind a number a already read
-unfoldable pub valueFrom : ℕ → List ℕ → ℕ
-valueFrom a [] = a
-valueFrom a (c ∷ cs) = valueFrom (a * 10 + (c - code "0")) cs
+unfoldable pub value_from : ℕ → List ℕ → ℕ
+value_from a [] = a
+value_from a (c ∷ cs) = value_from (a * 10 + (c - code "0")) cs
 
 -- the decimal digits of n, most significant first and no more than it takes, in front of a text; d bounds their count
-unfoldable pub decimalBefore : ℕ → ℕ → List ℕ → List ℕ
-decimalBefore zero n rest = rest
-decimalBefore (suc d) n rest =
+unfoldable pub decimal_before : ℕ → ℕ → List ℕ → List ℕ
+decimal_before zero n rest = rest
+decimal_before (suc d) n rest =
     elim (ltb n 10) [
       | true ↦ (code "0" + n) ∷ rest
-      | false ↦ decimalBefore d (n / 10) ((code "0" + n % 10) ∷ rest)
+      | false ↦ decimal_before d (n / 10) ((code "0" + n % 10) ∷ rest)
     ]
 
 -- the decimal digits of n
 unfoldable pub decimal : ℕ → List ℕ
-decimal n = decimalBefore (suc n) n []
+decimal n = decimal_before (suc n) n []
 
 -- decimal numbers parted by commas
 unfoldable pub row : List ℕ → List ℕ

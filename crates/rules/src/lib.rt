@@ -1,7 +1,7 @@
 // The types that the contracts of the node speak of.
 ghost use Rattle.std.specs.Prelude.{◌≡◌};
-ghost use Rattle.rules.specs.Operation.{acceptedWith, refused};
-ghost use Rattle.rules.specs.Types.{reportOf};
+ghost use Rattle.rules.specs.Operation.{accepted_with, refused};
+ghost use Rattle.rules.specs.Types.{report_of};
 
 // An operation of the table. The words of an arrival are lent beside it.
 #[derive(Drop)]
@@ -85,7 +85,7 @@ impl Report {
 
     // An accepted step that sends nothing.
     pub fn accepted(value: u32, trap: u32, upcall: u32, moved: u32) -> Report
-        ensures { result ≡ reportOf (acceptedWith value trap upcall moved) }
+        ensures { result ≡ report_of (accepted_with value trap upcall moved) }
     {
         let nothing = Sent {
             node: 0,
@@ -105,7 +105,7 @@ impl Report {
 
     // A refused step's number, and zeros.
     pub fn refused(answer: u32) -> Report
-        ensures { result ≡ reportOf (refused answer) }
+        ensures { result ≡ report_of (refused answer) }
     {
         let nothing = Sent {
             node: 0,

@@ -8,11 +8,11 @@ use lib.Dec.{eqb}
 use lib.ListN.{length, take}
 use lib.Seq.{take_all}
 use Rattle.rules.specs.Script.{newline}
-use Rattle.rules.specs.Text.{split, extendFirst}
-use Rattle.script.specs.Feeding.{whole, begun, allButLast, lastPart}
-use Rattle.script.specs.Read.{lineEnd, line_of, OneLine}
+use Rattle.rules.specs.Text.{split, extend_first}
+use Rattle.script.specs.Feeding.{whole, begun, all_but_last, last_part}
+use Rattle.script.specs.Read.{line_end, line_of, OneLine}
 use Rattle.script.proofs.read.LineEndLaws.{by-test}
-use Rattle.script.proofs.PortionLaws.{whole-newline, whole-other, joinLines}
+use Rattle.script.proofs.PortionLaws.{whole-newline, whole-other, join_lines}
 
 module _ (x : ℕ) (xs : List ℕ) where
   -- a newline ends it
@@ -63,7 +63,7 @@ one-begun (x ∷ xs) e =
     (λ q. absurd (let f = ap length (sym (whole-newline x xs q).0 ∙ e) in omega arith))
     (λ q. line_other x xs q ∙ ap (λ (l : List ℕ). x ∷ l) (one-begun xs (none (whole xs) (sym (whole-other x xs q).0 ∙ e))))
   where
-    none : (ls : List (List ℕ)) → joinLines x ls ≡ [] → ls ≡ []
+    none : (ls : List (List ℕ)) → join_lines x ls ≡ [] → ls ≡ []
     none [] q = refl
     none (l ∷ ls) q = absurd (let f = ap length q in omega arith)
 
@@ -77,8 +77,8 @@ line-front (x ∷ xs) =
     (λ q. rw (q, line_of) (ap (λ (ys : List ℕ). x ∷ ys) (line-front xs)))
 
 -- from its beginning it ends with its line
-pub end-first : (u : List ℕ) → lineEnd u 0 ≡ length (line_of u)
-unfolding lineEnd
+pub end-first : (u : List ℕ) → line_end u 0 ≡ length (line_of u)
+unfolding line_end
 end-first u = omega arith
 
 -- and is one where its line is as long
@@ -87,35 +87,35 @@ one-long u e = sym (line-front u) ∙ take_all (length (line_of u)) u (omega ari
 
 -- One line split at newlines: it is one part, and with a newline behind it the first.
 
-split-other : (x : ℕ) (xs : List ℕ) → eqb x newline ≡ false → split newline (x ∷ xs) ≡ extendFirst x (split newline xs)
+split-other : (x : ℕ) (xs : List ℕ) → eqb x newline ≡ false → split newline (x ∷ xs) ≡ extend_first x (split newline xs)
 unfolding split
 split-other x xs q = rw (q, split)
 
 pub one_split : (t : List ℕ) → OneLine t → split newline t ≡ t ∷ []
-unfolding split extendFirst
+unfolding split extend_first
 one_split [] one = refl
 one_split (x ∷ xs) one =
     let o = one-tail x xs one in
-    split-other x xs o.0 ∙ ap (extendFirst x) (one_split xs o.1)
+    split-other x xs o.0 ∙ ap (extend_first x) (one_split xs o.1)
 
 pub ended-split : (t r : List ℕ) → OneLine t → split newline (t ++ (newline ∷ r)) ≡ t ∷ split newline r
-unfolding split extendFirst
+unfolding split extend_first
 ended-split [] r one = refl
 ended-split (x ∷ xs) r one =
     let o = one-tail x xs one in
-    split-other x (xs ++ (newline ∷ r)) o.0 ∙ ap (extendFirst x) (ended-split xs r o.1)
+    split-other x (xs ++ (newline ∷ r)) o.0 ∙ ap (extend_first x) (ended-split xs r o.1)
 
 -- it has begun
 pub begun-one : (t : List ℕ) → OneLine t → begun t ≡ t
-unfolding begun lastPart
-begun-one t one = ap lastPart (one_split t one)
+unfolding begun last_part
+begun-one t one = ap last_part (one_split t one)
 
 -- and with its newline it is whole
 pub whole-one : (t : List ℕ) → OneLine t → whole (t ++ (newline ∷ [])) ≡ t ∷ []
-unfolding whole allButLast split
-whole-one t one = ap allButLast (ended-split t [] one)
+unfolding whole all_but_last split
+whole-one t one = ap all_but_last (ended-split t [] one)
 
 -- and nothing has begun
 pub ended-begun : (t : List ℕ) → OneLine t → begun (t ++ (newline ∷ [])) ≡ []
-unfolding begun lastPart split
-ended-begun t one = ap lastPart (ended-split t [] one)
+unfolding begun last_part split
+ended-begun t one = ap last_part (ended-split t [] one)

@@ -1,53 +1,53 @@
 -- What playing lines promises. Assumes nothing.
 use Rattle.std.specs.Prelude.{ℕ, ◌+◌, ◌-◌, ◌≤◌, ◌<◌, Bool, List, [], ◌≡◌, length, take, drop}
-use Rattle.rules.specs.MemoryTest.{isMemory, stepMemory}
-use Rattle.rules.specs.Script.{readLine, reportLine}
-use Rattle.script.specs.Feeding.{whole, begun, listMemory, afterLines}
-use Rattle.script.specs.Written.{Appended, Counts, Counting, Countable, lastCount, lineRoom}
-use Rattle.script.specs.Read.{OneLine, fieldLimit, line_of, lineEnd}
+use Rattle.rules.specs.MemoryTest.{is_memory, step_memory}
+use Rattle.rules.specs.Script.{read_line, report_line}
+use Rattle.script.specs.Feeding.{whole, begun, list_memory, after_lines}
+use Rattle.script.specs.Written.{Appended, Counts, Counting, Countable, last_count, line_room}
+use Rattle.script.specs.Read.{OneLine, field_limit, line_of, line_end}
 use Rattle.script.specs.declared.play.Played.{Played as Played·rt}
 
 -- memory of which it is known whether it is a node, whole lines from a position on, an output written up to a place, and a line
 -- number behind which there are enough for a line a byte
 pub record Playable (m : List ℕ) (good : Bool) (s : List ℕ) (from : ℕ) (out : List ℕ) (at : ℕ) (digits : List ℕ) (len : ℕ) : Type 0 where
-  pub known : isMemory m ≡ good
+  pub known : is_memory m ≡ good
   pub inside : from ≤ length s
   pub lines : begun (drop from s) ≡ []
   pub within : at ≤ length out
   pub counting : Counting digits len
-  pub few : counting.number + length s ≤ lastCount + from
+  pub few : counting.number + length s ≤ last_count + from
 
 -- the same for one line: there is one, the output has room for it, and its number can be written
 pub record LinePlayable (m : List ℕ) (good : Bool) (s : List ℕ) (from : ℕ) (fields out : List ℕ) (at : ℕ) (digits : List ℕ) (len : ℕ) : Type 0 where
-  pub known : isMemory m ≡ good
+  pub known : is_memory m ≡ good
   pub inside : from < length s
-  pub many : length fields ≡ fieldLimit
-  pub room : at + lineRoom ≤ length out
+  pub many : length fields ≡ field_limit
+  pub room : at + line_room ≤ length out
   pub countable : Countable digits len
 
 -- a line played: the step is that of the line at the position, and it is listed with the next number
 pub record LinePlayed (m s : List ℕ) (from : ℕ) (out : List ℕ) (at : ℕ) (digits : List ℕ) (len : ℕ) (m' out' digits' : List ℕ) (p : Played·rt) : Type 0 where
-  pub used : p.used ≡ lineEnd s from + 1
-  pub memory : m' ≡ (stepMemory m (readLine (line_of (drop from s)))).memory
-  pub listed : (i : ℕ) → Counts digits len i → Appended out at out' p.at (reportLine (i + 1) (stepMemory m (readLine (line_of (drop from s)))).report)
+  pub used : p.used ≡ line_end s from + 1
+  pub memory : m' ≡ (step_memory m (read_line (line_of (drop from s)))).memory
+  pub listed : (i : ℕ) → Counts digits len i → Appended out at out' p.at (report_line (i + 1) (step_memory m (read_line (line_of (drop from s)))).report)
   pub counted : (i : ℕ) → Counts digits len i → Counts digits' p.len (i + 1)
-  pub at_most : p.at ≤ at + lineRoom
+  pub at_most : p.at ≤ at + line_room
   pub going : p.stop ≡ 0
 
 -- the same for a line kept apart, which fills the first `count` places of a text with a place for its newline; it is listed at the beginning
 -- of the output
 pub record TextPlayable (m : List ℕ) (good : Bool) (text : List ℕ) (count : ℕ) (out digits : List ℕ) (len : ℕ) : Type 0 where
-  pub known : isMemory m ≡ good
+  pub known : is_memory m ≡ good
   pub inside : count < length text
   pub one : OneLine (take count text)
-  pub room : lineRoom ≤ length out
+  pub room : line_room ≤ length out
   pub counting : Counting digits len
-  pub few : counting.number + count < lastCount
+  pub few : counting.number + count < last_count
 
 -- such a line played
 pub record TextPlayed (m line out digits : List ℕ) (len : ℕ) (m' out' digits' : List ℕ) (p : Played·rt) : Type 0 where
-  pub memory : m' ≡ (stepMemory m (readLine line)).memory
-  pub listed : (i : ℕ) → Counts digits len i → Appended out 0 out' p.at (reportLine (i + 1) (stepMemory m (readLine line)).report)
+  pub memory : m' ≡ (step_memory m (read_line line)).memory
+  pub listed : (i : ℕ) → Counts digits len i → Appended out 0 out' p.at (report_line (i + 1) (step_memory m (read_line line)).report)
   pub counted : (i : ℕ) → Counts digits len i → Counts digits' p.len (i + 1)
   pub within : p.at ≤ length out
 
@@ -60,11 +60,11 @@ pub record PlayedTo (m s : List ℕ) (from : ℕ) (out : List ℕ) (at : ℕ) (d
   pub forward : from ≤ p.used
   pub inside : p.used ≤ length s
   pub cut : begun (part s from p.used) ≡ []
-  pub memory : m' ≡ afterLines m (whole (part s from p.used))
-  pub listed : (i : ℕ) → Counts digits len i → Appended out at out' p.at (listMemory (i + 1) m (whole (part s from p.used)))
+  pub memory : m' ≡ after_lines m (whole (part s from p.used))
+  pub listed : (i : ℕ) → Counts digits len i → Appended out at out' p.at (list_memory (i + 1) m (whole (part s from p.used)))
   pub counted : (i : ℕ) → Counts digits len i → Counts digits' p.len (i + length (whole (part s from p.used)))
   pub lines : p.lines ≡ length (whole (part s from p.used))
   pub few : p.lines + from ≤ length s
   pub all-used : p.stop ≡ 0 → p.used ≡ length s
-  pub no_room : p.stop ≡ 1 → length out < p.at + lineRoom
+  pub no_room : p.stop ≡ 1 → length out < p.at + line_room
   pub stops : p.stop ≤ 1

@@ -1,12 +1,12 @@
 -- What the functions that write a listing say of their output and of the line number kept as text. Assumes nothing.
 use Prim.Native.Char.{code}
 use Rattle.std.specs.Prelude.{ℕ, ◌+◌, ◌*◌, ◌≤◌, ◌<◌, cond, List, [], ◌∷◌, ◌++◌, ◌≡◌, eqb, length, take}
-use Rattle.rules.specs.Build.{wordLimit}
-use Rattle.rules.specs.Lists.{concatMap}
+use Rattle.rules.specs.Build.{word_limit}
+use Rattle.rules.specs.Lists.{concat_map}
 use Rattle.rules.specs.Operation.{Report}
-use Rattle.rules.specs.Script.{newline, reportLine}
+use Rattle.rules.specs.Script.{newline, report_line}
 use Rattle.rules.specs.Text.{decimal}
-use Rattle.rules.specs.Types.{reportOf}
+use Rattle.rules.specs.Types.{report_of}
 use Rattle.rules.specs.declared.Report.{Report as Report·rt}
 use Rattle.rules.specs.declared.Sent.{Sent as Sent·rt}
 
@@ -22,15 +22,15 @@ field n = code "," ∷ decimal n
 
 -- numbers as fields
 unfoldable pub fields : List ℕ → List ℕ
-fields ns = concatMap field ns
+fields ns = concat_map field ns
 
 -- the count of digits that a line number has room for
 abbrev pub places : ℕ
 places = 20
 
 -- the largest line number that they write
-abbrev pub lastCount : ℕ
-lastCount = 99_999_999_999_999_999_999
+abbrev pub last_count : ℕ
+last_count = 99_999_999_999_999_999_999
 
 -- the first `len` of the digits write the number i
 pub record Counts (digits : List ℕ) (len i : ℕ) : Type 0 where
@@ -47,43 +47,43 @@ pub record Counting (digits : List ℕ) (len : ℕ) : Type 0 where
 pub record Countable (digits : List ℕ) (len : ℕ) : Type 0 where
   pub number : ℕ
   pub counts : Counts digits len number
-  pub below : number < lastCount
+  pub below : number < last_count
 
 -- what was sent, as numbers in the order of the listing: none where there are no words
-unfoldable pub sentNumbers : Sent·rt → List ℕ
-sentNumbers s = cond (eqb s.len 0) [] (s.node ∷ s.group ∷ take s.len s.words)
+unfoldable pub sent_numbers : Sent·rt → List ℕ
+sent_numbers s = cond (eqb s.len 0) [] (s.node ∷ s.group ∷ take s.len s.words)
 
 -- a line of the listing behind its number
-unfoldable pub behindNumber : Report·rt → List ℕ
-behindNumber r =
-    fields (r.answer ∷ r.value ∷ r.trap ∷ r.upcall ∷ r.moved ∷ sentNumbers r.sent) ++ (newline ∷ [])
+unfoldable pub behind_number : Report·rt → List ℕ
+behind_number r =
+    fields (r.answer ∷ r.value ∷ r.trap ∷ r.upcall ∷ r.moved ∷ sent_numbers r.sent) ++ (newline ∷ [])
 
 -- a report that a listing has room for: an accepted L sends node, group and 1 to 8 words, any other operation nothing
 pub data Listed : Report → Type 0 where
   silent : {r : Report} → r.sent ≡ [] → Listed r
-  sending : {r : Report} (k g : ℕ) (ws : List ℕ) → r.sent ≡ k ∷ g ∷ ws → 1 ≤ length ws → length ws ≤ wordLimit → Listed r
+  sending : {r : Report} (k g : ℕ) (ws : List ℕ) → r.sent ≡ k ∷ g ∷ ws → 1 ≤ length ws → length ws ≤ word_limit → Listed r
 
 -- the room that each takes, at most: a field is a comma and at most ten digits
-abbrev pub fieldRoom : ℕ
-fieldRoom = 11
+abbrev pub field_room : ℕ
+field_room = 11
 
 -- eight words
-abbrev pub wordsRoom : ℕ
-wordsRoom = wordLimit * fieldRoom
+abbrev pub words_room : ℕ
+words_room = word_limit * field_room
 
 -- node, group and words
-abbrev pub sentRoom : ℕ
-sentRoom = 2 * fieldRoom + wordsRoom
+abbrev pub sent_room : ℕ
+sent_room = 2 * field_room + words_room
 
 -- five fields, what was sent, and the newline
-abbrev pub reportRoom : ℕ
-reportRoom = 5 * fieldRoom + sentRoom + 1
+abbrev pub report_room : ℕ
+report_room = 5 * field_room + sent_room + 1
 
 -- a line: its number and the report are 186 bytes
-abbrev pub lineRoom : ℕ
-lineRoom = 192
+abbrev pub line_room : ℕ
+line_room = 192
 
 -- whatever number i the digits write and whatever report r is, its line is written
 abbrev pub Line : List ℕ → ℕ → List ℕ → ℕ → List ℕ → ℕ → Report·rt → Type 0
 Line digits len out at out' at' r =
-    (i : ℕ) (q : Report) → Counts digits len i → r ≡ reportOf q → Listed q → Appended out at out' at' (reportLine i q)
+    (i : ℕ) (q : Report) → Counts digits len i → r ≡ report_of q → Listed q → Appended out at out' at' (report_line i q)

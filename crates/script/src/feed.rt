@@ -1,8 +1,8 @@
 // A script fed in portions of any size: whole lines are played and listed, and a line that has begun is kept for the next portion.
 ghost use Rattle.std.specs.Prelude.{◌≡◌, not, [], ◌++◌, ◌≤◌, ◌<◌, length, take};
 ghost use Rattle.rules.specs.Lists.{is_empty};
-ghost use Rattle.script.specs.Feed.{keptRoom, keptLine, Cut, LinesFeedable, LinesFed, BegunFed, FedTo};
-ghost use Rattle.script.specs.Portions.{lastNewline};
+ghost use Rattle.script.specs.Feed.{kept_room, kept_line, Cut, LinesFeedable, LinesFed, BegunFed, FedTo};
+ghost use Rattle.script.specs.Portions.{last_newline};
 ghost use Rattle.script.specs.Read.{OneLine, line_of};
 
 use crate::play::{ALL_USED, NO_ROOM, play, play_text};
@@ -39,7 +39,7 @@ pub struct Fed {
 impl State {
     // No line yet.
     pub fn new() -> State
-        ensures { (result.lines ≡ 0) × (keptLine result ≡ []) }
+        ensures { (result.lines ≡ 0) × (kept_line result ≡ []) }
     {
         State {
             lines: 0,
@@ -50,7 +50,7 @@ impl State {
 
     // Whether a line has begun.
     pub fn begun(self) -> bool
-        ensures { result ≡ not (is_empty (keptLine self)) }
+        ensures { result ≡ not (is_empty (kept_line self)) }
     {
         let kept = self.kept;
         kept_count(&kept, self.count) > 0
@@ -59,8 +59,8 @@ impl State {
 
 // A text behind what is kept, as far as there is room.
 pub fn keep(kept: &mut [u8], count: usize, text: &[u8]) -> usize
-    requires { (keptRoom ≤ length kept.old) × (count ≤ keptRoom) }
-    ensures { (take result kept.new ≡ take keptRoom (take count kept.old ++ text.now)) × (result ≤ keptRoom) }
+    requires { (kept_room ≤ length kept.old) × (count ≤ kept_room) }
+    ensures { (take result kept.new ≡ take kept_room (take count kept.old ++ text.now)) × (result ≤ kept_room) }
 {
     let room = KEPT - count;
     if text.len() > room {
@@ -139,7 +139,7 @@ fn feed_begun(
     digits: &mut [u8; PLACES],
     len: usize,
 ) -> Fed
-    requires count_le_kept_room { (count ≤ keptRoom) × (keptRoom < length kept) }
+    requires count_le_kept_room { (count ≤ kept_room) × (kept_room < length kept) }
     requires one_line { OneLine (take count kept) }
     requires lines_feedable { LinesFeedable memory.old good input.now 0 out.old 0 digits.old len lines }
     ensures { BegunFed memory.old (take count kept) lines input.now out.old memory.new out.new result }
@@ -187,8 +187,8 @@ fn feed_begun(
 
 // How long the line is that a state keeps: a state made by hand may have any count, and a newline among its bytes.
 pub fn kept_count(kept: &[u8], count: usize) -> usize
-    requires { keptRoom ≤ length kept.now }
-    ensures { (result ≤ keptRoom) × (take result kept.now ≡ line_of (take keptRoom (take count kept.now))) }
+    requires { kept_room ≤ length kept.now }
+    ensures { (result ≤ kept_room) × (take result kept.now ≡ line_of (take kept_room (take count kept.now))) }
 {
     if count > KEPT {
         return end_of_line(&kept[0..KEPT], 0);
@@ -238,7 +238,7 @@ pub fn feed(memory: &mut [u32], state: State, input: &[u8], out: &mut [u8]) -> F
 
 // The script's end: a line that has begun is its last, and gets its newline.
 pub fn feed_end(memory: &mut [u32], state: State, out: &mut [u8]) -> Fed
-    ensures { FedTo memory.old state (lastNewline state) out.old memory.new out.new result }
+    ensures { FedTo memory.old state (last_newline state) out.old memory.new out.new result }
 {
     if state.begun() {
         return feed(memory, state, b"\n", out);

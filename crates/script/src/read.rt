@@ -1,8 +1,8 @@
 // A line of a script read to an operation, in one pass over its bytes. The numbers of a line go into a lent part, which
 // has room for all; the words of an arrival are those behind the first.
 ghost use Rattle.std.specs.Prelude.{◌≡◌, ◌≤◌, ◌<◌, length};
-ghost use Rattle.rules.specs.Text.{isDigit};
-ghost use Rattle.script.specs.Read.{fieldLimit, lineEnd, noNumber, fieldsEnded, unreadableLine, Judged, NumberRead, FieldsRead, BeginRead, Alone, WithNumber, Lettered, LineRead, TextRead};
+ghost use Rattle.rules.specs.Text.{is_digit};
+ghost use Rattle.script.specs.Read.{field_limit, line_end, no_number, fields_ended, unreadable_line, Judged, NumberRead, FieldsRead, BeginRead, Alone, WithNumber, Lettered, LineRead, TextRead};
 
 use rules::Operation;
 
@@ -52,7 +52,7 @@ pub struct Line {
 
 // A byte is a decimal digit.
 fn is_digit(b: u8) -> bool
-    ensures { isDigit b ≡ result }
+    ensures { is_digit b ≡ result }
 {
     if b < ZERO {
         return false;
@@ -62,7 +62,7 @@ fn is_digit(b: u8) -> bool
 
 // What is told where no number stands.
 fn no_number(next: usize) -> Digits
-    ensures { result ≡ noNumber next }
+    ensures { result ≡ no_number next }
 {
     Digits {
         ok: false,
@@ -111,7 +111,7 @@ pub fn number(s: &[u8], at: usize) -> Digits
 
 // The fields end behind `length` bytes: they are read where the line ends there too and is not over its limit.
 fn ended(line: bool, length: usize, count: usize, next: usize) -> Fields
-    ensures { result ≡ fieldsEnded line length count next }
+    ensures { result ≡ fields_ended line length count next }
 {
     if !line {
         return Fields {
@@ -129,7 +129,7 @@ fn ended(line: bool, length: usize, count: usize, next: usize) -> Fields
 
 // The numbers behind a letter, up to the end of the line or to what is none.
 fn read_fields(s: &[u8], at: usize, fields: &mut [u32]) -> Fields
-    requires { (at ≤ length s.now) × (fieldLimit ≤ length fields.old) }
+    requires { (at ≤ length s.now) × (field_limit ≤ length fields.old) }
     ensures { FieldsRead s.now at fields.new result }
 {
     let mut i = at;
@@ -156,7 +156,7 @@ fn read_fields(s: &[u8], at: usize, fields: &mut [u32]) -> Fields
 // Where the line ends that goes on at a position.
 pub fn end_of_line(s: &[u8], from: usize) -> usize
     requires { from ≤ length s.now }
-    ensures { result ≡ lineEnd s.now from }
+    ensures { result ≡ line_end s.now from }
 {
     let mut i = from;
     while i < s.len() {
@@ -228,7 +228,7 @@ pub fn operation(letter: u8, count: usize, first: u32) -> Operation
 
 // What is told of a line that cannot be read.
 fn unreadable(next: usize) -> Line
-    ensures { result ≡ unreadableLine next }
+    ensures { result ≡ unreadable_line next }
 {
     Line {
         op: Operation::Unknown,
@@ -239,7 +239,7 @@ fn unreadable(next: usize) -> Line
 
 // The line that begins at a position: its operation, and in the fields the numbers behind its letter.
 pub fn read_at(s: &[u8], at: usize, fields: &mut [u32]) -> Line
-    requires { (at < length s.now) × (fieldLimit ≤ length fields.old) }
+    requires { (at < length s.now) × (field_limit ≤ length fields.old) }
     ensures { LineRead s.now at fields.new result }
 {
     let letter = s[at];
@@ -259,7 +259,7 @@ pub fn read_at(s: &[u8], at: usize, fields: &mut [u32]) -> Line
 
 // A text as one line: a newline in it makes it unreadable.
 pub fn read(text: &[u8], fields: &mut [u32]) -> Line
-    requires { fieldLimit ≤ length fields.old }
+    requires { field_limit ≤ length fields.old }
     ensures { TextRead text.now fields.new result }
 {
     if text.len() == 0 {

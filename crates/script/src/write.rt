@@ -1,10 +1,10 @@
 // The listing written: numbers, the line number kept as text, a report's line and the header.
 ghost use Rattle.std.specs.Prelude.{ℕ, ◌+◌, ◌≤◌, ◌<◌, length, take};
-ghost use Rattle.rules.specs.Build.{wordLimit};
+ghost use Rattle.rules.specs.Build.{word_limit};
 ghost use Rattle.rules.specs.Script.{header};
 ghost use Rattle.rules.specs.Text.{decimal};
 ghost use Rattle.script.specs.Written.{Appended, field, places, Counts, Counting, Countable};
-ghost use Rattle.script.specs.Written.{fields, sentNumbers, behindNumber, Line, fieldRoom, wordsRoom, sentRoom, reportRoom, lineRoom};
+ghost use Rattle.script.specs.Written.{fields, sent_numbers, behind_number, Line, field_room, words_room, sent_room, report_room, line_room};
 
 use crate::read::{COMMA, NEWLINE, NINE, ZERO};
 use rules::{Report, Sent};
@@ -30,8 +30,8 @@ pub fn put_number(out: &mut [u8], at: usize, n: u64) -> usize
 
 // A comma, and the number behind it.
 fn put_field(out: &mut [u8], at: usize, n: u32) -> usize
-    requires { at + fieldRoom ≤ length out.old }
-    ensures { Appended out.old at out.new result (field n) × (result ≤ at + fieldRoom) }
+    requires { at + field_room ≤ length out.old }
+    ensures { Appended out.old at out.new result (field n) × (result ≤ at + field_room) }
 {
     out[at] = COMMA;
     if n < 10 {
@@ -78,8 +78,8 @@ pub fn put_counter(out: &mut [u8], at: usize, digits: &[u8; PLACES], len: usize)
 
 // The first `len` of the words, each as a field.
 fn put_words(out: &mut [u8], at: usize, words: [u32; 8], len: u32) -> usize
-    requires { (len ≤ wordLimit) × (at + wordsRoom ≤ length out.old) }
-    ensures { Appended out.old at out.new result (fields (take len words)) × (result ≤ at + wordsRoom) }
+    requires { (len ≤ word_limit) × (at + words_room ≤ length out.old) }
+    ensures { Appended out.old at out.new result (fields (take len words)) × (result ≤ at + words_room) }
 {
     let n = len as usize;
     let mut end = at;
@@ -93,8 +93,8 @@ fn put_words(out: &mut [u8], at: usize, words: [u32; 8], len: u32) -> usize
 
 // What an accepted launch adds to its line: node, group and words; nothing where nothing was sent.
 fn put_sent(out: &mut [u8], at: usize, s: Sent) -> usize
-    requires { (s.len ≤ wordLimit) × (at + sentRoom ≤ length out.old) }
-    ensures { Appended out.old at out.new result (fields (sentNumbers s)) × (result ≤ at + sentRoom) }
+    requires { (s.len ≤ word_limit) × (at + sent_room ≤ length out.old) }
+    ensures { Appended out.old at out.new result (fields (sent_numbers s)) × (result ≤ at + sent_room) }
 {
     let len = s.len;
     if len == 0 {
@@ -108,8 +108,8 @@ fn put_sent(out: &mut [u8], at: usize, s: Sent) -> usize
 
 // A line of the listing behind its number.
 fn put_report(out: &mut [u8], at: usize, r: Report) -> usize
-    requires { (r.sent.len ≤ wordLimit) × (at + reportRoom ≤ length out.old) }
-    ensures { Appended out.old at out.new result (behindNumber r) × (result ≤ at + reportRoom) }
+    requires { (r.sent.len ≤ word_limit) × (at + report_room ≤ length out.old) }
+    ensures { Appended out.old at out.new result (behind_number r) × (result ≤ at + report_room) }
 {
     let answer = put_field(out, at, r.answer);
     let value = put_field(out, answer, r.value);
@@ -127,10 +127,10 @@ pub const LINE_ROOM: usize = 192;
 
 // A line of the listing: its number, kept as text, and the report.
 pub fn put_line(out: &mut [u8], at: usize, digits: &[u8; PLACES], len: usize, r: Report) -> usize
-    requires fact_1 { at + lineRoom ≤ length out.old }
+    requires fact_1 { at + line_room ≤ length out.old }
     requires fact_2 { Counting digits.now len }
-    requires fact_3 { r.sent.len ≤ wordLimit }
-    ensures { Line digits.now len out.old at out.new result r × (result ≤ at + lineRoom) }
+    requires fact_3 { r.sent.len ≤ word_limit }
+    ensures { Line digits.now len out.old at out.new result r × (result ≤ at + line_room) }
 {
     let number = put_counter(out, at, digits, len);
     put_report(out, number, r)

@@ -2,7 +2,7 @@
 use Prim.Native.Nat.{ℕ, ◌+◌, ◌≤◌, ◌<◌}
 use native.Mathlib.Omega.{arith}
 use mathlib.Core.List.{List}
-use Rattle.script.specs.Written.{Counts, Countable, lastCount}
+use Rattle.script.specs.Written.{Counts, Countable, last_count}
 use Rattle.tested.specs.Counted.{CountsTo}
 
 pub counts-one : {digits digits' : List ℕ} {len len' most : ℕ} → CountsTo digits len most
@@ -14,5 +14,5 @@ pub counts-within : {digits : List ℕ} {len most more : ℕ} → CountsTo digit
 counts-within c h = record { number = c.number; counts = c.counts; few = let f = c.few in omega arith }
 
 -- the next number can be written
-pub counts-countable : {digits : List ℕ} {len most : ℕ} → CountsTo digits len most → most < lastCount → Countable digits len
+pub counts-countable : {digits : List ℕ} {len most : ℕ} → CountsTo digits len most → most < last_count → Countable digits len
 counts-countable c h = record { number = c.number; counts = c.counts; below = let f = c.few in omega arith }

@@ -1,7 +1,7 @@
 // tested: a script of at most 64 KiB on standard input, played 64 times over on one node by the library's public call, which tests the memory
 // before every step; the listing of all on standard output. It shows how the call is used, and is there to be measured.
 ghost use Rattle.std.specs.Prelude.{ℕ, ◌+◌, ◌≤◌, length};
-ghost use Rattle.script.specs.Written.{lineRoom, Countable, Counts};
+ghost use Rattle.script.specs.Written.{line_room, Countable, Counts};
 ghost use Rattle.tested.specs.Counted.{CountsTo};
 
 use libc::{STDIN_FILENO, STDOUT_FILENO};
@@ -32,7 +32,7 @@ fn list(
     digits: &mut [u8; PLACES],
     l: Listing,
 ) -> Listing
-    requires fact_1 { l.at + lineRoom ≤ length out.old }
+    requires fact_1 { l.at + line_room ≤ length out.old }
     requires fact_2 { Countable digits.old l.len }
     ensures { (result.at ≤ length out.new) × ((i : ℕ) → Counts digits.old l.len i → Counts digits.new result.len (i + 1)) }
 {
@@ -44,8 +44,8 @@ fn list(
 
 // Where the next line is listed: behind the last, or at the beginning once what is listed is written for want of room.
 fn room(out: &[u8], at: usize) -> usize
-    requires { (at ≤ length out.now) × (lineRoom ≤ length out.now) }
-    ensures { result + lineRoom ≤ length out.now }
+    requires { (at ≤ length out.now) × (line_room ≤ length out.now) }
+    ensures { result + line_room ≤ length out.now }
 {
     if out.len() - at >= LINE_ROOM {
         return at;
@@ -62,7 +62,7 @@ fn list_all(
     digits: &mut [u8; PLACES],
     from: Listing,
 ) -> Listing
-    requires fact_1 { (from.at ≤ length out.old) × (lineRoom ≤ length out.old) }
+    requires fact_1 { (from.at ≤ length out.old) × (line_room ≤ length out.old) }
     requires fact_2 { length script.now ≤ 65536 }
     requires fact_3 { CountsTo digits.old from.len 4200000 }
     ensures { (result.at ≤ length out.new) × ((most : ℕ) → CountsTo digits.old from.len most → CountsTo digits.new result.len (most + 65537)) }

@@ -8,8 +8,8 @@ use native.Mathlib.Omega.{arith}
 use native.Mathlib.Nat.{add-zero, suc-add, eq-or-lt_of_le}
 use borrow.Author.Tests.{not-true, not-false}
 use Rattle.rules.specs.Lists.{all, up_from}
-use Rattle.rules.specs.Build.{groupCount}
-use Rattle.rules.specs.Memory.{word, wordsAt}
+use Rattle.rules.specs.Build.{group_count}
+use Rattle.rules.specs.Memory.{word, words_at}
 use Rattle.rules.proofs.Map.TestLaws.{range-tells}
 
 -- a test that cannot pass fails
@@ -31,8 +31,8 @@ all_append p [] ys = refl
 all_append p (x ∷ xs) ys = ap (λ (t : Bool). p x && t) (all_append p xs ys) ∙ sym (and_assoc (p x) (all p xs) (all p ys))
 
 -- a test of words is one of their addresses
-pub all_words : (p : ℕ → Bool) (m : List ℕ) (a i k : ℕ) → all p (wordsAt m (a + i) k) ≡ all (λ j. p (word m (a + j))) (up_from i k)
-unfolding wordsAt
+pub all_words : (p : ℕ → Bool) (m : List ℕ) (a i k : ℕ) → all p (words_at m (a + i) k) ≡ all (λ j. p (word m (a + j))) (up_from i k)
+unfolding words_at
 all_words p m a i zero = refl
 all_words p m a i (suc k) =
     let e : a + i + 1 ≡ a + suc i = omega arith in
@@ -93,15 +93,15 @@ module _ {p : ℕ → Bool} where
   pub groups_none : Below p 1
   groups_none = record { low = omega arith; high = omega arith; passed = passed_none p 1 }
 
-  module _ {g : ℕ} {t : Bool} (b : Below p g) (within : g ≤ groupCount) (answer : p g ≡ t) where
+  module _ {g : ℕ} {t : Bool} (b : Below p g) (within : g ≤ group_count) (answer : p g ≡ t) where
     -- one more
     pub groups-more : not t ≡ false → Below p (g + 1)
     groups-more passes = record { low = omega arith; high = omega arith; passed = passed-more p 1 g b.passed (accepted answer passes) }
 
     -- one that fails decides
-    pub groups-fail : not t ≡ true → all p (up_from 1 groupCount) ≡ false
-    groups-fail stops = failed-all p 1 g groupCount b.low (omega arith) (refused answer stops)
+    pub groups-fail : not t ≡ true → all p (up_from 1 group_count) ≡ false
+    groups-fail stops = failed-all p 1 g group_count b.low (omega arith) (refused answer stops)
 
   -- at the end all
-  pub groups-all : {g : ℕ} → Below p g → groupCount < g → all p (up_from 1 groupCount) ≡ true
-  groups-all {g} b past = passed-all p 1 g groupCount b.passed (omega arith)
+  pub groups-all : {g : ℕ} → Below p g → group_count < g → all p (up_from 1 group_count) ≡ true
+  groups-all {g} b past = passed-all p 1 g group_count b.passed (omega arith)

@@ -1,13 +1,13 @@
 // The clauses on the frames and swap pages, and on what is in them.
 ghost use Rattle.std.specs.Prelude.{◌≡◌, true, ℕ, ◌+◌, ◌-◌, ◌≤◌, ◌<◌, eqb, length};
 ghost use Rattle.rules.specs.Lists.{all, up_from};
-ghost use Rattle.rules.specs.Build.{paper01, pageCount, groupCount};
-ghost use Rattle.rules.specs.Memory.{size, swapCountAt, placeStride, word, placeAt, nodeAt};
-ghost use Rattle.rules.specs.MemoryTest.{zeroAt, frameWiped, idleAreWiped};
-ghost use Rattle.rules.specs.Valid.{isWaiting, frameNumbers, frameOrder, standsOnce};
-ghost use Rattle.validate.specs.Clauses.{listStart, listCount, listNumbers, listed, pagesOnce, enteredOnce, swapPage, waitingIn, waitingGood, usedUpWiped, behindWiped, placesGood, numbersGood, framesGood};
+ghost use Rattle.rules.specs.Build.{paper01, page_count, group_count};
+ghost use Rattle.rules.specs.Memory.{size, swap_count_at, place_stride, word, place_at, node_at};
+ghost use Rattle.rules.specs.MemoryTest.{zero_at, frame_wiped, idle_are_wiped};
+ghost use Rattle.rules.specs.Valid.{is_waiting, frame_numbers, frame_order, stands_once};
+ghost use Rattle.validate.specs.Clauses.{list_start, list_count, list_numbers, listed, pages_once, entered_once, swap_page, waiting_in, waiting_good, used_up_wiped, behind_wiped, places_good, numbers_good, frames_good};
 ghost use Rattle.validate.specs.Known.{Counted, Paged, Framed};
-ghost use Rattle.validate.specs.Masks.{pastMasks};
+ghost use Rattle.validate.specs.Masks.{past_masks};
 
 use crate::PAGE_COUNT;
 use memory::Node;
@@ -34,7 +34,7 @@ const LISTS: u32 = 11;
 // Where list l begins.
 fn list_at(l: u32) -> usize
     requires { l < 11 }
-    ensures { result ≡ listStart l }
+    ensures { result ≡ list_start l }
 {
     if l == ENTERED_LIST {
         return ENTERED_AT;
@@ -52,7 +52,7 @@ fn list_at(l: u32) -> usize
 fn list_count(m: &[u32], l: u32) -> u32
     requires size_in_bounds { size ≤ length m.now }
     requires l_bound { l < 11 }
-    ensures { result ≡ listCount m.now l }
+    ensures { result ≡ list_count m.now l }
 {
     if l == ENTERED_LIST {
         return m[ENTERED_COUNT];
@@ -87,7 +87,7 @@ fn frames_once(m: &[u32], from: u32, to: u32, limit: usize) -> bool
     requires counted { Counted m.now }
     requires from_le_to { (from ≤ to) × ((to ≤ 11) × (limit ≤ 96)) }
     requires from_len { length (listed m.now from (to - from)) ≡ limit }
-    ensures { all (standsOnce (listed m.now from (to - from))) (up_from 0 limit) ≡ result }
+    ensures { all (stands_once (listed m.now from (to - from))) (up_from 0 limit) ≡ result }
 {
     let mut seen = [0u32; PAGES];
     let mut once = true;
@@ -117,7 +117,7 @@ fn frames_once(m: &[u32], from: u32, to: u32, limit: usize) -> bool
 // The free line, the swap line and the groups' lists have 96 pages in all.
 fn pages_all(m: &[u32]) -> bool
     requires { Counted m.now }
-    ensures { eqb (length (frameNumbers (nodeAt m.now))) 96 ≡ result }
+    ensures { eqb (length (frame_numbers (node_at m.now))) 96 ≡ result }
 {
     count_all(m, FREE_LIST, LISTS) == PAGE_COUNT
 }
@@ -125,8 +125,8 @@ fn pages_all(m: &[u32]) -> bool
 // "each frame stands once, in the free line or in one list", and so each swap page, in its line or in one list
 fn pages_once(m: &[u32]) -> bool
     requires counted { Counted m.now }
-    requires m_len { length (frameNumbers (nodeAt m.now)) ≡ 96 }
-    ensures { pagesOnce m.now ≡ result }
+    requires m_len { length (frame_numbers (node_at m.now)) ≡ 96 }
+    ensures { pages_once m.now ≡ result }
 {
     frames_once(m, FREE_LIST, LISTS, PAGES)
 }
@@ -134,7 +134,7 @@ fn pages_once(m: &[u32]) -> bool
 // The swap line holds swap pages: the least of its numbers, found with no branch that depends on one, is no frame's.
 fn swap_pages(m: &[u32]) -> bool
     requires { Counted m.now }
-    ensures { all (swapPage m.now) (up_from 0 (word m.now swapCountAt)) ≡ result }
+    ensures { all (swap_page m.now) (up_from 0 (word m.now swap_count_at)) ≡ result }
 {
     let count = m[SWAP_COUNT] as usize;
     let mut least = Node::FRAMES;
@@ -152,7 +152,7 @@ fn swap_pages(m: &[u32]) -> bool
 // The order of entry and the free line have 32 frames in all.
 fn entered_all(m: &[u32]) -> bool
     requires { Counted m.now }
-    ensures { eqb (length (frameOrder (nodeAt m.now))) 32 ≡ result }
+    ensures { eqb (length (frame_order (node_at m.now))) 32 ≡ result }
 {
     count_all(m, ENTERED_LIST, SWAP_LIST) == Node::FRAMES
 }
@@ -160,8 +160,8 @@ fn entered_all(m: &[u32]) -> bool
 // "this order holds each frame in use once": each frame stands once, in it or in the free line
 fn entered_once(m: &[u32]) -> bool
     requires counted { Counted m.now }
-    requires m_len { length (frameOrder (nodeAt m.now)) ≡ 32 }
-    ensures { enteredOnce m.now ≡ result }
+    requires m_len { length (frame_order (node_at m.now)) ≡ 32 }
+    ensures { entered_once m.now ≡ result }
 {
     frames_once(m, ENTERED_LIST, SWAP_LIST, LINE)
 }
@@ -169,7 +169,7 @@ fn entered_once(m: &[u32]) -> bool
 // Each frame or swap page of list l is 0.
 fn list_wiped(m: &[u32], l: u32) -> bool
     requires { Paged m.now l }
-    ensures { all (frameWiped m.now) (listNumbers m.now l) ≡ result }
+    ensures { all (frame_wiped m.now) (list_numbers m.now l) ≡ result }
 {
     let at = list_at(l);
     let count = list_count(m, l) as usize;
@@ -186,7 +186,7 @@ fn list_wiped(m: &[u32], l: u32) -> bool
 // "a word or kept length other than 0 that is no part of a waiting message" is in none that no buffer holds.
 fn idle_wiped(m: &[u32]) -> bool
     requires { (l : ℕ) → 1 ≤ l → l < 11 → Paged m.now l }
-    ensures { idleAreWiped m.now ≡ result }
+    ensures { idle_are_wiped m.now ≡ result }
 {
     if !list_wiped(m, FREE_LIST) {
         return false;
@@ -196,7 +196,7 @@ fn idle_wiped(m: &[u32]) -> bool
 
 // Masks: eight that leave nothing of a word, then eight that leave all of it. The eight from WORDS - len on hide the first len words of a message.
 fn past_masks() -> [u32; MASKS]
-    ensures { result ≡ pastMasks }
+    ensures { result ≡ past_masks }
 {
     [
         0,
@@ -223,8 +223,8 @@ fn past_masks() -> [u32; MASKS]
 fn past_zero(m: &[u32], a: usize, len: usize, masks: &[u32; MASKS]) -> bool
     requires a_in_bounds { a + 8 ≤ length m.now }
     requires len_bound { len ≤ 8 }
-    requires masks_value { masks.now ≡ pastMasks }
-    ensures { zeroAt m.now (a + len) (8 - len) ≡ result }
+    requires masks_value { masks.now ≡ past_masks }
+    ensures { zero_at m.now (a + len) (8 - len) ≡ result }
 {
     let mut sum: u32 = 0;
     let mut j: usize = 0;
@@ -237,9 +237,9 @@ fn past_zero(m: &[u32], a: usize, len: usize, masks: &[u32; MASKS]) -> bool
 
 // A message waits in the place at address a: its length is 1 to 8, and the words past it are 0.
 fn place_waiting(m: &[u32], a: usize, masks: &[u32; MASKS]) -> bool
-    requires place_stride_in_bounds { a + placeStride ≤ length m.now }
-    requires masks_value { masks.now ≡ pastMasks }
-    ensures { isWaiting (placeAt m.now a) ≡ result }
+    requires place_stride_in_bounds { a + place_stride ≤ length m.now }
+    requires masks_value { masks.now ≡ past_masks }
+    ensures { is_waiting (place_at m.now a) ≡ result }
 {
     let len = m[a];
     if len == 0 {
@@ -253,9 +253,9 @@ fn place_waiting(m: &[u32], a: usize, masks: &[u32; MASKS]) -> bool
 
 // The same of a page's places from one up to another, which is not looked at.
 fn places_waiting(m: &[u32], f: u32, from: u32, to: u32, masks: &[u32; MASKS]) -> bool
-    requires size_in_bounds { (size ≤ length m.now) × ((f < pageCount paper01) × ((from ≤ to) × (to ≤ paper01.perFrame))) }
-    requires masks_value { masks.now ≡ pastMasks }
-    ensures { all (waitingIn m.now f) (up_from from (to - from)) ≡ result }
+    requires size_in_bounds { (size ≤ length m.now) × ((f < page_count paper01) × ((from ≤ to) × (to ≤ paper01.per_frame))) }
+    requires masks_value { masks.now ≡ past_masks }
+    ensures { all (waiting_in m.now f) (up_from from (to - from)) ≡ result }
 {
     let mut i = from;
     while i < to {
@@ -269,7 +269,7 @@ fn places_waiting(m: &[u32], f: u32, from: u32, to: u32, masks: &[u32; MASKS]) -
 
 // Of so many places from a page's first on, how many are the page's.
 fn in_frame(places: u32) -> u32
-    ensures { (result ≤ places) × ((result ≤ paper01.perFrame) × (places ≤ result + (places - paper01.perFrame))) }
+    ensures { (result ≤ places) × ((result ≤ paper01.per_frame) × (places ≤ result + (places - paper01.per_frame))) }
 {
     if places > Node::PER_FRAME {
         return Node::PER_FRAME;
@@ -280,8 +280,8 @@ fn in_frame(places: u32) -> u32
 // "waiting messages' lengths"; "a waiting message's words past its length are 0": of those in the buffer of group g, page by page
 fn waiting_good(m: &[u32], g: u32, masks: &[u32; MASKS]) -> bool
     requires framed { Framed m.now g }
-    requires masks_value { masks.now ≡ pastMasks }
-    ensures { waitingGood m.now g ≡ result }
+    requires masks_value { masks.now ≡ past_masks }
+    ensures { waiting_good m.now g ≡ result }
 {
     let used = group_word(m, g, USED);
     let end = used + group_word(m, g, COUNT);
@@ -303,7 +303,7 @@ fn waiting_good(m: &[u32], g: u32, masks: &[u32; MASKS]) -> bool
 // its first page.
 fn used_up_wiped(m: &[u32], g: u32) -> bool
     requires { Framed m.now g }
-    ensures { usedUpWiped m.now g ≡ result }
+    ensures { used_up_wiped m.now g ≡ result }
 {
     let used = group_word(m, g, USED);
     if used == 0 {
@@ -316,7 +316,7 @@ fn used_up_wiped(m: &[u32], g: u32) -> bool
 // Nor in those behind its last message: the last of its last page.
 fn behind_wiped(m: &[u32], g: u32) -> bool
     requires { Framed m.now g }
-    ensures { behindWiped m.now g ≡ result }
+    ensures { behind_wiped m.now g ≡ result }
 {
     let end = group_word(m, g, USED) + group_word(m, g, COUNT);
     let place = end % Node::PER_FRAME;
@@ -331,8 +331,8 @@ fn behind_wiped(m: &[u32], g: u32) -> bool
 // All places of the buffer of group g: where a message waits, and where none does.
 fn places_good(m: &[u32], g: u32, masks: &[u32; MASKS]) -> bool
     requires framed { Framed m.now g }
-    requires masks_value { masks.now ≡ pastMasks }
-    ensures { placesGood m.now g ≡ result }
+    requires masks_value { masks.now ≡ past_masks }
+    ensures { places_good m.now g ≡ result }
 {
     if !waiting_good(m, g, masks) {
         return false;
@@ -345,8 +345,8 @@ fn places_good(m: &[u32], g: u32, masks: &[u32; MASKS]) -> bool
 
 // Those of all buffers.
 fn all_places_good(m: &[u32]) -> bool
-    requires { (g : ℕ) → 1 ≤ g → g ≤ groupCount → Framed m.now g }
-    ensures { all (placesGood m.now) (up_from 1 groupCount) ≡ result }
+    requires { (g : ℕ) → 1 ≤ g → g ≤ group_count → Framed m.now g }
+    ensures { all (places_good m.now) (up_from 1 group_count) ≡ result }
 {
     let masks = past_masks();
     let mut g: u32 = 1;
@@ -362,8 +362,8 @@ fn all_places_good(m: &[u32]) -> bool
 // The clauses on the frames and swap pages and on what is in them.
 pub fn frames_good(m: &[u32]) -> bool
     requires counted { Counted m.now }
-    requires m_value { numbersGood m.now ≡ true }
-    ensures { framesGood m.now ≡ result }
+    requires m_value { numbers_good m.now ≡ true }
+    ensures { frames_good m.now ≡ result }
 {
     if !pages_all(m) {
         return false;

@@ -7,11 +7,11 @@ mod words;
 
 ghost use Rattle.std.specs.Prelude.{◌≡◌, true, ◌&&◌};
 ghost use Rattle.rules.specs.Lists.{all, up_from};
-ghost use Rattle.rules.specs.Build.{paper01, groupCount};
-ghost use Rattle.rules.specs.Memory.{nodeAt};
-ghost use Rattle.rules.specs.Valid.{isNode};
-ghost use Rattle.rules.specs.MemoryTest.{idleAreWiped, isMemory};
-ghost use Rattle.validate.specs.Clauses.{flagsAtomic};
+ghost use Rattle.rules.specs.Build.{paper01, group_count};
+ghost use Rattle.rules.specs.Memory.{node_at};
+ghost use Rattle.rules.specs.Valid.{is_node};
+ghost use Rattle.rules.specs.MemoryTest.{idle_are_wiped, is_memory};
+ghost use Rattle.validate.specs.Clauses.{flags_atomic};
 ghost use Rattle.validate.specs.Known.{Counted};
 
 use crate::frames::frames_good;
@@ -27,8 +27,8 @@ const PAGE_COUNT: u32 = Node::FRAMES + Node::SWAP;
 // The words hold a node, and the pages that no buffer holds are 0.
 fn holds_node(m: &[u32]) -> bool
     requires counted { Counted m.now }
-    requires group_count_value { all (flagsAtomic m.now) (up_from 1 groupCount) ≡ true }
-    ensures { idleAreWiped m.now && isNode paper01 (nodeAt m.now) ≡ result }
+    requires group_count_value { all (flags_atomic m.now) (up_from 1 group_count) ≡ true }
+    ensures { idle_are_wiped m.now && is_node paper01 (node_at m.now) ≡ result }
 {
     if !numbers_good(m) {
         return false;
@@ -41,7 +41,7 @@ fn holds_node(m: &[u32]) -> bool
 
 // "Memory is a node when": no word is changed, and none past the node's size is looked at.
 pub fn is_node(memory: &[u32]) -> bool
-    ensures { result ≡ isMemory memory.now }
+    ensures { result ≡ is_memory memory.now }
 {
     if memory.len() < SIZE {
         return false;

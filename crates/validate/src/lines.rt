@@ -1,12 +1,12 @@
 // The clauses on the groups' lines: pledges, flags, the running group and its first page, and the head of the queue or, without one, the timer.
 ghost use Rattle.std.specs.Prelude.{◌≡◌, not, [], ◌≤◌, leb};
 ghost use Rattle.rules.specs.Lists.{all, is_empty, up_from};
-ghost use Rattle.rules.specs.Build.{paper01, groupCount};
+ghost use Rattle.rules.specs.Build.{paper01, group_count};
 ghost use Rattle.rules.specs.Node.{line};
 ghost use Rattle.rules.specs.Frames.{pledge as pledgeOf, pledges};
-ghost use Rattle.rules.specs.Memory.{word, queued_at, nodeAt};
-ghost use Rattle.rules.specs.Valid.{pendingHasLine, runnerAtomic, headStays, runnerInFrame};
-ghost use Rattle.validate.specs.Clauses.{linesGood};
+ghost use Rattle.rules.specs.Memory.{word, queued_at, node_at};
+ghost use Rattle.rules.specs.Valid.{pending_has_line, runner_atomic, head_stays, runner_in_frame};
+ghost use Rattle.validate.specs.Clauses.{lines_good};
 ghost use Rattle.validate.specs.Known.{Framed, QueueCounts, Lined};
 
 use crate::PAGE_COUNT;
@@ -36,7 +36,7 @@ fn queue_counts(m: &[u32]) -> [u32; 9]
 fn pledge(m: &[u32], queued: [u32; 9], g: u32) -> u32
     requires framed { Framed m.now g }
     requires queued_at_bound { (word m.now queued_at ≤ 16) × QueueCounts m.now (word m.now queued_at) queued }
-    ensures { (result ≡ pledgeOf paper01 (nodeAt m.now) g) × (result ≤ 98) }
+    ensures { (result ≡ pledgeOf paper01 (node_at m.now) g) × (result ≤ 98) }
 {
     let places = group_word(m, g, USED) + group_word(m, g, COUNT);
     frames_for(places + queued[g as usize])
@@ -46,7 +46,7 @@ fn pledge(m: &[u32], queued: [u32; 9], g: u32) -> u32
 fn pledges_fit(m: &[u32], queued: [u32; 9]) -> bool
     requires lined { Lined m.now }
     requires queue_counts { QueueCounts m.now (word m.now queued_at) queued }
-    ensures { leb (pledges paper01 (nodeAt m.now)) 96 ≡ result }
+    ensures { leb (pledges paper01 (node_at m.now)) 96 ≡ result }
 {
     let mut sum: u32 = 0;
     let mut g: u32 = 1;
@@ -61,7 +61,7 @@ fn pledges_fit(m: &[u32], queued: [u32; 9]) -> bool
 fn has_line(m: &[u32], queued: [u32; 9], g: u32) -> bool
     requires framed { Framed m.now g }
     requires queue_counts { QueueCounts m.now (word m.now queued_at) queued }
-    ensures { not (is_empty (line (nodeAt m.now) g)) ≡ result }
+    ensures { not (is_empty (line (node_at m.now) g)) ≡ result }
 {
     if group_word(m, g, COUNT) != 0 {
         return true;
@@ -73,7 +73,7 @@ fn has_line(m: &[u32], queued: [u32; 9], g: u32) -> bool
 fn pending_has_line(m: &[u32], queued: [u32; 9], g: u32) -> bool
     requires framed { Framed m.now g }
     requires queue_counts { QueueCounts m.now (word m.now queued_at) queued }
-    ensures { pendingHasLine (nodeAt m.now) g ≡ result }
+    ensures { pending_has_line (node_at m.now) g ≡ result }
 {
     if group_word(m, g, PENDING) != 1 {
         return true;
@@ -85,7 +85,7 @@ fn pending_has_line(m: &[u32], queued: [u32; 9], g: u32) -> bool
 fn pendings_have_line(m: &[u32], queued: [u32; 9]) -> bool
     requires lined { Lined m.now }
     requires queue_counts { QueueCounts m.now (word m.now queued_at) queued }
-    ensures { all (pendingHasLine (nodeAt m.now)) (up_from 1 groupCount) ≡ result }
+    ensures { all (pending_has_line (node_at m.now)) (up_from 1 group_count) ≡ result }
 {
     let mut g: u32 = 1;
     while g <= Node::GROUPS {
@@ -101,7 +101,7 @@ fn pendings_have_line(m: &[u32], queued: [u32; 9]) -> bool
 fn runner_atomic(m: &[u32], queued: [u32; 9]) -> bool
     requires lined { Lined m.now }
     requires queue_counts { QueueCounts m.now (word m.now queued_at) queued }
-    ensures { runnerAtomic (nodeAt m.now) ≡ result }
+    ensures { runner_atomic (node_at m.now) ≡ result }
 {
     let runner = m[RUNNING];
     if runner == 0 {
@@ -116,7 +116,7 @@ fn runner_atomic(m: &[u32], queued: [u32; 9]) -> bool
 // "an empty queue has a timer above 0 only where the running group has force on"
 fn timer_idle(m: &[u32]) -> bool
     requires { Lined m.now }
-    ensures { headStays [] (nodeAt m.now) ≡ result }
+    ensures { head_stays [] (node_at m.now) ≡ result }
 {
     if m[TIMER] == 0 {
         return true;
@@ -131,7 +131,7 @@ fn timer_idle(m: &[u32]) -> bool
 // "if the hardware queue isn't empty its head is the running group's, and that group is direct", which a revoked one is not
 fn head_stays(m: &[u32]) -> bool
     requires { Lined m.now }
-    ensures { headStays (nodeAt m.now).queue (nodeAt m.now) ≡ result }
+    ensures { head_stays (node_at m.now).queue (node_at m.now) ≡ result }
 {
     if m[QUEUED] == 0 {
         return timer_idle(m);
@@ -149,7 +149,7 @@ fn head_stays(m: &[u32]) -> bool
 // "a running group's first page is in a frame"
 fn runner_in_frame(m: &[u32]) -> bool
     requires { Lined m.now }
-    ensures { runnerInFrame paper01 (nodeAt m.now) ≡ result }
+    ensures { runner_in_frame paper01 (node_at m.now) ≡ result }
 {
     let runner = m[RUNNING];
     if runner == 0 {
@@ -164,7 +164,7 @@ fn runner_in_frame(m: &[u32]) -> bool
 // The clauses on the groups' lines, and on the running group.
 pub fn lines_good(m: &[u32]) -> bool
     requires { Lined m.now }
-    ensures { linesGood m.now ≡ result }
+    ensures { lines_good m.now ≡ result }
 {
     let queued = queue_counts(m);
     if !pledges_fit(m, queued) {

@@ -1,9 +1,9 @@
 // The clauses on the numbers that stand where they are read: the running group, the timer, the messages of the queue, and the groups' buffers.
 ghost use Rattle.std.specs.Prelude.{◌≡◌, ◌≤◌, ◌<◌};
 ghost use Rattle.rules.specs.Lists.{all, up_from};
-ghost use Rattle.rules.specs.Build.{groupCount};
+ghost use Rattle.rules.specs.Build.{group_count};
 ghost use Rattle.rules.specs.Memory.{word, queued_at};
-ghost use Rattle.validate.specs.Clauses.{messageGood, bufferGood, numbersGood};
+ghost use Rattle.validate.specs.Clauses.{message_good, buffer_good, numbers_good};
 ghost use Rattle.validate.specs.Known.{Counted};
 
 use memory::Node;
@@ -18,7 +18,7 @@ const ROOM: u32 = 768;
 fn message_good(m: &[u32], i: u32) -> bool
     requires counted { Counted m.now }
     requires i_bound { i < word m.now queued_at }
-    ensures { messageGood m.now i ≡ result }
+    ensures { message_good m.now i ≡ result }
 {
     let g = queue_word(m, i, GROUP);
     if g == 0 {
@@ -33,7 +33,7 @@ fn message_good(m: &[u32], i: u32) -> bool
 // Those of all in the queue.
 fn queue_good(m: &[u32]) -> bool
     requires { Counted m.now }
-    ensures { all (messageGood m.now) (up_from 0 (word m.now queued_at)) ≡ result }
+    ensures { all (message_good m.now) (up_from 0 (word m.now queued_at)) ≡ result }
 {
     let queued = m[QUEUED];
     let mut i: u32 = 0;
@@ -49,8 +49,8 @@ fn queue_good(m: &[u32]) -> bool
 // "h .. within the bounds above"; "each list has its rounded-up length"; "h is 0 where n is 0": those of group g
 fn buffer_good(m: &[u32], g: u32) -> bool
     requires counted { Counted m.now }
-    requires le_g { (1 ≤ g) × (g ≤ groupCount) }
-    ensures { bufferGood m.now g ≡ result }
+    requires le_g { (1 ≤ g) × (g ≤ group_count) }
+    ensures { buffer_good m.now g ≡ result }
 {
     let used = group_word(m, g, USED);
     let count = group_word(m, g, COUNT);
@@ -73,7 +73,7 @@ fn buffer_good(m: &[u32], g: u32) -> bool
 // Those of all groups.
 fn buffers_good(m: &[u32]) -> bool
     requires { Counted m.now }
-    ensures { all (bufferGood m.now) (up_from 1 groupCount) ≡ result }
+    ensures { all (buffer_good m.now) (up_from 1 group_count) ≡ result }
 {
     let mut g: u32 = 1;
     while g <= Node::GROUPS {
@@ -88,7 +88,7 @@ fn buffers_good(m: &[u32]) -> bool
 // The clauses on the numbers that stand where they are read.
 pub fn numbers_good(m: &[u32]) -> bool
     requires { Counted m.now }
-    ensures { numbersGood m.now ≡ result }
+    ensures { numbers_good m.now ≡ result }
 {
     if m[RUNNING] > Node::GROUPS {
         return false;

@@ -1,10 +1,10 @@
 // The clauses of "Memory is a node when" on words alone: counts, flags and unused words. Of a group's flags all is asked in one pass.
 ghost use Rattle.std.specs.Prelude.{◌≡◌, ◌&&◌, ◌+◌, ◌≤◌, ◌<◌, leb, length};
 ghost use Rattle.rules.specs.Lists.{all, up_from};
-ghost use Rattle.rules.specs.Build.{groupCount};
-ghost use Rattle.rules.specs.Memory.{size, word, queued_at, swapCountAt, enteredCountAt, forceOffset, revokedOffset, groupAddress};
-ghost use Rattle.rules.specs.MemoryTest.{groupCounts, lengthInBounds, countsInBounds, queueUnused, freeUnused, swapUnused, enteredUnused, groupUnused, messageUnused, unusedAreZero};
-ghost use Rattle.validate.specs.Clauses.{flagsGood};
+ghost use Rattle.rules.specs.Build.{group_count};
+ghost use Rattle.rules.specs.Memory.{size, word, queued_at, swap_count_at, entered_count_at, force_offset, revoked_offset, group_address};
+ghost use Rattle.rules.specs.MemoryTest.{group_counts, length_in_bounds, counts_in_bounds, queue_unused, free_unused, swap_unused, entered_unused, group_unused, message_unused, unused_are_zero};
+ghost use Rattle.validate.specs.Clauses.{flags_good};
 ghost use Rattle.validate.specs.Known.{Counted};
 
 use crate::PAGE_COUNT;
@@ -19,8 +19,8 @@ use memory::words::zeros;
 // "counts .. are within the bounds above": those of the list and the descriptor of group g
 fn group_counts(m: &[u32], g: u32) -> bool
     requires size_in_bounds { size ≤ length m.now }
-    requires le_g { (1 ≤ g) × (g ≤ groupCount) }
-    ensures { groupCounts m.now g ≡ result }
+    requires le_g { (1 ≤ g) × (g ≤ group_count) }
+    ensures { group_counts m.now g ≡ result }
 {
     if group_word(m, g, HELD) > PAGE_COUNT {
         return false;
@@ -31,7 +31,7 @@ fn group_counts(m: &[u32], g: u32) -> bool
 // Those of all groups.
 fn groups_counted(m: &[u32]) -> bool
     requires { size ≤ length m.now }
-    ensures { all (groupCounts m.now) (up_from 1 groupCount) ≡ result }
+    ensures { all (group_counts m.now) (up_from 1 group_count) ≡ result }
 {
     let mut g: u32 = 1;
     while g <= Node::GROUPS {
@@ -47,7 +47,7 @@ fn groups_counted(m: &[u32]) -> bool
 fn lengths_in_bounds(m: &[u32]) -> bool
     requires size_in_bounds { size ≤ length m.now }
     requires queued_at_bound { word m.now queued_at ≤ 16 }
-    ensures { all (lengthInBounds m.now) (up_from 0 (word m.now queued_at)) ≡ result }
+    ensures { all (length_in_bounds m.now) (up_from 0 (word m.now queued_at)) ≡ result }
 {
     let queued = m[QUEUED];
     let mut i: u32 = 0;
@@ -63,7 +63,7 @@ fn lengths_in_bounds(m: &[u32]) -> bool
 // "counts .. are within the bounds above": those of the swap line and the order of entry
 fn paging_counted(m: &[u32]) -> bool
     requires { size ≤ length m.now }
-    ensures { leb (word m.now swapCountAt) 64 && leb (word m.now enteredCountAt) 32 ≡ result }
+    ensures { leb (word m.now swap_count_at) 64 && leb (word m.now entered_count_at) 32 ≡ result }
 {
     if m[SWAP_COUNT] > Node::SWAP {
         return false;
@@ -74,7 +74,7 @@ fn paging_counted(m: &[u32]) -> bool
 // "counts .. [and] waiting messages' lengths .. are within the bounds above", as far as words alone tell
 pub fn counts_in_bounds(m: &[u32]) -> bool
     requires { size ≤ length m.now }
-    ensures { countsInBounds m.now ≡ result }
+    ensures { counts_in_bounds m.now ≡ result }
 {
     if m[QUEUED] > Node::PLACES {
         return false;
@@ -94,8 +94,8 @@ pub fn counts_in_bounds(m: &[u32]) -> bool
 // The timer's flags of group g: none is above atomic.
 fn timer_flags(m: &[u32], g: u32, atomic: u32) -> bool
     requires size_in_bounds { size ≤ length m.now }
-    requires le_g { (1 ≤ g) × (g ≤ groupCount) }
-    ensures { leb (word m.now (groupAddress g + forceOffset)) atomic && leb (word m.now (groupAddress g + revokedOffset)) atomic ≡ result }
+    requires le_g { (1 ≤ g) × (g ≤ group_count) }
+    ensures { leb (word m.now (group_address g + force_offset)) atomic && leb (word m.now (group_address g + revoked_offset)) atomic ≡ result }
 {
     if group_word(m, g, FORCE) > atomic {
         return false;
@@ -106,8 +106,8 @@ fn timer_flags(m: &[u32], g: u32, atomic: u32) -> bool
 // "flags are 0 or 1"; pending, force and revoked "only with atomic": of group g none is above atomic, which is at most 1
 fn group_flags(m: &[u32], g: u32) -> bool
     requires size_in_bounds { size ≤ length m.now }
-    requires le_g { (1 ≤ g) × (g ≤ groupCount) }
-    ensures { flagsGood m.now g ≡ result }
+    requires le_g { (1 ≤ g) × (g ≤ group_count) }
+    ensures { flags_good m.now g ≡ result }
 {
     let atomic = group_word(m, g, ATOMIC);
     if atomic > 1 {
@@ -122,7 +122,7 @@ fn group_flags(m: &[u32], g: u32) -> bool
 // Of all groups.
 pub fn flags_good(m: &[u32]) -> bool
     requires { size ≤ length m.now }
-    ensures { all (flagsGood m.now) (up_from 1 groupCount) ≡ result }
+    ensures { all (flags_good m.now) (up_from 1 group_count) ≡ result }
 {
     let mut g: u32 = 1;
     while g <= Node::GROUPS {
@@ -137,7 +137,7 @@ pub fn flags_good(m: &[u32]) -> bool
 // "unused places of the queue .. are 0"
 fn queue_unused(m: &[u32]) -> bool
     requires { Counted m.now }
-    ensures { queueUnused m.now ≡ result }
+    ensures { queue_unused m.now ≡ result }
 {
     let queued = m[QUEUED] as usize;
     zeros(
@@ -150,7 +150,7 @@ fn queue_unused(m: &[u32]) -> bool
 // "unused places of the .. free line .. are 0"
 fn free_unused(m: &[u32]) -> bool
     requires { Counted m.now }
-    ensures { freeUnused m.now ≡ result }
+    ensures { free_unused m.now ≡ result }
 {
     let free = m[FREE_COUNT] as usize;
     zeros(m, FREE_AT + free, LINE - free)
@@ -159,7 +159,7 @@ fn free_unused(m: &[u32]) -> bool
 // The same of the swap line.
 fn swap_unused(m: &[u32]) -> bool
     requires { Counted m.now }
-    ensures { swapUnused m.now ≡ result }
+    ensures { swap_unused m.now ≡ result }
 {
     let swap = m[SWAP_COUNT] as usize;
     zeros(m, SWAP_AT + swap, SWAP_LINE - swap)
@@ -168,7 +168,7 @@ fn swap_unused(m: &[u32]) -> bool
 // The order of entry has "its unused places 0".
 fn entered_unused(m: &[u32]) -> bool
     requires { Counted m.now }
-    ensures { enteredUnused m.now ≡ result }
+    ensures { entered_unused m.now ≡ result }
 {
     let entered = m[ENTERED_COUNT] as usize;
     zeros(m, ENTERED_AT + entered, LINE - entered)
@@ -177,8 +177,8 @@ fn entered_unused(m: &[u32]) -> bool
 // "unused places of the .. lists, unused descriptor words .. are 0": those of group g
 fn group_unused(m: &[u32], g: u32) -> bool
     requires counted { Counted m.now }
-    requires le_g { (1 ≤ g) × (g ≤ groupCount) }
-    ensures { groupUnused m.now g ≡ result }
+    requires le_g { (1 ≤ g) × (g ≤ group_count) }
+    ensures { group_unused m.now g ≡ result }
 {
     let held = group_word(m, g, HELD) as usize;
     let described = group_word(m, g, DESCRIBED) as usize;
@@ -192,7 +192,7 @@ fn group_unused(m: &[u32], g: u32) -> bool
 // Those of all groups.
 fn groups_unused(m: &[u32]) -> bool
     requires { Counted m.now }
-    ensures { all (groupUnused m.now) (up_from 1 groupCount) ≡ result }
+    ensures { all (group_unused m.now) (up_from 1 group_count) ≡ result }
 {
     let mut g: u32 = 1;
     while g <= Node::GROUPS {
@@ -208,7 +208,7 @@ fn groups_unused(m: &[u32]) -> bool
 fn message_unused(m: &[u32], i: u32) -> bool
     requires counted { Counted m.now }
     requires i_bound { i < word m.now queued_at }
-    ensures { messageUnused m.now i ≡ result }
+    ensures { message_unused m.now i ≡ result }
 {
     let len = queue_word(m, i, LENGTH) as usize;
     zeros(
@@ -221,7 +221,7 @@ fn message_unused(m: &[u32], i: u32) -> bool
 // Of all in the queue.
 fn messages_unused(m: &[u32]) -> bool
     requires { Counted m.now }
-    ensures { all (messageUnused m.now) (up_from 0 (word m.now queued_at)) ≡ result }
+    ensures { all (message_unused m.now) (up_from 0 (word m.now queued_at)) ≡ result }
 {
     let queued = m[QUEUED];
     let mut i: u32 = 0;
@@ -237,7 +237,7 @@ fn messages_unused(m: &[u32]) -> bool
 // "unused places of the queue, free line and lists, unused descriptor words and a waiting message's words past its length are 0"
 pub fn unused_are_zero(m: &[u32]) -> bool
     requires { Counted m.now }
-    ensures { unusedAreZero m.now ≡ result }
+    ensures { unused_are_zero m.now ≡ result }
 {
     if !queue_unused(m) {
         return false;

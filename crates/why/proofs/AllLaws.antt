@@ -10,19 +10,19 @@ use lib.Seq.{take-add}
 use borrow.Author.Tests.{le-leb}
 use Rattle.rules.specs.Build.{paper01}
 use Rattle.rules.specs.Memory.{size}
-use Rattle.rules.specs.MemoryTest.{powerOnMemory, replaced}
-use Rattle.rules.specs.Node.{powerOn}
+use Rattle.rules.specs.MemoryTest.{power_on_memory, replaced}
+use Rattle.rules.specs.Node.{power_on}
 use Rattle.rules.proofs.Map.RunMemory.{power-on-tested}
-use Rattle.script.specs.Feed.{keptLine, lastNumber}
-use Rattle.script.specs.Feeding.{linesBehind}
+use Rattle.script.specs.Feed.{kept_line, last_number}
+use Rattle.script.specs.Feeding.{lines_behind}
 use Rattle.script.specs.Play.{part}
 use Rattle.script.specs.Read.{line_of}
 use Rattle.script.proofs.feed.BegunLaws.{behind-open}
 use Rattle.script.proofs.write.AppendedLaws.{appended-within}
-use Rattle.follow.specs.Every.{FinishedTo, ToldTo, waitingOf}
-use Rattle.follow.specs.EveryPortions.{Portion, lastMemory, lastState, usedBytes}
+use Rattle.follow.specs.Every.{FinishedTo, ToldTo, waiting_of}
+use Rattle.follow.specs.EveryPortions.{Portion, last_memory, last_state, used_bytes}
 use Rattle.follow.specs.EveryPortions as every
-use Rattle.follow.specs.Waiting.{linesRoom}
+use Rattle.follow.specs.Waiting.{lines_room}
 use Rattle.follow.specs.declared.every.End.{End as End·rt}
 use Rattle.follow.specs.declared.every.State.{State as State·rt}
 use Rattle.follow.specs.declared.every.Told.{Told as Told·rt}
@@ -33,9 +33,9 @@ use Rattle.why.specs.declared.all.Run.{Run as Run·rt}
 -- What a call needs of `tell`: where it did not run out of line numbers there were enough, what was used and written lies inside, and where the output has
 -- room something is used.
 module _ {m : List ℕ} {st : State·rt} {input out m' out' : List ℕ} {t : Told·rt} (g : ToldTo m st input out m' out' t) (stop : t.stop ≡ 2 → ⊥) where
-  told-numbers : st.script.lines + length input < lastNumber
+  told-numbers : st.script.lines + length input < last_number
   told-numbers =
-      elim (dec_lt (st.script.lines + length input) lastNumber) [
+      elim (dec_lt (st.script.lines + length input) last_number) [
         | yes h ↦ h
         | no h ↦ absurd (stop (ap (λ (x : Told·rt). x.stop) (g.last-number (omega arith)).1.1))
       ]
@@ -46,7 +46,7 @@ module _ {m : List ℕ} {st : State·rt} {input out m' out' : List ℕ} {t : Tol
   pub told-within : t.written ≤ length out
   told-within = appended-within (g.enough told-numbers).told (omega arith)
 
-  told-forward : 1 ≤ length input → linesRoom ≤ length out → 1 ≤ t.used
+  told-forward : 1 ≤ length input → lines_room ≤ length out → 1 ≤ t.used
   unfolding line_of
   told-forward some room =
       elim (dec_lt 0 t.used) [
@@ -54,8 +54,8 @@ module _ {m : List ℕ} {st : State·rt} {input out m' out' : List ℕ} {t : Tol
         | no h ↦
             let p = g.enough told-numbers in
             let z : t.used ≡ 0 = omega arith in
-            let none : length (linesBehind (keptLine st.script) (take t.used input)) ≡ 0 =
-            ap (λ (k : ℕ). length (linesBehind (keptLine st.script) (take k input))) z ∙ ap length (behind-open (keptLine st.script) [] refl).0 in
+            let none : length (lines_behind (kept_line st.script) (take t.used input)) ≡ 0 =
+            ap (λ (k : ℕ). length (lines_behind (kept_line st.script) (take k input))) z ∙ ap length (behind-open (kept_line st.script) [] refl).0 in
             let w = p.at_most in
             absurd
             (elim (dec_lt t.stop 1) [
@@ -66,13 +66,13 @@ module _ {m : List ℕ} {st : State·rt} {input out m' out' : List ℕ} {t : Tol
 
 -- no call
 pub reach-none : (m : List ℕ) (st : State·rt) → Reaches m st [] m st
-unfolding every.Tells usedBytes lastMemory lastState
+unfolding every.Tells used_bytes last_memory last_state
 reach-none m st = record { calls = []; tells = tt; used = refl; memory = refl; state = refl }
 
 -- one call
 reach-one : {m : List ℕ} {st : State·rt} {input out m' out' : List ℕ} {t : Told·rt} → ToldTo m st input out m' out' t → (t.stop ≡ 2 → ⊥)
     → Reaches m st (take t.used input) m' t.state
-unfolding every.Tells usedBytes lastMemory lastState
+unfolding every.Tells used_bytes last_memory last_state
 reach-one {input = input} {out} {m'} {out'} {t} g stop =
     record {
       calls = record { input = input; output = out; memory-after = m'; output-after = out'; told = t } ∷ [];
@@ -83,25 +83,25 @@ reach-one {input = input} {out} {m'} {out'} {t} g stop =
     }
 
 -- the calls of two lists
-tells-append : (m : List ℕ) (st : State·rt) (ps qs : List Portion) → every.Tells m st ps → every.Tells (lastMemory m ps) (lastState st ps) qs
+tells-append : (m : List ℕ) (st : State·rt) (ps qs : List Portion) → every.Tells m st ps → every.Tells (last_memory m ps) (last_state st ps) qs
     → every.Tells m st (ps ++ qs)
-unfolding every.Tells lastMemory lastState
+unfolding every.Tells last_memory last_state
 tells-append m st [] qs f g = g
 tells-append m st (p ∷ ps) qs f g = (f.0, (f.1.0, tells-append p.memory-after p.told.state ps qs f.1.1 g))
 
-used-append : (ps qs : List Portion) → usedBytes (ps ++ qs) ≡ usedBytes ps ++ usedBytes qs
-unfolding usedBytes
+used-append : (ps qs : List Portion) → used_bytes (ps ++ qs) ≡ used_bytes ps ++ used_bytes qs
+unfolding used_bytes
 used-append [] qs = refl
 used-append (p ∷ ps) qs =
-    ap (λ (x : List ℕ). take p.told.used p.input ++ x) (used-append ps qs) ∙ sym (append_assoc (take p.told.used p.input) (usedBytes ps) (usedBytes qs))
+    ap (λ (x : List ℕ). take p.told.used p.input ++ x) (used-append ps qs) ∙ sym (append_assoc (take p.told.used p.input) (used_bytes ps) (used_bytes qs))
 
-memory-append : (m : List ℕ) (ps qs : List Portion) → lastMemory m (ps ++ qs) ≡ lastMemory (lastMemory m ps) qs
-unfolding lastMemory
+memory-append : (m : List ℕ) (ps qs : List Portion) → last_memory m (ps ++ qs) ≡ last_memory (last_memory m ps) qs
+unfolding last_memory
 memory-append m [] qs = refl
 memory-append m (p ∷ ps) qs = memory-append p.memory-after ps qs
 
-state-append : (st : State·rt) (ps qs : List Portion) → lastState st (ps ++ qs) ≡ lastState (lastState st ps) qs
-unfolding lastState
+state-append : (st : State·rt) (ps qs : List Portion) → last_state st (ps ++ qs) ≡ last_state (last_state st ps) qs
+unfolding last_state
 state-append st [] qs = refl
 state-append st (p ∷ ps) qs = state-append p.told.state ps qs
 
@@ -113,17 +113,17 @@ reach-more {m} {st} {b} {m'} {st'} {c} r s =
     record {
       calls = ps ++ qs;
       tells = tells-append m st ps qs r.tells
-          (subst (λ (x : State·rt). every.Tells (lastMemory m ps) x qs) (sym r.state) (subst (λ (x : List ℕ). every.Tells x st' qs) (sym r.memory) s.tells));
-      used = used-append ps qs ∙ ap (λ (x : List ℕ). x ++ usedBytes qs) r.used ∙ ap (λ (x : List ℕ). b ++ x) s.used;
-      memory = memory-append m ps qs ∙ ap (λ (x : List ℕ). lastMemory x qs) r.memory ∙ s.memory;
-      state = state-append st ps qs ∙ ap (λ (x : State·rt). lastState x qs) r.state ∙ s.state;
+          (subst (λ (x : State·rt). every.Tells (last_memory m ps) x qs) (sym r.state) (subst (λ (x : List ℕ). every.Tells x st' qs) (sym r.memory) s.tells));
+      used = used-append ps qs ∙ ap (λ (x : List ℕ). x ++ used_bytes qs) r.used ∙ ap (λ (x : List ℕ). b ++ x) s.used;
+      memory = memory-append m ps qs ∙ ap (λ (x : List ℕ). last_memory x qs) r.memory ∙ s.memory;
+      state = state-append st ps qs ∙ ap (λ (x : State·rt). last_state x qs) r.state ∙ s.state;
     }
 
 -- Within a portion.
 
 -- a call on what is left of it
 pub plays-some : {m : List ℕ} {run : Run·rt} {input out m' out' : List ℕ} {t : Told·rt} {well : Bool}
-    → ToldTo m run.state (drop run.used input) out m' out' t → (t.stop ≡ 2 → ⊥) → run.used < length input → linesRoom ≤ length out
+    → ToldTo m run.state (drop run.used input) out m' out' t → (t.stop ≡ 2 → ⊥) → run.used < length input → lines_room ≤ length out
     → Plays m run input m' (record { state = t.state; used = run.used + t.used; well = well; ended = run.ended })
 unfolding part
 plays-some {m} {run} {input} {m' = m'} {t = t} g stop more room =
@@ -162,13 +162,13 @@ runs-more g t = record { script = _; reaches = reach-more g.reaches t.takes-in.p
 -- The script's end.
 
 -- what is written lies inside
-pub end-within : {m : List ℕ} {st : State·rt} {out m' out' : List ℕ} {e : End·rt} → FinishedTo m st out m' out' e → 2 * linesRoom ≤ length out
-    → st.script.lines + 1 < lastNumber → e.written ≤ length out
+pub end-within : {m : List ℕ} {st : State·rt} {out m' out' : List ℕ} {e : End·rt} → FinishedTo m st out m' out' e → 2 * lines_room ≤ length out
+    → st.script.lines + 1 < last_number → e.written ≤ length out
 end-within f room number = appended-within (f.enough room number).told (omega arith)
 
 -- power-on, a new state, a run to the end of its input, and the script's end
-pub tells_all : {m m₀ : List ℕ} {st : State·rt} {m' : List ℕ} {run : Run·rt} {out m'' out' : List ℕ} → size ≤ length m → m₀ ≡ replaced (powerOn paper01) m
-    → (st.script.lines ≡ 0) × ((keptLine st.script ≡ []) × (waitingOf st ≡ [])) → Runs m₀ st m' run → run.ended ≡ true
+pub tells_all : {m m₀ : List ℕ} {st : State·rt} {m' : List ℕ} {run : Run·rt} {out m'' out' : List ℕ} → size ≤ length m → m₀ ≡ replaced (power_on paper01) m
+    → (st.script.lines ≡ 0) × ((kept_line st.script ≡ []) × (waiting_of st ≡ [])) → Runs m₀ st m' run → run.ended ≡ true
     → Ends m' run.state out m'' out' → Tells m
 tells_all {m} {st = st} {m'} {run} {out} {m''} {out'} long start new runs ended ends =
     record {
@@ -202,9 +202,9 @@ run-all-told =
             tells = q.tells;
             read = q.used;
             room = e.room;
-            number = subst (λ (x : State·rt). x.script.lines + 1 < lastNumber) (sym q.state) e.number;
+            number = subst (λ (x : State·rt). x.script.lines + 1 < last_number) (sym q.state) e.number;
             finishes =
-                subst (λ (x : State·rt). FinishedTo (lastMemory (powerOnMemory m).memory q.calls) x a.out a.memory' a.out' e.end) (sym q.state)
+                subst (λ (x : State·rt). FinishedTo (last_memory (power_on_memory m).memory q.calls) x a.out a.memory' a.out' e.end) (sym q.state)
                 (subst (λ (x : List ℕ). FinishedTo x a.run.state a.out a.memory' a.out' e.end) (sym q.memory) e.finished);
           });
     }

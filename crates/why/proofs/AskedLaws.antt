@@ -10,39 +10,39 @@ use lib.Dec.{leb}
 use lib.ListN.{length}
 use Rattle.rules.specs.Lists.{all, is_empty}
 use Rattle.rules.specs.Script.{is_number, number}
-use Rattle.rules.specs.Text.{bytes, isDigit}
-use Rattle.script.specs.Read.{NumberRead, digitsOf}
+use Rattle.rules.specs.Text.{bytes, is_digit}
+use Rattle.script.specs.Read.{NumberRead, digits_of}
 use Rattle.script.proofs.read.LineEndLaws.{by-test}
 use Rattle.script.specs.declared.read.Digits.{Digits as Digits·rt}
-use Rattle.why.specs.Asked.{Asks, lineAsked}
+use Rattle.why.specs.Asked.{Asks, line_asked}
 use Rattle.why.specs.declared.asked.Asked.{Asked as Asked·rt}
 use Rattle.why.specs.declared.asked.Asked.TheVariants.{All, Line, Nothing}
 
 -- the digits that a text begins with are no more than it has, and all of it where they are as many
-digits-few : (t : List ℕ) → length (digitsOf t) ≤ length t
-unfolding digitsOf
+digits-few : (t : List ℕ) → length (digits_of t) ≤ length t
+unfolding digits_of
 digits-few [] = omega arith
-digits-few (x ∷ t) = let h = digits-few t in by-test (isDigit x) (λ e. rw (digitsOf, e) (omega arith)) (λ e. rw (digitsOf, e) (omega arith))
+digits-few (x ∷ t) = let h = digits-few t in by-test (is_digit x) (λ e. rw (digits_of, e) (omega arith)) (λ e. rw (digits_of, e) (omega arith))
 
-digits-whole : (t : List ℕ) → length t ≤ length (digitsOf t) → digitsOf t ≡ t
-unfolding digitsOf
+digits-whole : (t : List ℕ) → length t ≤ length (digits_of t) → digits_of t ≡ t
+unfolding digits_of
 digits-whole [] h = refl
 digits-whole (x ∷ t) h =
-    by-test (isDigit x)
-    (λ e. rw (digitsOf, e) (ap (λ (l : List ℕ). x ∷ l) (digits-whole t (let f = rw (digitsOf, e) at h in omega arith))))
-    (λ e. let f = rw (digitsOf, e) at h in absurd (omega arith))
+    by-test (is_digit x)
+    (λ e. rw (digits_of, e) (ap (λ (l : List ℕ). x ∷ l) (digits-whole t (let f = rw (digits_of, e) at h in omega arith))))
+    (λ e. let f = rw (digits_of, e) at h in absurd (omega arith))
 
 -- a text that goes on behind them is not of digits
-digits-else : (t : List ℕ) → length (digitsOf t) < length t → all isDigit t ≡ false
-unfolding digitsOf
+digits-else : (t : List ℕ) → length (digits_of t) < length t → all is_digit t ≡ false
+unfolding digits_of
 digits-else [] h = absurd (omega arith)
 digits-else (x ∷ t) h =
-    by-test (isDigit x)
-    (λ e. rw e (digits-else t (let f = rw (digitsOf, e) at h in omega arith)))
+    by-test (is_digit x)
+    (λ e. rw e (digits-else t (let f = rw (digits_of, e) at h in omega arith)))
     (λ e. rw e)
 
 -- such a text is no number
-number-else : (t : List ℕ) → all isDigit t ≡ false → number t ≡ none
+number-else : (t : List ℕ) → all is_digit t ≡ false → number t ≡ none
 unfolding number is_number
 number-else t e = rw (e, both_false (not (is_empty t)) (leb (length t) 10))
   where
@@ -54,35 +54,35 @@ number-else t e = rw (e, both_false (not (is_empty t)) (leb (length t) 10))
 -- what was read of it
 module _ {t : List ℕ} {d : Digits·rt} (r : NumberRead t 0 d) where
   -- no number
-  pub asked-none : d.ok ≡ false → Nothing ≡ lineAsked (number t)
-  unfolding lineAsked
-  asked-none bad = go (dec_lt (length (digitsOf t)) (length t))
+  pub asked-none : d.ok ≡ false → Nothing ≡ line_asked (number t)
+  unfolding line_asked
+  asked-none bad = go (dec_lt (length (digits_of t)) (length t))
     where
-      read_none : number (digitsOf t) ≡ none
+      read_none : number (digits_of t) ≡ none
       read_none = sym r.found ∙ ap (λ (b : Bool). cond b (some d.value) none) bad
 
-      go : Dec (length (digitsOf t) < length t) → Nothing ≡ lineAsked (number t)
-      go (yes more) = ap lineAsked (sym (number-else t (digits-else t more)))
-      go (no whole) = ap lineAsked (sym (ap number (sym (digits-whole t (omega arith))) ∙ read_none))
+      go : Dec (length (digits_of t) < length t) → Nothing ≡ line_asked (number t)
+      go (yes more) = ap line_asked (sym (number-else t (digits-else t more)))
+      go (no whole) = ap line_asked (sym (ap number (sym (digits-whole t (omega arith))) ∙ read_none))
 
   module _ (ok : d.ok ≡ true) where
     -- one, with something behind it
-    pub asked-more : d.next < length t → Nothing ≡ lineAsked (number t)
-    unfolding lineAsked
-    asked-more more = let b = r.behind ok in ap lineAsked (sym (number-else t (digits-else t (omega arith))))
+    pub asked-more : d.next < length t → Nothing ≡ line_asked (number t)
+    unfolding line_asked
+    asked-more more = let b = r.behind ok in ap line_asked (sym (number-else t (digits-else t (omega arith))))
 
     -- all of it is one
-    pub asked-line : length t ≤ d.next → Line d.value ≡ lineAsked (number t)
-    unfolding lineAsked
+    pub asked-line : length t ≤ d.next → Line d.value ≡ line_asked (number t)
+    unfolding line_asked
     asked-line whole =
         let b = r.behind ok in
         let f = digits-few t in
-        ap lineAsked (sym (ap number (sym (digits-whole t (omega arith))) ∙ sym r.found ∙ ap (λ (b : Bool). cond b (some d.value) none) ok))
+        ap line_asked (sym (ap number (sym (digits-whole t (omega arith))) ∙ sym r.found ∙ ap (λ (b : Bool). cond b (some d.value) none) ok))
 
 -- What is asked.
 
 pub asks-all : {t : List ℕ} → t ≡ bytes "--all" → Asks t All
 asks-all e = record { all = λ _. refl; line = λ other. absurd (other e) }
 
-pub asks-line : {t : List ℕ} {a : Asked·rt} → (t ≡ bytes "--all" → ⊥) → a ≡ lineAsked (number t) → Asks t a
+pub asks-line : {t : List ℕ} {a : Asked·rt} → (t ≡ bytes "--all" → ⊥) → a ≡ line_asked (number t) → Asks t a
 asks-line other e = record { all = λ same. absurd (other same); line = λ _. e }

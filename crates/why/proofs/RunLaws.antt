@@ -10,29 +10,29 @@ use borrow.Author.Tests.{eqb-true, le-leb, leb-true}
 use Rattle.rules.specs.Build.{paper01}
 use Rattle.rules.specs.Lists.{is_empty}
 use Rattle.rules.specs.Memory.{size}
-use Rattle.rules.specs.MemoryTest.{powerOnMemory, replaced}
-use Rattle.rules.specs.Node.{powerOn}
+use Rattle.rules.specs.MemoryTest.{power_on_memory, replaced}
+use Rattle.rules.specs.Node.{power_on}
 use Rattle.rules.specs.Operation.{unreadable}
 use Rattle.rules.specs.Run.{Event, arrived, run}
 use Rattle.rules.proofs.Map.RunMemory.{power-on-tested}
 use Rattle.reasons.specs.Follow.{unfollowed}
-use Rattle.reasons.specs.Why.{Departure, Told, tellEvent, tellLine, tellMessage, why}
-use Rattle.script.specs.Feed.{keptLine, lastNumber}
-use Rattle.follow.specs.One.{Finished, followedOf, toldOf}
-use Rattle.follow.specs.Portions.{FollowsScript, Settled, lastMemory, lastState}
+use Rattle.reasons.specs.Why.{Departure, Told, tell_event, tell_line, tell_message, why}
+use Rattle.script.specs.Feed.{kept_line, last_number}
+use Rattle.follow.specs.One.{Finished, followed_of, told_of}
+use Rattle.follow.specs.Portions.{FollowsScript, Settled, last_memory, last_state}
 use Rattle.follow.specs.declared.one.State.{State as State·rt}
 use Rattle.follow.specs.declared.one.Told.{Told as Told·rt}
 use Rattle.follow.proofs.PortionsLaws.{portions-told}
 use Rattle.script.proofs.read.NumberLaws.{both-pass}
-use Rattle.why.specs.One.{AnswerTold, Answers, RunTold, Runs, Tells, Written, answerLine, isRefusal, settled}
+use Rattle.why.specs.One.{AnswerTold, Answers, RunTold, Runs, Tells, Written, answer_line, is_refusal, settled}
 use Rattle.why.specs.declared.one.Run.{Run as Run·rt}
 use Rattle.why.specs.declared.one.Text.{Text as Text·rt}
 
 -- power-on, a new state, a run, what is told of it, and its text
 pub answers-told : {m : List ℕ} {w : ℕ} {m₀ : List ℕ} {st : State·rt} {m' : List ℕ} {run : Run·rt} {m'' : List ℕ} {t : Told·rt} {out' : List ℕ} {r : Text·rt}
-    → size ≤ length m → m₀ ≡ replaced (powerOn paper01) m
-    → (st.script.lines ≡ 0) × ((keptLine st.script ≡ []) × ((st.wanted ≡ w) × (followedOf st.followed ≡ unfollowed)))
-    → (run.well ≡ true → Runs m₀ st m' run) → Tells m' run m'' t → Written w (toldOf t) out' r → Answers m w out' r
+    → size ≤ length m → m₀ ≡ replaced (power_on paper01) m
+    → (st.script.lines ≡ 0) × ((kept_line st.script ≡ []) × ((st.wanted ≡ w) × (followed_of st.followed ≡ unfollowed)))
+    → (run.well ≡ true → Runs m₀ st m' run) → Tells m' run m'' t → Written w (told_of t) out' r → Answers m w out' r
 answers-told {m} {st = st} {m'} {run} {m''} {t} long start new runs tells written =
     record {
       state = st;
@@ -54,56 +54,56 @@ settled-passes st e =
     record { passed = leb-true _ _ b.0; nowhere = eqb-true _ _ b.1 }
 
 -- what is written is the line of what is told, and that is what `why` tells of s
-answer-told : {m : List ℕ} {w : ℕ} {out' : List ℕ} {r : Text·rt} {s : List ℕ} (a : Answers m w out' r) → toldOf a.told ≡ why s w → AnswerTold s w out' r
-answer-told {w = w} a e = record { text = a.written.text ∙ ap (answerLine w) e; refused = a.written.refused ∙ ap isRefusal e }
+answer-told : {m : List ℕ} {w : ℕ} {out' : List ℕ} {r : Text·rt} {s : List ℕ} (a : Answers m w out' r) → told_of a.told ≡ why s w → AnswerTold s w out' r
+answer-told {w = w} a e = record { text = a.written.text ∙ ap (answer_line w) e; refused = a.written.refused ∙ ap is_refusal e }
 
 module _ {m : List ℕ} {w : ℕ} {out' : List ℕ} {r : Text·rt} (long : size ≤ length m) (a : Answers m w out' r) where
   script-followed : FollowsScript m w a.state a.runs.reaches.calls a.runs.script
   script-followed = record { long = long; new = a.new; follows = a.runs.reaches.follows; read = a.runs.reaches.handed }
 
-  told-end : a.run.ended ≡ true → toldOf a.told ≡ why a.runs.script w
+  told-end : a.run.ended ≡ true → told_of a.told ≡ why a.runs.script w
   told-end e =
       let q = a.runs.reaches in
       let t = a.tells.at-end e in
-      let number : (lastState a.state q.calls).script.lines + 1 < lastNumber =
-      subst (λ (x : State·rt). x.script.lines + 1 < lastNumber) (sym q.state) t.number in
+      let number : (last_state a.state q.calls).script.lines + 1 < last_number =
+      subst (λ (x : State·rt). x.script.lines + 1 < last_number) (sym q.state) t.number in
       portions-told.told m a.runs.script w a.state q.calls a.memory' a.told script-followed
       (record {
         number = number;
         finishes =
-            subst (λ (x : State·rt). Finished (lastMemory (powerOnMemory m).memory q.calls) x a.memory' a.told) (sym q.state)
+            subst (λ (x : State·rt). Finished (last_memory (power_on_memory m).memory q.calls) x a.memory' a.told) (sym q.state)
             (subst (λ (x : List ℕ). Finished x a.run.state a.memory' a.told) (sym q.memory) t.finished);
       })
 
-  told-before : a.run.ended ≡ false → (rest : List ℕ) → toldOf a.told ≡ why (a.runs.script ++ rest) w
+  told-before : a.run.ended ≡ false → (rest : List ℕ) → told_of a.told ≡ why (a.runs.script ++ rest) w
   told-before e rest =
       let q = a.runs.reaches in
       let t = a.tells.before e in
-      ap toldOf (t.1 ∙ ap (λ (x : State·rt). x.followed.told) (sym q.state))
+      ap told_of (t.1 ∙ ap (λ (x : State·rt). x.followed.told) (sym q.state))
       ∙ portions-told.settled m a.runs.script rest w a.state q.calls script-followed
       (subst Settled (sym q.state) (settled-passes a.run.state t.0))
 
 -- `why` refuses with 2 or 17, or not at all
 abbrev RefusedBy : Told → Type 0
-RefusedBy t = isRefusal t ≡ eqb t.answer 2 || eqb t.answer 17
+RefusedBy t = is_refusal t ≡ eqb t.answer 2 || eqb t.answer 17
 
-message-refused : (last : ℕ) (ds : List Departure) (k : ℕ) → RefusedBy (tellMessage last ds k)
-unfolding tellMessage
+message-refused : (last : ℕ) (ds : List Departure) (k : ℕ) → RefusedBy (tell_message last ds k)
+unfolding tell_message
 message-refused last [] k = refl
 message-refused last (d ∷ ds) zero = refl
 message-refused last (d ∷ ds) (suc k) = message-refused last ds k
 
-event-refused : (last : ℕ) (ds : List Departure) (k : ℕ) (e : Event) → RefusedBy (tellEvent last ds k e)
-unfolding tellEvent
+event-refused : (last : ℕ) (ds : List Departure) (k : ℕ) (e : Event) → RefusedBy (tell_event last ds k e)
+unfolding tell_event
 event-refused last ds k e = go (eqb e.report.answer unreadable) (is_empty (arrived e)) refl refl
   where
-    go : (two none : Bool) → eqb e.report.answer unreadable ≡ two → is_empty (arrived e) ≡ none → RefusedBy (tellEvent last ds k e)
+    go : (two none : Bool) → eqb e.report.answer unreadable ≡ two → is_empty (arrived e) ≡ none → RefusedBy (tell_event last ds k e)
     go true none p q = rw p
     go false true p q = rw (p, q)
     go false false p q = rw (p, q) (message-refused last ds k)
 
-line_refused : (last : ℕ) (ds : List Departure) (k : ℕ) (es : List Event) (w : ℕ) → RefusedBy (tellLine last ds k es w)
-unfolding tellLine
+line_refused : (last : ℕ) (ds : List Departure) (k : ℕ) (es : List Event) (w : ℕ) → RefusedBy (tell_line last ds k es w)
+unfolding tell_line
 line_refused last ds k [] w = refl
 line_refused last ds k (e ∷ es) zero = refl
 line_refused last ds k (e ∷ es) (suc zero) = event-refused last ds k e

@@ -9,48 +9,48 @@ use lib.ListN.{length}
 use borrow.Author.Tests.{eq-eqb, ne_eqb}
 use Rattle.rules.specs.Operation.{unreadable}
 use Rattle.rules.specs.Text.{bytes, decimal}
-use Rattle.reasons.specs.Why.{Told, whyLine}
+use Rattle.reasons.specs.Why.{Told, why_line}
 use Rattle.script.specs.Written.{Appended}
-use Rattle.follow.specs.Text.{whyRoom}
-use Rattle.why.specs.One.{Written, answerLine, refusalLine, refusalWords}
+use Rattle.follow.specs.Text.{why_room}
+use Rattle.why.specs.One.{Written, answer_line, refusal_line, refusal_words}
 
 -- the words of a refusal
-pub words-unread : (a : ℕ) → a ≡ unreadable → bytes ": it can't be read\n" ≡ refusalWords a
-unfolding refusalWords
+pub words-unread : (a : ℕ) → a ≡ unreadable → bytes ": it can't be read\n" ≡ refusal_words a
+unfolding refusal_words
 words-unread a e = rw (eq-eqb a unreadable e)
 
-pub words-else : (a : ℕ) → (a ≡ unreadable → ⊥) → bytes ": it is no accepted arrival of this script\n" ≡ refusalWords a
-unfolding refusalWords
+pub words-else : (a : ℕ) → (a ≡ unreadable → ⊥) → bytes ": it is no accepted arrival of this script\n" ≡ refusal_words a
+unfolding refusal_words
 words-else a e = rw (ne_eqb a unreadable e)
 
 -- its parts joined
 in_a_row : (a b c d e : List ℕ) → (a ++ b) ++ ((c ++ d) ++ e) ≡ a ++ (b ++ (c ++ (d ++ e)))
 in_a_row a b c d e = simp append_assoc
 
-pub refusal-row : (w a : ℕ) {ws : List ℕ} → ws ≡ refusalWords a → (bytes "why: line " ++ decimal w) ++ ((bytes ": refused with " ++ decimal a) ++ ws) ≡ refusalLine w a
-unfolding refusalLine
+pub refusal-row : (w a : ℕ) {ws : List ℕ} → ws ≡ refusal_words a → (bytes "why: line " ++ decimal w) ++ ((bytes ": refused with " ++ decimal a) ++ ws) ≡ refusal_line w a
+unfolding refusal_line
 refusal-row w a {ws} e =
     in_a_row (bytes "why: line ") (decimal w) (bytes ": refused with ") (decimal a) ws
     ∙ ap (λ (x : List ℕ). bytes "why: line " ++ (decimal w ++ (bytes ": refused with " ++ (decimal a ++ x)))) e
 
 -- what is told, written
 module _ (w : ℕ) (t : Told) {out out' : List ℕ} {end : ℕ} where
-  pub why-written : t.answer ≡ 0 → whyRoom ≤ length out → Appended out 0 out' end (whyLine w t.reason t.line) × (end ≤ 0 + whyRoom)
+  pub why-written : t.answer ≡ 0 → why_room ≤ length out → Appended out 0 out' end (why_line w t.reason t.line) × (end ≤ 0 + why_room)
       → Written w t out' (record { well = true; refused = false; end = end })
-  unfolding answerLine
+  unfolding answer_line
   why-written zero room a =
       record {
         within = let s = a.0.same_length in let f = a.1 in omega arith;
-        text = a.0.written ∙ ap (λ (b : Bool). cond b (whyLine w t.reason t.line) (refusalLine w t.answer)) (sym (eq-eqb t.answer 0 zero));
+        text = a.0.written ∙ ap (λ (b : Bool). cond b (why_line w t.reason t.line) (refusal_line w t.answer)) (sym (eq-eqb t.answer 0 zero));
         refused = ap not (sym (eq-eqb t.answer 0 zero));
       }
 
-  pub refusal-written : (t.answer ≡ 0 → ⊥) → whyRoom ≤ length out → Appended out 0 out' end (refusalLine w t.answer) × (end ≤ whyRoom)
+  pub refusal-written : (t.answer ≡ 0 → ⊥) → why_room ≤ length out → Appended out 0 out' end (refusal_line w t.answer) × (end ≤ why_room)
       → Written w t out' (record { well = true; refused = true; end = end })
-  unfolding answerLine
+  unfolding answer_line
   refusal-written other room a =
       record {
         within = let s = a.0.same_length in let f = a.1 in omega arith;
-        text = a.0.written ∙ ap (λ (b : Bool). cond b (whyLine w t.reason t.line) (refusalLine w t.answer)) (sym (ne_eqb t.answer 0 other));
+        text = a.0.written ∙ ap (λ (b : Bool). cond b (why_line w t.reason t.line) (refusal_line w t.answer)) (sym (ne_eqb t.answer 0 other));
         refused = ap not (sym (ne_eqb t.answer 0 other));
       }

@@ -3,14 +3,14 @@
 -- Assumes nothing.
 use Rattle.std.specs.Prelude.{ℕ, ◌+◌, ◌*◌, ◌≤◌, ◌<◌, true, List, [], ◌++◌, ◌≡◌, eqb, length, take}
 use Rattle.rules.specs.Memory.{size}
-use Rattle.rules.specs.MemoryTest.{powerOnMemory}
-use Rattle.reasons.specs.Why.{whyAll}
-use Rattle.script.specs.Feed.{keptLine, lastNumber}
+use Rattle.rules.specs.MemoryTest.{power_on_memory}
+use Rattle.reasons.specs.Why.{why_all}
+use Rattle.script.specs.Feed.{kept_line, last_number}
 use Rattle.script.specs.Play.{part}
-use Rattle.follow.specs.Every.{FinishedTo, waitingOf}
-use Rattle.follow.specs.EveryPortions.{Portion, lastMemory, lastState, usedBytes, writtenBytes}
+use Rattle.follow.specs.Every.{FinishedTo, waiting_of}
+use Rattle.follow.specs.EveryPortions.{Portion, last_memory, last_state, used_bytes, written_bytes}
 use Rattle.follow.specs.EveryPortions as every
-use Rattle.follow.specs.Waiting.{linesRoom}
+use Rattle.follow.specs.Waiting.{lines_room}
 use Rattle.follow.specs.declared.every.End.{End as End·rt}
 use Rattle.follow.specs.declared.every.State.{State as State·rt}
 use Rattle.why.specs.Reads.{Brought}
@@ -21,9 +21,9 @@ use Rattle.why.specs.declared.reads.Got.{Got as Got·rt}
 pub record Reaches (m : List ℕ) (st : State·rt) (bs m' : List ℕ) (st' : State·rt) : Type 0 where
   pub calls : List Portion
   pub tells : every.Tells m st calls
-  pub used : usedBytes calls ≡ bs
-  pub memory : lastMemory m calls ≡ m'
-  pub state : lastState st calls ≡ st'
+  pub used : used_bytes calls ≡ bs
+  pub memory : last_memory m calls ≡ m'
+  pub state : last_state st calls ≡ st'
 
 -- from the bytes used so far some more are used
 pub record Plays (m : List ℕ) (run : Run·rt) (input m' : List ℕ) (run' : Run·rt) : Type 0 where
@@ -56,19 +56,19 @@ pub record Runs (m : List ℕ) (st : State·rt) (m' : List ℕ) (run : Run·rt) 
 -- the script's end, with a number for a line that has begun
 pub record Ends (m : List ℕ) (st : State·rt) (out m' out' : List ℕ) : Type 0 where
   pub end : End·rt
-  pub room : 2 * linesRoom ≤ length out
-  pub number : st.script.lines + 1 < lastNumber
+  pub room : 2 * lines_room ≤ length out
+  pub number : st.script.lines + 1 < last_number
   pub finished : FinishedTo m st out m' out' end
 
 -- what the program has done: from power-on and a new state a run to the end of its input, and the script's end
 pub record Tells (m : List ℕ) : Type 0 where
   pub state : State·rt
   pub none : state.script.lines ≡ 0
-  pub empty : keptLine state.script ≡ []
-  pub nobody : waitingOf state ≡ []
+  pub empty : kept_line state.script ≡ []
+  pub nobody : waiting_of state ≡ []
   pub memory : List ℕ
   pub run : Run·rt
-  pub runs : Runs (powerOnMemory m).memory state memory run
+  pub runs : Runs (power_on_memory m).memory state memory run
   pub ended : run.ended ≡ true
   pub out : List ℕ
   pub memory' : List ℕ
@@ -77,8 +77,8 @@ pub record Tells (m : List ℕ) : Type 0 where
 
 -- what its calls have written
 unfoldable pub written_by : {m : List ℕ} → Tells m → List ℕ
-written_by a = writtenBytes a.runs.reaches.calls ++ take a.ends.end.written a.out'
+written_by a = written_bytes a.runs.reaches.calls ++ take a.ends.end.written a.out'
 
 -- they have written the answer for every accepted arrival of the script that the reads brought
 pub record RunAllTold : Type 0 where
-  pub written : (m : List ℕ) → size ≤ length m → (a : Tells m) → written_by a ≡ whyAll a.runs.script
+  pub written : (m : List ℕ) → size ≤ length m → (a : Tells m) → written_by a ≡ why_all a.runs.script

@@ -2,13 +2,13 @@
 -- with line numbers enough; and what is told is why the message of the line was buffered. Assumes nothing.
 use Rattle.std.specs.Prelude.{ℕ, ◌+◌, ◌≤◌, ◌<◌, Bool, true, false, not, cond, ◌&&◌, ◌||◌, List, ◌++◌, ◌≡◌, eqb, leb, length, take}
 use Rattle.rules.specs.Memory.{size}
-use Rattle.rules.specs.MemoryTest.{powerOnMemory}
+use Rattle.rules.specs.MemoryTest.{power_on_memory}
 use Rattle.rules.specs.Operation.{unreadable}
 use Rattle.rules.specs.Text.{bytes, decimal}
-use Rattle.reasons.specs.Why.{Told, why, whyLine}
-use Rattle.script.specs.Feed.{lastNumber}
-use Rattle.follow.specs.One.{Finished, toldOf}
-use Rattle.follow.specs.Portions.{Follows, New, Portion, bytes_of, lastMemory, lastState}
+use Rattle.reasons.specs.Why.{Told, why, why_line}
+use Rattle.script.specs.Feed.{last_number}
+use Rattle.follow.specs.One.{Finished, told_of}
+use Rattle.follow.specs.Portions.{Follows, New, Portion, bytes_of, last_memory, last_state}
 use Rattle.follow.specs.declared.one.State.{State as State·rt}
 use Rattle.follow.specs.declared.one.Told.{Told as Told·rt}
 use Rattle.why.specs.Reads.{Brought}
@@ -21,8 +21,8 @@ pub record Reaches (m : List ℕ) (st : State·rt) (bs m' : List ℕ) (st' : Sta
   pub calls : List Portion
   pub follows : Follows m st calls
   pub handed : bytes_of calls ≡ bs
-  pub memory : lastMemory m calls ≡ m'
-  pub state : lastState st calls ≡ st'
+  pub memory : last_memory m calls ≡ m'
+  pub state : last_state st calls ≡ st'
 
 -- a portion is followed; one without bytes is the end of the input
 pub record Plays (m : List ℕ) (st : State·rt) (input m' : List ℕ) (run : Run·rt) : Type 0 where
@@ -50,12 +50,12 @@ unfoldable pub settled : State·rt → Bool
 settled st = leb st.wanted st.script.lines && eqb st.followed.place 0
 
 -- there is more to read
-unfoldable pub goesOn : Run·rt → Bool
-goesOn run = run.well && (not run.ended && not (settled run.state))
+unfoldable pub goes_further : Run·rt → Bool
+goes_further run = run.well && (not run.ended && not (settled run.state))
 
 -- what is told at the end of the input, with a number for a line that has begun
 pub record TellsEnd (m : List ℕ) (st : State·rt) (m' : List ℕ) (t : Told·rt) : Type 0 where
-  pub number : st.script.lines + 1 < lastNumber
+  pub number : st.script.lines + 1 < last_number
   pub finished : Finished m st m' t
 
 -- and what is told after a run that went well: before the end of the input only what is settled
@@ -67,25 +67,25 @@ pub record Tells (m : List ℕ) (run : Run·rt) (m' : List ℕ) (t : Told·rt) :
 -- The answer as text.
 
 -- "It refuses with 2 a line that the listing answers with 2, then with 17 one that isn't an accepted arrival or isn't in the script"
-unfoldable pub refusalWords : ℕ → List ℕ
-refusalWords a = cond (eqb a unreadable) (bytes ": it can't be read\n") (bytes ": it is no accepted arrival of this script\n")
+unfoldable pub refusal_words : ℕ → List ℕ
+refusal_words a = cond (eqb a unreadable) (bytes ": it can't be read\n") (bytes ": it is no accepted arrival of this script\n")
 
-unfoldable pub refusalLine : ℕ → ℕ → List ℕ
-refusalLine w a = bytes "why: line " ++ (decimal w ++ (bytes ": refused with " ++ (decimal a ++ refusalWords a)))
+unfoldable pub refusal_line : ℕ → ℕ → List ℕ
+refusal_line w a = bytes "why: line " ++ (decimal w ++ (bytes ": refused with " ++ (decimal a ++ refusal_words a)))
 
 -- what is told of line w as a line of text
-unfoldable pub answerLine : ℕ → Told → List ℕ
-answerLine w t = cond (eqb t.answer 0) (whyLine w t.reason t.line) (refusalLine w t.answer)
+unfoldable pub answer_line : ℕ → Told → List ℕ
+answer_line w t = cond (eqb t.answer 0) (why_line w t.reason t.line) (refusal_line w t.answer)
 
 -- a refusal
-abbrev pub isRefusal : Told → Bool
-isRefusal t = not (eqb t.answer 0)
+abbrev pub is_refusal : Told → Bool
+is_refusal t = not (eqb t.answer 0)
 
 -- the text of what is told stands first in the output
 pub record Written (w : ℕ) (t : Told) (out' : List ℕ) (r : Text·rt) : Type 0 where
   pub within : r.end ≤ length out'
-  pub text : take r.end out' ≡ answerLine w t
-  pub refused : r.refused ≡ isRefusal t
+  pub text : take r.end out' ≡ answer_line w t
+  pub refused : r.refused ≡ is_refusal t
 
 -- what the program has done up to its answer
 pub record Answers (m : List ℕ) (w : ℕ) (out' : List ℕ) (r : Text·rt) : Type 0 where
@@ -93,17 +93,17 @@ pub record Answers (m : List ℕ) (w : ℕ) (out' : List ℕ) (r : Text·rt) : T
   pub new : New state w
   pub memory : List ℕ
   pub run : Run·rt
-  pub runs : Runs (powerOnMemory m).memory state memory run
+  pub runs : Runs (power_on_memory m).memory state memory run
   pub memory' : List ℕ
   pub told : Told·rt
   pub tells : Tells memory run memory' told
-  pub written : Written w (toldOf told) out' r
+  pub written : Written w (told_of told) out' r
 
 -- from power-on, what is written is the line of what `why` tells of the script that the reads brought, and it
 -- is a refusal exactly where that is 2 or 17
 pub record AnswerTold (s : List ℕ) (w : ℕ) (out' : List ℕ) (r : Text·rt) : Type 0 where
-  pub text : take r.end out' ≡ answerLine w (why s w)
-  pub refused : r.refused ≡ isRefusal (why s w)
+  pub text : take r.end out' ≡ answer_line w (why s w)
+  pub refused : r.refused ≡ is_refusal (why s w)
 
 pub record RunTold : Type 0 where
   -- to the end of the input
@@ -118,4 +118,4 @@ pub record RunTold : Type 0 where
       → (a : Answers m w out' r)
       → a.run.ended ≡ false
       → (rest : List ℕ) → AnswerTold (a.runs.script ++ rest) w out' r
-  pub refusals : (s : List ℕ) (w : ℕ) → isRefusal (why s w) ≡ eqb (why s w).answer 2 || eqb (why s w).answer 17
+  pub refusals : (s : List ℕ) (w : ℕ) → is_refusal (why s w) ≡ eqb (why s w).answer 2 || eqb (why s w).answer 17

@@ -1,7 +1,7 @@
 // The answers for every accepted arrival of a script: each is written as its message leaves the queue, or at the script's end.
 ghost use Rattle.std.specs.Prelude.{◌≡◌, true, ◌*◌, ◌≤◌, ◌<◌, length};
 ghost use Rattle.rules.specs.Memory.{size};
-ghost use Rattle.follow.specs.Waiting.{linesRoom};
+ghost use Rattle.follow.specs.Waiting.{lines_room};
 ghost use Rattle.why.specs.All.{Plays, PlaysAll, TakesIn, Turns, Runs, Ends, Tells};
 
 use crate::reads::{Got, read_some};
@@ -22,7 +22,7 @@ struct Run {
 
 // Some lines of a portion: what is told of them is written at once.
 fn play(memory: &mut [u32], run: Run, input: &[u8], out: &mut [u8]) -> Run
-    requires { (run.used < length input.now) × (linesRoom ≤ length out.old) }
+    requires { (run.used < length input.now) × (lines_room ≤ length out.old) }
     ensures { result.well ≡ true → Plays memory.old run input.now memory.new result }
 {
     let state = run.state;
@@ -49,7 +49,7 @@ fn play(memory: &mut [u32], run: Run, input: &[u8], out: &mut [u8]) -> Run
 
 // A portion, all of it; one without bytes is the end of the input.
 fn play_all(memory: &mut [u32], state: State, input: &[u8], out: &mut [u8]) -> Run
-    requires { linesRoom ≤ length out.old }
+    requires { lines_room ≤ length out.old }
     ensures { result.well ≡ true → PlaysAll memory.old state input.now memory.new result }
 {
     let mut run = Run {
@@ -69,7 +69,7 @@ fn play_all(memory: &mut [u32], state: State, input: &[u8], out: &mut [u8]) -> R
 
 // What a read brought is played, all of it.
 fn take_in(memory: &mut [u32], state: State, got: Got, input: &[u8], out: &mut [u8]) -> Run
-    requires { (got.count ≤ length input.now) × (linesRoom ≤ length out.old) }
+    requires { (got.count ≤ length input.now) × (lines_room ≤ length out.old) }
     ensures { result.well ≡ true → TakesIn memory.old state got input.now memory.new result }
 {
     if !got.well {
@@ -86,7 +86,7 @@ fn take_in(memory: &mut [u32], state: State, got: Got, input: &[u8], out: &mut [
 
 // One read, and what came of it.
 fn turn(memory: &mut [u32], state: State, input: &mut [u8], out: &mut [u8]) -> Run
-    requires { linesRoom ≤ length out.old }
+    requires { lines_room ≤ length out.old }
     ensures { result.well ≡ true → Turns memory.old state input.new memory.new result }
 {
     let got = read_some(input);
@@ -95,7 +95,7 @@ fn turn(memory: &mut [u32], state: State, input: &mut [u8], out: &mut [u8]) -> R
 
 // Turns to the end of the input, or until something fails. They are counted down, since a loop has to end and nothing says that an input does.
 fn play_script(memory: &mut [u32], state: State, input: &mut [u8], out: &mut [u8]) -> Run
-    requires { linesRoom ≤ length out.old }
+    requires { lines_room ≤ length out.old }
     ensures { result.well ≡ true → Runs memory.old state memory.new result }
 {
     let mut run = Run {
@@ -115,7 +115,7 @@ fn play_script(memory: &mut [u32], state: State, input: &mut [u8], out: &mut [u8
 
 // The script's end. A line that has begun needs a number.
 fn end(memory: &mut [u32], state: State, out: &mut [u8]) -> bool
-    requires { 2 * linesRoom ≤ length out.old }
+    requires { 2 * lines_room ≤ length out.old }
     ensures { result ≡ true → Ends memory.old state out.old memory.new out.new }
 {
     let script = state.script;
@@ -130,7 +130,7 @@ fn end(memory: &mut [u32], state: State, out: &mut [u8]) -> bool
 
 // The answers for the script that is read; whether all went well.
 pub fn tell_all(memory: &mut [u32], input: &mut [u8], out: &mut [u8]) -> bool
-    requires { (size ≤ length memory.old) × (2 * linesRoom ≤ length out.old) }
+    requires { (size ≤ length memory.old) × (2 * lines_room ≤ length out.old) }
     ensures { result ≡ true → Tells memory.old }
 {
     Node::start(memory);

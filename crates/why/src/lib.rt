@@ -9,7 +9,7 @@ mod writes;
 
 ghost use Rattle.std.specs.Prelude.{◌≡◌, ◌≤◌, length};
 ghost use Rattle.rules.specs.Memory.{size};
-ghost use Rattle.follow.specs.Text.{whyRoom};
+ghost use Rattle.follow.specs.Text.{why_room};
 ghost use Rattle.why.specs.Program.{LineTold, Ends};
 
 use all::tell_all;
@@ -31,7 +31,7 @@ const MISUSED: u32 = 2;
 
 // The answer for one line: a refusal is told on standard error.
 fn tell_one(memory: &mut [u32], wanted: u64, input: &mut [u8], out: &mut [u8]) -> u32
-    requires { (size ≤ length memory.old) × (whyRoom ≤ length out.old) }
+    requires { (size ≤ length memory.old) × (why_room ≤ length out.old) }
     ensures { (result ≡ 0 → LineTold memory.old wanted) × (result ≤ 1) }
 {
     let t = answer(memory, wanted, input, out);

@@ -3,9 +3,9 @@ ghost use Rattle.std.specs.Prelude.{◌≡◌, true, false, ◌≤◌, length};
 ghost use Rattle.io.specs.Counts.{IsPrefixLen};
 ghost use Rattle.rules.specs.Memory.{size};
 ghost use Rattle.script.specs.Written.{Appended};
-ghost use Rattle.follow.specs.One.{toldOf};
-ghost use Rattle.follow.specs.Text.{whyRoom};
-ghost use Rattle.why.specs.One.{settled, goesOn, Plays, TakesIn, Turns, Runs, TellsEnd, Tells, refusalLine, Written, Answers};
+ghost use Rattle.follow.specs.One.{told_of};
+ghost use Rattle.follow.specs.Text.{why_room};
+ghost use Rattle.why.specs.One.{settled, goes_further, Plays, TakesIn, Turns, Runs, TellsEnd, Tells, refusal_line, Written, Answers};
 
 use crate::reads::{Got, read_some};
 use crate::writes::{no_end, no_number};
@@ -96,7 +96,7 @@ fn is_settled(state: State) -> bool
 
 // Whether there is more to read.
 fn goes_on(run: Run) -> bool
-    ensures { result ≡ goesOn run }
+    ensures { result ≡ goes_further run }
 {
     if !run.well {
         return false;
@@ -178,8 +178,8 @@ fn tell(memory: &mut [u32], run: Run) -> Known
 
 // The line of a refusal.
 fn put_refusal(out: &mut [u8], wanted: u64, answer: u32) -> usize
-    requires { whyRoom ≤ length out.old }
-    ensures { Appended out.old 0 out.new result (refusalLine wanted answer) × (result ≤ whyRoom) }
+    requires { why_room ≤ length out.old }
+    ensures { Appended out.old 0 out.new result (refusal_line wanted answer) × (result ≤ why_room) }
 {
     let a = put_named(out, 0, b"why: line ", wanted);
     let b = put_named(out, a, b": refused with ", answer as u64);
@@ -191,8 +191,8 @@ fn put_refusal(out: &mut [u8], wanted: u64, answer: u32) -> usize
 
 // The line of what is told.
 fn put_told(out: &mut [u8], wanted: u64, t: Told) -> Text
-    requires { whyRoom ≤ length out.old }
-    ensures { Written wanted (toldOf t) out.new result }
+    requires { why_room ≤ length out.old }
+    ensures { Written wanted (told_of t) out.new result }
 {
     if t.answer == 0 {
         return Text {
@@ -210,7 +210,7 @@ fn put_told(out: &mut [u8], wanted: u64, t: Told) -> Text
 
 // The answer for a line of the script that is read.
 pub fn answer(memory: &mut [u32], wanted: u64, input: &mut [u8], out: &mut [u8]) -> Text
-    requires { (size ≤ length memory.old) × (whyRoom ≤ length out.old) }
+    requires { (size ≤ length memory.old) × (why_room ≤ length out.old) }
     ensures { IsPrefixLen result.end out.new × (result.well ≡ true → Answers memory.old wanted out.new result) }
 {
     Node::start(memory);

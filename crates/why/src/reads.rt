@@ -1,7 +1,7 @@
 // A script read in portions.
 ghost use Rattle.std.specs.Prelude.{◌≡◌, ◌≤◌, length};
 ghost use Rattle.libc.specs.Io.{Moved};
-ghost use Rattle.why.specs.Reads.{gotOf, Brought};
+ghost use Rattle.why.specs.Reads.{got_of, Brought};
 
 use libc::STDIN_FILENO;
 
@@ -18,7 +18,7 @@ pub struct Got {
 // What a read answered; one that failed says why.
 fn counted(got: isize, input: &[u8]) -> Got
     requires { Moved (length input.now) got }
-    ensures { (result ≡ gotOf got) × (result.count ≤ length input.now) }
+    ensures { (result ≡ got_of got) × (result.count ≤ length input.now) }
 {
     if got < 0 {
         os::fail(b"why: standard input");

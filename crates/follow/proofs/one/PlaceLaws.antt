@@ -8,7 +8,7 @@ use lib.ListN.{length, replicate, length-replicate}
 use borrow.Author.Tests.{eq-eqb, ne_eqb}
 use Rattle.rules.specs.Operation.{unreadable}
 use Rattle.reasons.specs.ByPlace.{leaving}
-use Rattle.reasons.specs.Follow.{Followed, Seen, followLine, followLines, movedUp, pickedUp, toldAt}
+use Rattle.reasons.specs.Follow.{Followed, Seen, follow_line, follow_lines, moved_up, picked_up, told_at}
 use Rattle.reasons.specs.Why.{Told, told, untold}
 use Rattle.follow.specs.Seen.{Sees}
 use Rattle.follow.specs.declared.seen.Line.{Line as Line·rt}
@@ -22,8 +22,8 @@ length-leaving (suc k) a b = ap suc (length-replicate {A = ℕ} k b)
 -- Those that leave before a message, and with it.
 
 module _ (i : ℕ) (t : Told) where
-  behind-later : (p k b : ℕ) → k < p → movedUp i t p (replicate k b) ≡ record { place = p - k; told = t }
-  unfolding movedUp
+  behind-later : (p k b : ℕ) → k < p → moved_up i t p (replicate k b) ≡ record { place = p - k; told = t }
+  unfolding moved_up
   behind-later p zero b h = let e : p ≡ p - 0 = omega arith in ap (λ (n : ℕ). record { place = n; told = t }) e
   behind-later zero (suc k) b h = absurd (omega arith)
   behind-later (suc zero) (suc k) b h = absurd (omega arith)
@@ -31,16 +31,16 @@ module _ (i : ℕ) (t : Told) where
       let e : suc p - k ≡ suc (suc p) - suc k = omega arith in
       behind-later (suc p) k b (omega arith) ∙ ap (λ (n : ℕ). record { place = n; told = t }) e
 
-  left-later : (p k b : ℕ) → 1 ≤ p → p ≤ k → movedUp i t p (replicate k b) ≡ record { place = 0; told = told b i }
-  unfolding movedUp
+  left-later : (p k b : ℕ) → 1 ≤ p → p ≤ k → moved_up i t p (replicate k b) ≡ record { place = 0; told = told b i }
+  unfolding moved_up
   left-later zero k b some h = absurd (omega arith)
   left-later (suc p) zero b some h = absurd (omega arith)
   left-later (suc zero) (suc k) b some h = refl
   left-later (suc (suc p)) (suc k) b some h = left-later (suc p) k b (omega arith) (omega arith)
 
   -- a message behind them moves up
-  pub moved-behind : (p k a b : ℕ) → k < p → movedUp i t p (leaving k a b) ≡ record { place = p - k; told = t }
-  unfolding movedUp leaving
+  pub moved-behind : (p k a b : ℕ) → k < p → moved_up i t p (leaving k a b) ≡ record { place = p - k; told = t }
+  unfolding moved_up leaving
   moved-behind p zero a b h = behind-later p zero b h
   moved-behind zero (suc k) a b h = absurd (omega arith)
   moved-behind (suc zero) (suc k) a b h = absurd (omega arith)
@@ -49,22 +49,22 @@ module _ (i : ℕ) (t : Told) where
       behind-later (suc p) k b (omega arith) ∙ ap (λ (n : ℕ). record { place = n; told = t }) e
 
   -- there is none to follow
-  pub moved_none : (p : ℕ) (rs : List ℕ) → p ≡ 0 → movedUp i t p rs ≡ record { place = p; told = t }
-  unfolding movedUp
+  pub moved_none : (p : ℕ) (rs : List ℕ) → p ≡ 0 → moved_up i t p rs ≡ record { place = p; told = t }
+  unfolding moved_up
   moved_none zero [] h = refl
   moved_none zero (r ∷ rs) h = refl
   moved_none (suc p) rs h = absurd (omega arith)
 
   -- it is the first that leaves, or behind it
-  pub moved-first : (p k a b : ℕ) → p ≡ 1 → p ≤ k → movedUp i t p (leaving k a b) ≡ record { place = 0; told = told a i }
-  unfolding movedUp leaving
+  pub moved-first : (p k a b : ℕ) → p ≡ 1 → p ≤ k → moved_up i t p (leaving k a b) ≡ record { place = 0; told = told a i }
+  unfolding moved_up leaving
   moved-first p zero a b e h = absurd (omega arith)
   moved-first zero (suc k) a b e h = absurd (omega arith)
   moved-first (suc zero) (suc k) a b e h = refl
   moved-first (suc (suc p)) (suc k) a b e h = absurd (omega arith)
 
-  pub moved_later : (p k a b : ℕ) → 2 ≤ p → p ≤ k → movedUp i t p (leaving k a b) ≡ record { place = 0; told = told b i }
-  unfolding movedUp leaving
+  pub moved_later : (p k a b : ℕ) → 2 ≤ p → p ≤ k → moved_up i t p (leaving k a b) ≡ record { place = 0; told = told b i }
+  unfolding moved_up leaving
   moved_later p zero a b low h = absurd (omega arith)
   moved_later zero (suc k) a b low h = absurd (omega arith)
   moved_later (suc zero) (suc k) a b low h = absurd (omega arith)
@@ -73,19 +73,19 @@ module _ (i : ℕ) (t : Told) where
 -- The line wanted.
 
 module _ {l : Line·rt} {s : Seen} (v : Sees l s) (f : Followed) where
-  pub picked-unread : l.answer ≡ unreadable → record { place = 0; told = untold unreadable } ≡ pickedUp s f
-  unfolding pickedUp
+  pub picked-unread : l.answer ≡ unreadable → record { place = 0; told = untold unreadable } ≡ picked_up s f
+  unfolding picked_up
   picked-unread e = rw (eq-eqb s.answer unreadable (sym v.answer ∙ e))
 
-  pub picked-arrival : (l.answer ≡ unreadable → ⊥) → l.arrival ≡ true → record { place = l.queued + l.left; told = f.told } ≡ pickedUp s f
-  unfolding pickedUp
+  pub picked-arrival : (l.answer ≡ unreadable → ⊥) → l.arrival ≡ true → record { place = l.queued + l.left; told = f.told } ≡ picked_up s f
+  unfolding picked_up
   picked-arrival n e =
       let t : s.arrival ≡ true = sym v.arrival ∙ e in
       let k : length s.reasons ≡ l.left = ap length v.reasons ∙ length-leaving l.left l.first l.later in
       rw (ne_eqb s.answer unreadable (λ q. n (v.answer ∙ q)), t, k, v.queued t)
 
-  pub picked-other : (l.answer ≡ unreadable → ⊥) → l.arrival ≡ false → f ≡ pickedUp s f
-  unfolding pickedUp
+  pub picked-other : (l.answer ≡ unreadable → ⊥) → l.arrival ≡ false → f ≡ picked_up s f
+  unfolding picked_up
   picked-other n e =
       let t : s.arrival ≡ false = sym v.arrival ∙ e in
       rw (ne_eqb s.answer unreadable (λ q. n (v.answer ∙ q)), t)
@@ -93,40 +93,40 @@ module _ {l : Line·rt} {s : Seen} (v : Sees l s) (f : Followed) where
 -- A line.
 
 module _ (w i : ℕ) (f : Followed) {l : Line·rt} {s : Seen} (v : Sees l s) where
-  pub followed-wanted : i ≡ w → {p : Followed} → p ≡ pickedUp s f → movedUp i p.told p.place (leaving l.left l.first l.later) ≡ followLine w i f s
-  unfolding followLine
+  pub followed-wanted : i ≡ w → {p : Followed} → p ≡ picked_up s f → moved_up i p.told p.place (leaving l.left l.first l.later) ≡ follow_line w i f s
+  unfolding follow_line
   followed-wanted e h =
-      ap (λ (q : Followed). movedUp i q.told q.place (leaving l.left l.first l.later)) h
-      ∙ ap (movedUp i (pickedUp s f).told (pickedUp s f).place) (sym v.reasons) ∙ rw (eq-eqb i w e)
+      ap (λ (q : Followed). moved_up i q.told q.place (leaving l.left l.first l.later)) h
+      ∙ ap (moved_up i (picked_up s f).told (picked_up s f).place) (sym v.reasons) ∙ rw (eq-eqb i w e)
 
-  pub followed-other : (i ≡ w → ⊥) → movedUp i f.told f.place (leaving l.left l.first l.later) ≡ followLine w i f s
-  unfolding followLine
+  pub followed-other : (i ≡ w → ⊥) → moved_up i f.told f.place (leaving l.left l.first l.later) ≡ follow_line w i f s
+  unfolding follow_line
   followed-other n = rw (ne_eqb i w n, v.reasons)
 
 -- The script's end.
 
-pub told-left : (last : ℕ) (f : Followed) → f.place ≡ 0 → f.told ≡ toldAt last f
-unfolding toldAt
+pub told-left : (last : ℕ) (f : Followed) → f.place ≡ 0 → f.told ≡ told_at last f
+unfolding told_at
 told-left last f e = rw (eq-eqb f.place 0 e)
 
-pub told-queued : (last : ℕ) (f : Followed) → (f.place ≡ 0 → ⊥) → told 2 last ≡ toldAt last f
-unfolding toldAt
+pub told-queued : (last : ℕ) (f : Followed) → (f.place ≡ 0 → ⊥) → told 2 last ≡ told_at last f
+unfolding told_at
 told-queued last f n = rw (ne_eqb f.place 0 n)
 
 -- Lines one behind the other.
 
-pub follow-append : (w i : ℕ) (f : Followed) (ss ts : List Seen) → followLines w i f (ss ++ ts) ≡ followLines w (i + length ss) (followLines w i f ss) ts
-unfolding followLines
-follow-append w i f [] ts = let e : i ≡ i + 0 = omega arith in ap (λ (k : ℕ). followLines w k f ts) e
+pub follow-append : (w i : ℕ) (f : Followed) (ss ts : List Seen) → follow_lines w i f (ss ++ ts) ≡ follow_lines w (i + length ss) (follow_lines w i f ss) ts
+unfolding follow_lines
+follow-append w i f [] ts = let e : i ≡ i + 0 = omega arith in ap (λ (k : ℕ). follow_lines w k f ts) e
 follow-append w i f (x ∷ ss) ts =
     let e : suc i + length ss ≡ i + suc (length ss) = omega arith in
-    follow-append w (suc i) (followLine w i f x) ss ts
-    ∙ ap (λ (k : ℕ). followLines w k (followLines w (suc i) (followLine w i f x) ss) ts) e
+    follow-append w (suc i) (follow_line w i f x) ss ts
+    ∙ ap (λ (k : ℕ). follow_lines w k (follow_lines w (suc i) (follow_line w i f x) ss) ts) e
 
 -- behind the line wanted nothing changes where there is none to follow
-pub follow-settled : (w i : ℕ) (f : Followed) (ss : List Seen) → w < i → f.place ≡ 0 → followLines w i f ss ≡ f
-unfolding followLines followLine
+pub follow-settled : (w i : ℕ) (f : Followed) (ss : List Seen) → w < i → f.place ≡ 0 → follow_lines w i f ss ≡ f
+unfolding follow_lines follow_line
 follow-settled w i f [] h e = refl
 follow-settled w i f (s ∷ ss) h e =
-    let k : followLine w i f s ≡ f = rw (ne_eqb i w (λ q. omega arith)) (moved_none i f.told f.place s.reasons e) in
-    ap (λ (x : Followed). followLines w (suc i) x ss) k ∙ follow-settled w (suc i) f ss (omega arith) e
+    let k : follow_line w i f s ≡ f = rw (ne_eqb i w (λ q. omega arith)) (moved_none i f.told f.place s.reasons e) in
+    ap (λ (x : Followed). follow_lines w (suc i) x ss) k ∙ follow-settled w (suc i) f ss (omega arith) e

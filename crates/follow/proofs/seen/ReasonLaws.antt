@@ -9,31 +9,31 @@ use denote.Enum.Declared.{tag_of}
 use types.Run.{OneOf, miss}
 use Rattle.rules.specs.contracts.Operation.{the_type}
 use Rattle.rules.specs.Lists.{is_empty}
-use Rattle.rules.specs.Memory.{nodeAt}
-use Rattle.rules.specs.Run.{arrivedBy, disposedBy}
-use Rattle.rules.specs.Types.{operationOf}
+use Rattle.rules.specs.Memory.{node_at}
+use Rattle.rules.specs.Run.{arrived_by, disposed_by}
+use Rattle.rules.specs.Types.{operation_of}
 use Rattle.rules.specs.declared.Operation.{Operation as Operation·rt}
 use Rattle.rules.specs.declared.Operation.TheVariants.{Arrive, Schedule, Preempt, Dispatch, Tick, Turn, Poll, Peek, Dispose, BeginAtomic, EndAtomic, Describe, Launch, Unknown}
-use Rattle.reasons.specs.ByPlace.{firstReason, laterReason}
+use Rattle.reasons.specs.ByPlace.{first_reason, later_reason}
 use Rattle.follow.specs.Seen.{Leaves, Arrival, ArrivalKnown, First, Later}
 
 -- all operations but A, but D and but T, and those at which none leaves
-abbrev pub notArrive : List ℕ
-notArrive = 1 ∷ 2 ∷ 3 ∷ 4 ∷ 5 ∷ 6 ∷ 7 ∷ 8 ∷ 9 ∷ 10 ∷ 11 ∷ 12 ∷ 13 ∷ []
+abbrev pub not_arrive : List ℕ
+not_arrive = 1 ∷ 2 ∷ 3 ∷ 4 ∷ 5 ∷ 6 ∷ 7 ∷ 8 ∷ 9 ∷ 10 ∷ 11 ∷ 12 ∷ 13 ∷ []
 
-abbrev pub notDispose : List ℕ
-notDispose = 0 ∷ 1 ∷ 2 ∷ 3 ∷ 4 ∷ 5 ∷ 6 ∷ 7 ∷ 9 ∷ 10 ∷ 11 ∷ 12 ∷ 13 ∷ []
+abbrev pub not_dispose : List ℕ
+not_dispose = 0 ∷ 1 ∷ 2 ∷ 3 ∷ 4 ∷ 5 ∷ 6 ∷ 7 ∷ 9 ∷ 10 ∷ 11 ∷ 12 ∷ 13 ∷ []
 
-abbrev pub notTick : List ℕ
-notTick = 0 ∷ 1 ∷ 2 ∷ 3 ∷ 5 ∷ 6 ∷ 7 ∷ 8 ∷ 9 ∷ 10 ∷ 11 ∷ 12 ∷ 13 ∷ []
+abbrev pub not_tick : List ℕ
+not_tick = 0 ∷ 1 ∷ 2 ∷ 3 ∷ 5 ∷ 6 ∷ 7 ∷ 8 ∷ 9 ∷ 10 ∷ 11 ∷ 12 ∷ 13 ∷ []
 
 abbrev pub quiet : List ℕ
 quiet = 3 ∷ 5 ∷ 6 ∷ 7 ∷ 9 ∷ 10 ∷ 11 ∷ 12 ∷ 13 ∷ []
 
 -- none but A brings a message
-pub no-arrival : (op : Operation·rt) → OneOf notArrive (tag_of the_type op) → (ok : Bool) (ws : List ℕ) → false ≡ not (is_empty (arrivedBy (operationOf op ws) ok))
-unfolding operationOf arrivedBy
-no-arrival (Arrive g) k ok ws = absurd (miss notArrive 0 tt k)
+pub no-arrival : (op : Operation·rt) → OneOf not_arrive (tag_of the_type op) → (ok : Bool) (ws : List ℕ) → false ≡ not (is_empty (arrived_by (operation_of op ws) ok))
+unfolding operation_of arrived_by
+no-arrival (Arrive g) k ok ws = absurd (miss not_arrive 0 tt k)
 no-arrival (Schedule g) k ok ws = refl
 no-arrival Preempt k ok ws = refl
 no-arrival (Dispatch g) k ok ws = refl
@@ -49,17 +49,17 @@ no-arrival (Launch n) k ok ws = refl
 no-arrival Unknown k ok ws = refl
 
 -- and A one where it is accepted
-pub an-arrival : (op : Operation·rt) {g : ℕ} → op ≡ Arrive g → (ok : Bool) (ws : List ℕ) → ok ≡ not (is_empty (arrivedBy (operationOf op ws) ok))
-unfolding operationOf arrivedBy
+pub an-arrival : (op : Operation·rt) {g : ℕ} → op ≡ Arrive g → (ok : Bool) (ws : List ℕ) → ok ≡ not (is_empty (arrived_by (operation_of op ws) ok))
+unfolding operation_of arrived_by
 an-arrival op {g} e ok ws = rw e (go ok)
   where
-    go : (t : Bool) → t ≡ not (is_empty (arrivedBy (operationOf (Arrive g) ws) t))
+    go : (t : Bool) → t ≡ not (is_empty (arrived_by (operation_of (Arrive g) ws) t))
     go true = refl
     go false = refl
 
 -- none but D disposes
-pub none-disposed : (op : Operation·rt) → OneOf notDispose (tag_of the_type op) → (ok : Bool) (moved : ℕ) → Leaves op ok moved moved
-unfolding Leaves operationOf disposedBy
+pub none-disposed : (op : Operation·rt) → OneOf not_dispose (tag_of the_type op) → (ok : Bool) (moved : ℕ) → Leaves op ok moved moved
+unfolding Leaves operation_of disposed_by
 none-disposed (Arrive g) k ok moved ws = sym (add-zero moved)
 none-disposed (Schedule g) k ok moved ws = sym (add-zero moved)
 none-disposed Preempt k ok moved ws = sym (add-zero moved)
@@ -68,7 +68,7 @@ none-disposed (Tick n) k ok moved ws = sym (add-zero moved)
 none-disposed Turn k ok moved ws = sym (add-zero moved)
 none-disposed Poll k ok moved ws = sym (add-zero moved)
 none-disposed (Peek i) k ok moved ws = sym (add-zero moved)
-none-disposed Dispose k ok moved ws = absurd (miss notDispose 8 tt k)
+none-disposed Dispose k ok moved ws = absurd (miss not_dispose 8 tt k)
 none-disposed (BeginAtomic f) k ok moved ws = sym (add-zero moved)
 none-disposed EndAtomic k ok moved ws = sym (add-zero moved)
 none-disposed (Describe w) k ok moved ws = sym (add-zero moved)
@@ -81,21 +81,21 @@ few-disposed true e = omega arith
 few-disposed false e = omega arith
 
 pub one-disposed : (op : Operation·rt) → op ≡ Dispose → (ok : Bool) (moved : ℕ) {n : ℕ} → n ≡ cond ok 1 0 → Leaves op ok moved (moved + n)
-unfolding Leaves operationOf disposedBy
+unfolding Leaves operation_of disposed_by
 one-disposed op e ok moved c ws = rw e (ap (λ (k : ℕ). moved + k) c)
 
 -- behind the first: a timeout, or its group didn't run
 pub later-tick : (op : Operation·rt) {k : ℕ} → op ≡ Tick k → Later op 6
-unfolding Later operationOf laterReason
+unfolding Later operation_of later_reason
 later-tick op e ws = rw e
 
-pub later-other : (op : Operation·rt) → OneOf notTick (tag_of the_type op) → Later op 3
-unfolding Later operationOf laterReason
+pub later-other : (op : Operation·rt) → OneOf not_tick (tag_of the_type op) → Later op 3
+unfolding Later operation_of later_reason
 later-other (Arrive g) k ws = refl
 later-other (Schedule g) k ws = refl
 later-other Preempt k ws = refl
 later-other (Dispatch g) k ws = refl
-later-other (Tick n) k ws = absurd (miss notTick 4 tt k)
+later-other (Tick n) k ws = absurd (miss not_tick 4 tt k)
 later-other Turn k ws = refl
 later-other Poll k ws = refl
 later-other (Peek i) k ws = refl
@@ -118,12 +118,12 @@ first-none m op e r ws some = absurd (omega arith)
 
 -- the reason of the operation by its name
 pub first-named : (m : List ℕ) (op : Operation·rt) {op' : Operation·rt} → op ≡ op' → (left : ℕ) {r : ℕ}
-    → ((ws : List ℕ) → r ≡ firstReason (operationOf op' ws) (nodeAt m)) → First m op left r
+    → ((ws : List ℕ) → r ≡ first_reason (operation_of op' ws) (node_at m)) → First m op left r
 unfolding First
 first-named m op e left h ws some = rw e (h ws)
 
 pub first-quiet : (m : List ℕ) (op : Operation·rt) → OneOf quiet (tag_of the_type op) → (left : ℕ) → First m op left 0
-unfolding First operationOf firstReason
+unfolding First operation_of first_reason
 first-quiet m (Arrive g) k left ws some = absurd (miss quiet 0 tt k)
 first-quiet m (Schedule g) k left ws some = absurd (miss quiet 1 tt k)
 first-quiet m Preempt k left ws some = absurd (miss quiet 2 tt k)

@@ -12,14 +12,14 @@ use mathlib.Core.Logic.{◌⊎◌, inl, inr, ⊎_elim}
 use borrow.Author.Tests.{ltb-false, ltb-true, ne_eqb}
 use Rattle.rules.specs.Build.{paper01}
 use Rattle.reasons.specs.ByPlace.{leaving}
-use Rattle.reasons.specs.Follow.{Seen, Telling, tellingLines, tellings, waitingAfter, waitingWith}
-use Rattle.reasons.specs.Why.{whyLine}
+use Rattle.reasons.specs.Follow.{Seen, Telling, telling_lines, tellings, waiting_after, waiting_with}
+use Rattle.reasons.specs.Why.{why_line}
 use Rattle.script.specs.Written.{Appended}
 use Rattle.script.proofs.read.LineEndLaws.{by-test}
 use Rattle.script.proofs.write.AppendedLaws.{appended-as, appended-none, appended_then}
 use Rattle.follow.specs.Seen.{Sees}
-use Rattle.follow.specs.Text.{whyRoom}
-use Rattle.follow.specs.Waiting.{LineTold, linesRoom}
+use Rattle.follow.specs.Text.{why_room}
+use Rattle.follow.specs.Waiting.{LineTold, lines_room}
 use Rattle.follow.specs.declared.seen.Line.{Line as Line·rt}
 use Rattle.follow.proofs.one.PlaceLaws.{length-leaving}
 
@@ -49,16 +49,16 @@ tellings-all i (suc n) (w ∷ ws) (r ∷ rs) h =
     ap (λ (ts : List Telling). record { arrival = w; reason = r; line = i } ∷ ts) (tellings-all i n ws rs (omega arith))
 
 -- as text
-pub lines-append : (ts us : List Telling) → tellingLines (ts ++ us) ≡ tellingLines ts ++ tellingLines us
-unfolding tellingLines
+pub lines-append : (ts us : List Telling) → telling_lines (ts ++ us) ≡ telling_lines ts ++ telling_lines us
+unfolding telling_lines
 lines-append [] us = refl
 lines-append (t ∷ ts) us =
-    ap (λ (bs : List ℕ). whyLine t.arrival t.reason t.line ++ bs) (lines-append ts us)
-    ∙ sym (append_assoc (whyLine t.arrival t.reason t.line) (tellingLines ts) (tellingLines us))
+    ap (λ (bs : List ℕ). why_line t.arrival t.reason t.line ++ bs) (lines-append ts us)
+    ∙ sym (append_assoc (why_line t.arrival t.reason t.line) (telling_lines ts) (telling_lines us))
 
-lines-one : (w r i : ℕ) → tellingLines (record { arrival = w; reason = r; line = i } ∷ []) ≡ whyLine w r i
-unfolding tellingLines
-lines-one w r i = append-nil (whyLine w r i)
+lines-one : (w r i : ℕ) → telling_lines (record { arrival = w; reason = r; line = i } ∷ []) ≡ why_line w r i
+unfolding telling_lines
+lines-one w r i = append-nil (why_line w r i)
 
 -- the reason at a place
 reason-at : (n a b k : ℕ) → k < n → cond (eqb k 0) a b ≡ get_or (leaving n a b) k 0
@@ -81,72 +81,72 @@ fewer-said count left {n} e =
 
 -- the lines of the first k of those that leave are written
 pub record Putting (out : List ℕ) (at : ℕ) (ws : List ℕ) (i : ℕ) (l : Line·rt) (out' : List ℕ) (end k : ℕ) : Type 0 where
-  pub put : Appended out at out' end (tellingLines (tellings i (take k ws) (leaving l.left l.first l.later)))
-  pub at_most : end ≤ at + whyRoom * k
+  pub put : Appended out at out' end (telling_lines (tellings i (take k ws) (leaving l.left l.first l.later)))
+  pub at_most : end ≤ at + why_room * k
 
 module _ (out : List ℕ) (at : ℕ) (ws : List ℕ) (i : ℕ) (l : Line·rt) where
   pub putting-start : Putting out at ws i l out at 0
-  unfolding tellings tellingLines
+  unfolding tellings telling_lines
   putting-start = record { put = appended-none out at; at_most = omega arith }
 
   module _ {out₁ : List ℕ} {end k : ℕ} (p : Putting out at ws i l out₁ end k) where
     pub putting-more : k < length ws → k < l.left → {out₂ : List ℕ} {end₂ : ℕ} (w r : ℕ) → w ≡ get_or ws k 0 → r ≡ cond (eqb k 0) l.first l.later
-        → Appended out₁ end out₂ end₂ (whyLine w r i) → end₂ ≤ end + whyRoom → Putting out at ws i l out₂ end₂ (k + 1)
+        → Appended out₁ end out₂ end₂ (why_line w r i) → end₂ ≤ end + why_room → Putting out at ws i l out₂ end₂ (k + 1)
     putting-more waits leaves w r ew er a few =
         let rs = leaving l.left l.first l.later in
         let n = length-leaving l.left l.first l.later in
         let reason : r ≡ get_or rs k 0 = er ∙ reason-at l.left l.first l.later k leaves in
-        let line : whyLine w r i ≡ tellingLines (record { arrival = get_or ws k 0; reason = get_or rs k 0; line = i } ∷ []) =
-        ap (λ (x : ℕ). whyLine x r i) ew ∙ ap (λ (x : ℕ). whyLine (get_or ws k 0) x i) reason ∙ sym (lines-one (get_or ws k 0) (get_or rs k 0) i) in
+        let line : why_line w r i ≡ telling_lines (record { arrival = get_or ws k 0; reason = get_or rs k 0; line = i } ∷ []) =
+        ap (λ (x : ℕ). why_line x r i) ew ∙ ap (λ (x : ℕ). why_line (get_or ws k 0) x i) reason ∙ sym (lines-one (get_or ws k 0) (get_or rs k 0) i) in
         record {
           put = appended-as (appended_then p.put (appended-as a line))
               (sym (lines-append (tellings i (take k ws) rs) (record { arrival = get_or ws k 0; reason = get_or rs k 0; line = i } ∷ []))
-              ∙ ap tellingLines (sym (tellings-more i k ws rs waits (omega arith)) ∙ ap (λ (j : ℕ). tellings i (take j ws) rs) (sym (add-one k))));
+              ∙ ap telling_lines (sym (tellings-more i k ws rs waits (omega arith)) ∙ ap (λ (j : ℕ). tellings i (take j ws) rs) (sym (add-one k))));
           at_most = let m = p.at_most in omega arith;
         }
 
-    pub putting-end : Fewer (length ws) l.left k → Appended out at out₁ end (tellingLines (tellings i ws (leaving l.left l.first l.later)))
+    pub putting-end : Fewer (length ws) l.left k → Appended out at out₁ end (telling_lines (tellings i ws (leaving l.left l.first l.later)))
     putting-end f =
         let rs = leaving l.left l.first l.later in
         let n = length-leaving l.left l.first l.later in
         appended-as p.put
-        (ap tellingLines (⊎_elim (λ h. tellings-all i k ws rs (omega arith)) (λ h. ap (λ (x : List ℕ). tellings i x rs) (take_all k ws h)) f.all))
+        (ap telling_lines (⊎_elim (λ h. tellings-all i k ws rs (omega arith)) (λ h. ap (λ (x : List ℕ). tellings i x rs) (take_all k ws h)) f.all))
 
 -- A line.
 
 module _ (w : List ℕ) (count i : ℕ) (l : Line·rt) where
   -- those that wait once its message has joined
-  with-seen : {s : Seen} → Sees l s → {x : List ℕ} → x ≡ take paper01.places (take count w ++ cond l.arrival (i ∷ []) []) → x ≡ waitingWith i s (take count w)
-  unfolding waitingWith
+  with-seen : {s : Seen} → Sees l s → {x : List ℕ} → x ≡ take paper01.places (take count w ++ cond l.arrival (i ∷ []) []) → x ≡ waiting_with i s (take count w)
+  unfolding waiting_with
   with-seen v e = e ∙ ap (λ (t : Bool). take paper01.places (take count w ++ cond t (i ∷ []) [])) v.arrival
 
   module _ {out : List ℕ} {at : ℕ} (n : ℕ) (w₁ : List ℕ) (joins : take n w₁ ≡ take paper01.places (take count w ++ cond l.arrival (i ∷ []) [])) (few : n ≤ paper01.places) where
     -- none leaves
     pub line_quiet : l.left ≡ 0 → LineTold w count i l out at w₁ out (record { count = n; end = at })
-    unfolding waitingAfter tellingLines leaving
+    unfolding waiting_after telling_lines leaving
     line_quiet none =
         let quiet : (s : Seen) → Sees l s → s.reasons ≡ [] = λ s v. v.reasons ∙ ap (λ (k : ℕ). leaving k l.first l.later) none in
         record {
-          waits = λ s v. with-seen v joins ∙ sym (ap (λ (rs : List ℕ). drop (length rs) (waitingWith i s (take count w))) (quiet s v));
+          waits = λ s v. with-seen v joins ∙ sym (ap (λ (rs : List ℕ). drop (length rs) (waiting_with i s (take count w))) (quiet s v));
           few = few;
           told = λ s v. appended-as (appended-none out at)
-              (sym (ap tellingLines (ap (tellings i (waitingWith i s (take count w))) (quiet s v) ∙ tellings-none i (waitingWith i s (take count w)))));
+              (sym (ap telling_lines (ap (tellings i (waiting_with i s (take count w))) (quiet s v) ∙ tellings-none i (waiting_with i s (take count w)))));
           at_most = omega arith;
         }
 
     -- some leave
     pub line-left : {out' : List ℕ} {end m : ℕ} {w₂ : List ℕ}
-        → Appended out at out' end (tellingLines (tellings i (take n w₁) (leaving l.left l.first l.later))) → end ≤ at + linesRoom
+        → Appended out at out' end (telling_lines (tellings i (take n w₁) (leaving l.left l.first l.later))) → end ≤ at + lines_room
         → take m w₂ ≡ drop l.left (take n w₁) → m ≤ n → LineTold w count i l out at w₂ out' (record { count = m; end = end })
-    unfolding waitingAfter
+    unfolding waiting_after
     line-left a room e less =
         record {
           waits = λ s v.
               let k : l.left ≡ length s.reasons = sym (ap length v.reasons ∙ length-leaving l.left l.first l.later) in
-              e ∙ ap (λ (x : List ℕ). drop l.left x) (with-seen v joins) ∙ ap (λ (j : ℕ). drop j (waitingWith i s (take count w))) k;
+              e ∙ ap (λ (x : List ℕ). drop l.left x) (with-seen v joins) ∙ ap (λ (j : ℕ). drop j (waiting_with i s (take count w))) k;
           few = omega arith;
           told = λ s v. appended-as a
-              (ap tellingLines (ap (λ (x : List ℕ). tellings i x (leaving l.left l.first l.later)) (with-seen v joins)
-              ∙ ap (tellings i (waitingWith i s (take count w))) (sym v.reasons)));
+              (ap telling_lines (ap (λ (x : List ℕ). tellings i x (leaving l.left l.first l.later)) (with-seen v joins)
+              ∙ ap (tellings i (waiting_with i s (take count w))) (sym v.reasons)));
           at_most = room;
         }

@@ -6,10 +6,10 @@ use mathlib.Core.Path.{◌∙◌, ◌≡◌, ap, sym}
 use lib.ListN.{get_or, length, length-append, set}
 use lib.Seq.{get_or-set_same, set-set}
 use borrow.Author.Tests.{le-ltb, lt-ltb}
-use Rattle.rules.specs.Build.{groupCount, pageCount, paper01}
-use Rattle.rules.specs.Frames.{appended, extended, put, takeFrame, withRoom, withStock}
-use Rattle.rules.specs.Memory.{groupAddress, size, word, usedOffset, countOffset, heldOffset, listOffset}
-use Rattle.rules.specs.Node.{Message, Node, emptyGroup, group_of, withBuffer, withEntered, withFree, withGroup, withPaging, emptyPage}
+use Rattle.rules.specs.Build.{group_count, page_count, paper01}
+use Rattle.rules.specs.Frames.{appended, extended, put, take_frame, with_room, with_stock}
+use Rattle.rules.specs.Memory.{group_address, size, word, used_offset, count_offset, held_offset, list_offset}
+use Rattle.rules.specs.Node.{Message, Node, empty_group, group_of, with_buffer, with_entered, with_free, with_group, with_paging, empty_page}
 use Rattle.rules.proofs.Steps.FrameLaws.{length-page}
 use Rattle.rules.proofs.Steps.NodeLaws.{stock-same}
 use Rattle.rules.specs.Sound.{Mapped}
@@ -21,10 +21,10 @@ use Rattle.memory.proofs.PieceLaws.{holds-pieces}
 -- the end of group g's buffer, as it is read from memory
 pub record Ends (m : List ℕ) (g : ℕ) : Type 0 where
   pub long : size ≤ length m
-  pub end : word m (groupAddress g + usedOffset) + word m (groupAddress g + countOffset) ≤ 768
-  pub held : word m (groupAddress g + heldOffset) ≤ 96
+  pub end : word m (group_address g + used_offset) + word m (group_address g + count_offset) ≤ 768
+  pub held : word m (group_address g + held_offset) ≤ 96
 
-pub ends : {m : List ℕ} {n : Node} {r : List ℕ} → Holds m n r → (g : ℕ) → 1 ≤ g → g ≤ groupCount
+pub ends : {m : List ℕ} {n : Node} {r : List ℕ} → Holds m n r → (g : ℕ) → 1 ≤ g → g ≤ group_count
     → (group_of n g).buffer.used + (group_of n g).buffer.count ≤ length (group_of n g).buffer.places → Ends m g
 ends h g low high fits =
     let p = holds-pieces h in
@@ -35,15 +35,15 @@ ends h g low high fits =
     record { long = p.long; end = omega (arith, words.used, words.count, whole.whole); held = omega (arith, words.held) }
 
 -- with room, it is one of 768 places
-pub room-end : {m : List ℕ} {n : Node} {r : List ℕ} → Holds m n r → (g : ℕ) → 1 ≤ g → g ≤ groupCount → Room g n
-    → word m (groupAddress g + usedOffset) + word m (groupAddress g + countOffset) < 768
+pub room-end : {m : List ℕ} {n : Node} {r : List ℕ} → Holds m n r → (g : ℕ) → 1 ≤ g → g ≤ group_count → Room g n
+    → word m (group_address g + used_offset) + word m (group_address g + count_offset) < 768
 room-end h g low high room =
     let words = group-words (holds-pieces h) h.mapped g low high in
     omega (arith, words.used, words.count, (group-whole h.mapped g low high).whole, lists-short h.mapped g low high)
 
 -- the page of the place behind the last message
-pub last_frame : {m : List ℕ} {n : Node} {r : List ℕ} → Holds m n r → (g : ℕ) → 1 ≤ g → g ≤ groupCount → Room g n
-    → word m (groupAddress g + (listOffset + (word m (groupAddress g + usedOffset) + word m (groupAddress g + countOffset)) / 8)) < pageCount paper01
+pub last_frame : {m : List ℕ} {n : Node} {r : List ℕ} → Holds m n r → (g : ℕ) → 1 ≤ g → g ≤ group_count → Room g n
+    → word m (group_address g + (list_offset + (word m (group_address g + used_offset) + word m (group_address g + count_offset)) / 8)) < page_count paper01
 last_frame {m} {n} h g low high room =
     let p = holds-pieces h in
     let v = h.mapped in
@@ -52,50 +52,50 @@ last_frame {m} {n} h g low high room =
     let B = (group_of n g).buffer in
     let end = B.used + B.count in
     let inside : end / 8 < length B.frames = omega (arith, whole.whole) in
-    let at : word m (groupAddress g + usedOffset) + word m (groupAddress g + countOffset) ≡ end = cc (words.used, words.count) in
-    rw (at, listed m (groupAddress g) B.frames (end / 8) inside words.list) (its-bounded v g low high (end / 8) inside)
+    let at : word m (group_address g + used_offset) + word m (group_address g + count_offset) ≡ end = cc (words.used, words.count) in
+    rw (at, listed m (group_address g) B.frames (end / 8) inside words.list) (its-bounded v g low high (end / 8) inside)
 
 -- whether there is room is read from the counts
-pub full-read : {m : List ℕ} {n : Node} {r : List ℕ} → Holds m n r → (g : ℕ) → 1 ≤ g → g ≤ groupCount
-    → (8 * word m (groupAddress g + heldOffset) ≡ length (group_of n g).buffer.places)
-    × (word m (groupAddress g + usedOffset) + word m (groupAddress g + countOffset) ≡ (group_of n g).buffer.used + (group_of n g).buffer.count)
+pub full-read : {m : List ℕ} {n : Node} {r : List ℕ} → Holds m n r → (g : ℕ) → 1 ≤ g → g ≤ group_count
+    → (8 * word m (group_address g + held_offset) ≡ length (group_of n g).buffer.places)
+    × (word m (group_address g + used_offset) + word m (group_address g + count_offset) ≡ (group_of n g).buffer.used + (group_of n g).buffer.count)
 full-read h g low high =
     let words = group-words (holds-pieces h) h.mapped g low high in
     (omega (arith, words.held, (group-whole h.mapped g low high).whole), cc (words.used, words.count))
 
-module _ {n : Node} (v : Mapped n) (x : Message) (low : 1 ≤ x.group) (high : x.group ≤ groupCount) where
+module _ {n : Node} (v : Mapped n) (x : Message) (low : 1 ≤ x.group) (high : x.group ≤ group_count) where
   -- with room
   pub put-room : Room x.group n → put paper01 x n ≡ putting x n
-  unfolding put putting withRoom withStock withGroup withFree withPaging withEntered group_of
+  unfolding put putting with_room with_stock with_group with_free with_paging with_entered group_of
   put-room room = rw (lt-ltb _ _ room)
 
   -- and without
   pub put_full : length (group_of n x.group).buffer.places ≤ (group_of n x.group).buffer.used + (group_of n x.group).buffer.count
       → put paper01 x n ≡ putting x (taking x.group n)
-  unfolding put putting taking withRoom withStock withGroup withFree withPaging withEntered withBuffer group_of
+  unfolding put putting taking with_room with_stock with_group with_free with_paging with_entered with_buffer group_of
   put_full full =
       let g = x.group in
-      let s = takeFrame paper01 n.free n.paging.entered (group_of n g).buffer in
-      let G = withBuffer s.buffer (group_of n g) in
-      let same : get_or (set n.groups (pred g) G) (pred g) emptyGroup ≡ G =
-      get_or-set_same n.groups (pred g) G emptyGroup (omega (arith, v.group-count)) in
-      let over : set (set n.groups (pred g) G) (pred g) (withBuffer (appended x s.buffer) G) ≡ set n.groups (pred g) (withBuffer (appended x s.buffer) (group_of n g)) =
-      set-set n.groups (pred g) G (withBuffer (appended x s.buffer) G) in
+      let s = take_frame paper01 n.free n.paging.entered (group_of n g).buffer in
+      let G = with_buffer s.buffer (group_of n g) in
+      let same : get_or (set n.groups (pred g) G) (pred g) empty_group ≡ G =
+      get_or-set_same n.groups (pred g) G empty_group (omega (arith, v.group-count)) in
+      let over : set (set n.groups (pred g) G) (pred g) (with_buffer (appended x s.buffer) G) ≡ set n.groups (pred g) (with_buffer (appended x s.buffer) (group_of n g)) =
+      set-set n.groups (pred g) G (with_buffer (appended x s.buffer) G) in
       rw (le-ltb _ _ full, same, over)
 
 -- a frame taken makes room
-pub taking-room : {n : Node} → Mapped n → (g : ℕ) → 1 ≤ g → g ≤ groupCount → FrameLeft n
+pub taking-room : {n : Node} → Mapped n → (g : ℕ) → 1 ≤ g → g ≤ group_count → FrameLeft n
     → (group_of n g).buffer.used + (group_of n g).buffer.count ≤ length (group_of n g).buffer.places → Room g (taking g n)
-unfolding taking takeFrame extended
+unfolding taking take_frame extended
 taking-room {n} v g low high left fits =
     let inside : pred g < length n.groups = omega (arith, v.group-count) in
-    rw (stock-same g (takeFrame paper01 n.free n.paging.entered (group_of n g).buffer) n inside) (go n.free left.some)
+    rw (stock-same g (take_frame paper01 n.free n.paging.entered (group_of n g).buffer) n inside) (go n.free left.some)
   where
     go : (fs : List ℕ) → 1 ≤ length fs
-        → (takeFrame paper01 fs n.paging.entered (group_of n g).buffer).buffer.used + (takeFrame paper01 fs n.paging.entered (group_of n g).buffer).buffer.count
-        < length (takeFrame paper01 fs n.paging.entered (group_of n g).buffer).buffer.places
+        → (take_frame paper01 fs n.paging.entered (group_of n g).buffer).buffer.used + (take_frame paper01 fs n.paging.entered (group_of n g).buffer).buffer.count
+        < length (take_frame paper01 fs n.paging.entered (group_of n g).buffer).buffer.places
     go [] some = absurd (omega arith)
-    go (f ∷ fs) some = omega (arith, length-append (group_of n g).buffer.places (emptyPage paper01), length-page paper01)
+    go (f ∷ fs) some = omega (arith, length-append (group_of n g).buffer.places (empty_page paper01), length-page paper01)
 
 -- what stands where the frame was taken if need be: a node with room, of which putting is what the rules put
 pub record Ready (m : List ℕ) (g : ℕ) (n : Node) (r : List ℕ) : Type 0 where
@@ -104,9 +104,9 @@ pub record Ready (m : List ℕ) (g : ℕ) (n : Node) (r : List ℕ) : Type 0 whe
   pub room : Room g node
   pub stores : (x : Message) → x.group ≡ g → putting x node ≡ put paper01 x n
 
-module _ {m : List ℕ} {n : Node} {r : List ℕ} (h : Holds m n r) (g : ℕ) (low : 1 ≤ g) (high : g ≤ groupCount) (fit : Storable g n) where
+module _ {m : List ℕ} {n : Node} {r : List ℕ} (h : Holds m n r) (g : ℕ) (low : 1 ≤ g) (high : g ≤ group_count) (fit : Storable g n) where
   -- there was room
-  pub ready-room : word m (groupAddress g + usedOffset) + word m (groupAddress g + countOffset) < 8 * word m (groupAddress g + heldOffset) → Ready m g n r
+  pub ready-room : word m (group_address g + used_offset) + word m (group_address g + count_offset) < 8 * word m (group_address g + held_offset) → Ready m g n r
   ready-room less =
       let read = full-read h g low high in
       let room : Room g n = omega (arith, read.0, read.1) in
@@ -118,11 +118,11 @@ module _ {m : List ℕ} {n : Node} {r : List ℕ} (h : Holds m n r) (g : ℕ) (l
       }
 
   -- a full buffer is left a frame
-  pub full-left : 8 * word m (groupAddress g + heldOffset) ≤ word m (groupAddress g + usedOffset) + word m (groupAddress g + countOffset) → FrameLeft n
+  pub full-left : 8 * word m (group_address g + held_offset) ≤ word m (group_address g + used_offset) + word m (group_address g + count_offset) → FrameLeft n
   full-left full = let read = full-read h g low high in fit.1 (omega (arith, read.0, read.1))
 
   -- and has taken it
-  pub ready-taken : {m' : List ℕ} → 8 * word m (groupAddress g + heldOffset) ≤ word m (groupAddress g + usedOffset) + word m (groupAddress g + countOffset)
+  pub ready-taken : {m' : List ℕ} → 8 * word m (group_address g + held_offset) ≤ word m (group_address g + used_offset) + word m (group_address g + count_offset)
       → Holds m' (taking g n) r → Ready m' g n r
   ready-taken full h' =
       let read = full-read h g low high in

@@ -4,17 +4,17 @@ use native.Mathlib.Omega.{arith}
 use mathlib.Core.List.{List, [], ◌++◌, ◌∷◌}
 use mathlib.Core.Path.{◌∙◌, ◌≡◌, ap, refl, sym}
 use lib.ListN.{length, length-append, set}
-use Rattle.rules.specs.Build.{groupCount, wordLimit}
+use Rattle.rules.specs.Build.{group_count, word_limit}
 use Rattle.rules.specs.Lists.{pad}
-use Rattle.rules.specs.Memory.{describedOffset, descriptorOffset, groupAddress, groupWords, listWords, word, wordsAt, pagesOf}
-use Rattle.rules.specs.Node.{Node, group_of, withDescriptor, withFree}
+use Rattle.rules.specs.Memory.{described_offset, descriptor_offset, group_address, group_words, list_words, word, words_at, pages_of}
+use Rattle.rules.specs.Node.{Node, group_of, with_descriptor, with_free}
 use Rattle.rules.proofs.Steps.ListLaws.{length-pad}
-use Rattle.rules.proofs.Map.MapWords.{pad-stands, wordsAt-stands}
-use Rattle.memory.specs.Descriptors.{descriptorOf, redescribed}
+use Rattle.rules.proofs.Map.MapWords.{pad-stands, words_at-stands}
+use Rattle.memory.specs.Descriptors.{descriptor_of, redescribed}
 use Rattle.memory.specs.Holds.{Holds}
 use Rattle.memory.specs.Writes.{Wrote}
 use Rattle.memory.specs.declared.descriptor.Descriptor.{Descriptor as Descriptor·rt}
-use Rattle.memory.proofs.group.GroupLaws.{group-whole, group-words, mapped-group, record-stands, recordFront}
+use Rattle.memory.proofs.group.GroupLaws.{group-whole, group-words, mapped-group, record-stands, record_front}
 use Rattle.memory.proofs.PieceLaws.{holds-pieces, pieces-hold}
 use Rattle.memory.proofs.PieceWrites.{group-put}
 use Rattle.memory.proofs.WriteLaws.{widened, wrote_then}
@@ -26,39 +26,39 @@ joined (suc k) [] w h = refl
 joined (suc k) (x ∷ d) w h = ap (λ (l : List ℕ). x ∷ l) (joined k d w (omega arith))
 
 -- so a descriptor has one word more
-pub described-more : (d : List ℕ) (w : ℕ) (x : Descriptor·rt) → x ≡ descriptorOf d → x.len < wordLimit
-    → record { len = x.len + 1; words = set x.words x.len w } ≡ descriptorOf (d ++ (w ∷ []))
+pub described-more : (d : List ℕ) (w : ℕ) (x : Descriptor·rt) → x ≡ descriptor_of d → x.len < word_limit
+    → record { len = x.len + 1; words = set x.words x.len w } ≡ descriptor_of (d ++ (w ∷ []))
 described-more d w x e l =
-    let few : length d < wordLimit = rw e at l in
+    let few : length d < word_limit = rw e at l in
     ap (λ (y : Descriptor·rt). record { len = y.len + 1; words = set y.words y.len w }) e
-    ∙ (λ i. record { len = sym (length-append d (w ∷ [])) i; words = joined wordLimit d w few i })
+    ∙ (λ i. record { len = sym (length-append d (w ∷ [])) i; words = joined word_limit d w few i })
 
-module _ {m : List ℕ} {n : Node} {r : List ℕ} (h : Holds m n r) (g : ℕ) (low : 1 ≤ g) (high : g ≤ groupCount) where
+module _ {m : List ℕ} {n : Node} {r : List ℕ} (h : Holds m n r) (g : ℕ) (low : 1 ≤ g) (high : g ≤ group_count) where
   -- a group's descriptor is read
-  pub descriptor-read : record { len = word m (groupAddress g + describedOffset); words = wordsAt m (groupAddress g + descriptorOffset) wordLimit }
-      ≡ descriptorOf (group_of n g).descriptor
+  pub descriptor-read : record { len = word m (group_address g + described_offset); words = words_at m (group_address g + descriptor_offset) word_limit }
+      ≡ descriptor_of (group_of n g).descriptor
   descriptor-read =
       let d = (group_of n g).descriptor in
       let stands = group-words (holds-pieces h) h.mapped g low high in
-      let padded = (pad-stands m (groupAddress g + descriptorOffset) wordLimit d (group-whole h.mapped g low high).descriptor).1 (stands.descriptor, stands.descriptor-zero) in
+      let padded = (pad-stands m (group_address g + descriptor_offset) word_limit d (group-whole h.mapped g low high).descriptor).1 (stands.descriptor, stands.descriptor-zero) in
       λ i. record {
         len = stands.described i;
-        words = wordsAt-stands m (groupAddress g + descriptorOffset) wordLimit (pad wordLimit d) (length-pad wordLimit d) padded i;
+        words = words_at-stands m (group_address g + descriptor_offset) word_limit (pad word_limit d) (length-pad word_limit d) padded i;
       }
 
   -- and written
-  pub descriptor-held : {m₁ m₂ : List ℕ} (d : List ℕ) → length d ≤ wordLimit → Wrote m m₁ (groupAddress g + describedOffset) (length d ∷ [])
-      → Wrote m₁ m₂ (groupAddress g + descriptorOffset) (pad wordLimit d) → Holds m₂ (redescribed g d n) r
-  unfolding redescribed withDescriptor withFree pagesOf group_of groupWords
+  pub descriptor-held : {m₁ m₂ : List ℕ} (d : List ℕ) → length d ≤ word_limit → Wrote m m₁ (group_address g + described_offset) (length d ∷ [])
+      → Wrote m₁ m₂ (group_address g + descriptor_offset) (pad word_limit d) → Holds m₂ (redescribed g d n) r
+  unfolding redescribed with_descriptor with_free pages_of group_of group_words
   descriptor-held {m₁} {m₂} d few w₁ w₂ =
       let v = h.mapped in
       let pieces = holds-pieces h in
       let G = group_of n g in
       let whole = group-whole v g low high in
-      let wrote : Wrote m m₂ (groupAddress g + describedOffset) (length d ∷ pad wordLimit d) = wrote_then w₁ (groupAddress g + descriptorOffset) (omega arith) w₂ in
-      let all = widened wrote (groupAddress g)
-      (recordFront G ++ (length G.buffer.frames ∷ []))
-      (length G.descriptor ∷ pad wordLimit G.descriptor) (listWords G.buffer.frames) refl (ap suc (length-pad wordLimit G.descriptor ∙ sym (length-pad wordLimit d))) (record-stands pieces g low high) in
+      let wrote : Wrote m m₂ (group_address g + described_offset) (length d ∷ pad word_limit d) = wrote_then w₁ (group_address g + descriptor_offset) (omega arith) w₂ in
+      let all = widened wrote (group_address g)
+      (record_front G ++ (length G.buffer.frames ∷ []))
+      (length G.descriptor ∷ pad word_limit G.descriptor) (list_words G.buffer.frames) refl (ap suc (length-pad word_limit G.descriptor ∙ sym (length-pad word_limit d))) (record-stands pieces g low high) in
       pieces-hold
-      (mapped-group v g low high (withDescriptor d G) n.free (record { descriptor = few; whole = whole.whole; places = whole.places }) v.free-short (λ x. refl))
-      (group-put pieces g low high v.group-count (withDescriptor d G) all (pieces.group-pages (pred g) (omega arith)))
+      (mapped-group v g low high (with_descriptor d G) n.free (record { descriptor = few; whole = whole.whole; places = whole.places }) v.free-short (λ x. refl))
+      (group-put pieces g low high v.group-count (with_descriptor d G) all (pieces.group-pages (pred g) (omega arith)))

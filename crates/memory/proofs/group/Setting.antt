@@ -39,9 +39,9 @@ use denote.Triple.Call.{calls_at, calls_from}
 use denote.Triple.Clauses.{ensured, lasts}
 use denote.Triple.Walked.{says}
 use borrow.Rule.Slice.Reshare.{kept_s}
-use Rattle.rules.specs.Memory.{countOffset, groupAddress}
+use Rattle.rules.specs.Memory.{count_offset, group_address}
 use Rattle.memory.specs.declared.group.Group.{Group}
-use Rattle.memory.specs.Writes.{InGroup, Wrote, groupFront, groupRead}
+use Rattle.memory.specs.Writes.{InGroup, Wrote, group_front, group_read}
 use Rattle.memory.proofs.group.Lending.{lends-to-read, read_back, lends_local, local_back}
 use Rattle.memory.specs.contracts.group.Group as T
 use Rattle.memory.proofs.group.Group.TheLaws as T'
@@ -80,14 +80,14 @@ module _ {M : Type 1} {𝓤 : Ura M} (𝓛 : Logic 𝓤) (at_mem : Memory → SP
   Write = triple_of 𝓛 write.signature (write.spec 𝓛 at_mem run)
 
   -- of what `read` ensures, the clause alone: it has no last value
-  read_of : (κ : Lft) (x : Bor (List ℕ)) (g : ℕ) (r : Group) → ent 𝓤 (ensured 𝓛 read.ended (read.clauses 𝓛 at_mem run) (κ, tt) (x, (g, tt)) tt r) (fact 𝓤 (r ≡ groupRead x.now g))
-  read_of κ x g r = ex_e 𝓤 _ (λ ws. snd∗ 𝓤 (sem 𝓛 (lasts read.ended (κ, tt) (x, (g, tt)) ws)) (fact 𝓤 (r ≡ groupRead x.now g)))
+  read_of : (κ : Lft) (x : Bor (List ℕ)) (g : ℕ) (r : Group) → ent 𝓤 (ensured 𝓛 read.ended (read.clauses 𝓛 at_mem run) (κ, tt) (x, (g, tt)) tt r) (fact 𝓤 (r ≡ group_read x.now g))
+  read_of κ x g r = ex_e 𝓤 _ (λ ws. snd∗ 𝓤 (sem 𝓛 (lasts read.ended (κ, tt) (x, (g, tt)) ws)) (fact 𝓤 (r ≡ group_read x.now g)))
 
 -- a unit's machine value
 is-unit : (w : Val) → w ∷ [] ≡ vunit ∷ [] → Holds (has_ty ty_unit w) × WT w
 is-unit w e = subst (λ (z : Val). Holds (has_ty ty_unit z) × WT z) (sym (ap only e)) (tt, tt)
 
-module _ {M : Type 1} {𝓤 : Ura M} (𝓛 : Logic 𝓤) (at_mem : Memory → SProp 𝓤) (run : Routine → Fun 𝓤) (κ : Lft) (q : Share) (b o : ℕ) (γ : GName) (ys : List ℕ) (g u v : ℕ) (g-fits : g < 2 ^ 32) (u-fits : u < 2 ^ 32) (v-fits : v < 2 ^ 32) (within : InGroup ys g countOffset) (h' : Group) where
+module _ {M : Type 1} {𝓤 : Ura M} (𝓛 : Logic 𝓤) (at_mem : Memory → SProp 𝓤) (run : Routine → Fun 𝓤) (κ : Lft) (q : Share) (b o : ℕ) (γ : GName) (ys : List ℕ) (g u v : ℕ) (g-fits : g < 2 ^ 32) (u-fits : u < 2 ^ 32) (v-fits : v < 2 ^ 32) (within : InGroup ys g count_offset) (h' : Group) where
   -- the memory, under the name δ; the record that is read, in the local l under the name δ; and the memory's machine value
   open 𝓛 use {H, A}
 
@@ -95,7 +95,7 @@ module _ {M : Type 1} {𝓤 : Ura M} (𝓛 : Logic 𝓤) (at_mem : Memory → SP
   x δ = record { ref_ptr = (b, o); ghost_name = δ; now = ys }
 
   abbrev h : Group
-  h = groupRead ys g
+  h = group_read ys g
 
   abbrev y : ℕ → GName → MutBor Group
   y l δ = record { ref_ptr = (l, 0); ghost_name = δ; now = h }
@@ -105,7 +105,7 @@ module _ {M : Type 1} {𝓤 : Ura M} (𝓛 : Logic 𝓤) (at_mem : Memory → SP
 
   -- the record h' is written
   abbrev Wrote' : List ℕ → Type 0
-  Wrote' zs = Wrote ys zs (groupAddress g) (groupFront h')
+  Wrote' zs = Wrote ys zs (group_address g) (group_front h')
 
   abbrev Arg : Type 0
   Arg = Bor (List ℕ) × (ℕ × (ℕ × (ℕ × Unit {0})))

@@ -11,7 +11,7 @@ use lib.ListN.{length}
 use borrow.Author.Tests.{eq-eqb, ne_eqb}
 use Rattle.rules.specs.Frames.{without}
 use Rattle.rules.specs.Lists.{count_of}
-use Rattle.rules.specs.Memory.{word, wordsAt}
+use Rattle.rules.specs.Memory.{word, words_at}
 use Rattle.rules.proofs.Steps.ListLaws.{filter-fail, filter-pass}
 use Rattle.memory.specs.Lines.{index_of}
 use Rattle.memory.proofs.lines.LineLaws.{lacking}
@@ -58,17 +58,17 @@ module _ (f : ℕ) where
 
 module _ (m : List ℕ) (a x n : ℕ) where
   abbrev pub Searched : ℕ → Type 0
-  Searched i = index_of x (wordsAt m a n) ≡ i + index_of x (wordsAt m (a + i) (n - i))
+  Searched i = index_of x (words_at m a n) ≡ i + index_of x (words_at m (a + i) (n - i))
 
   pub searched-none : Searched 0
   searched-none =
       let e = add-zero a in
       let k : n - 0 ≡ n = omega arith in
-      rw (e, k) (sym (zero-add (index_of x (wordsAt m a n))))
+      rw (e, k) (sym (zero-add (index_of x (words_at m a n))))
 
   -- x stands next
-  pub searched-here : (i : ℕ) → i < n → word m (a + i) ≡ x → Searched i → i ≡ index_of x (wordsAt m a n)
-  unfolding index_of wordsAt
+  pub searched-here : (i : ℕ) → i < n → word m (a + i) ≡ x → Searched i → i ≡ index_of x (words_at m a n)
+  unfolding index_of words_at
   searched-here i h here s =
       let k : n - i ≡ suc (n - i - 1) = omega arith in
       let r = rw (k, eq-eqb (word m (a + i)) x here) at s in
@@ -76,7 +76,7 @@ module _ (m : List ℕ) (a x n : ℕ) where
 
   -- or does not
   pub searched-next : (i : ℕ) → i < n → word m (a + i) ≢ x → Searched i → Searched (i + 1)
-  unfolding index_of wordsAt
+  unfolding index_of words_at
   searched-next i h other s =
       let k : n - i ≡ suc (n - (i + 1)) = omega arith in
       let next : a + i + 1 ≡ a + (i + 1) = omega arith in
@@ -84,8 +84,8 @@ module _ (m : List ℕ) (a x n : ℕ) where
       omega arith
 
   -- it stands nowhere
-  pub searched-all : (i : ℕ) → i ≡ n → Searched i → i ≡ index_of x (wordsAt m a n)
-  unfolding index_of wordsAt
+  pub searched-all : (i : ℕ) → i ≡ n → Searched i → i ≡ index_of x (words_at m a n)
+  unfolding index_of words_at
   searched-all i e s =
       let k : n - i ≡ 0 = omega arith in
       let r = rw k at s in

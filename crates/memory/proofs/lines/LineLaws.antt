@@ -7,11 +7,11 @@ use mathlib.Core.List.{List, [], ◌∷◌, ◌++◌}
 use mathlib.Core.Path.{◌∙◌, ◌≡◌, ap, sym}
 use lib.ListN.{length, take, drop, get_or, length-append, length-drop, take-append-drop}
 use lib.Seq.{drop-cons, length-take-le}
-use Rattle.rules.specs.Build.{pageCount, paper01}
+use Rattle.rules.specs.Build.{page_count, paper01}
 use Rattle.rules.specs.Lists.{pad}
-use Rattle.rules.specs.Memory.{word, wordsAt}
+use Rattle.rules.specs.Memory.{word, words_at}
 use Rattle.rules.proofs.Steps.ListLaws.{length-pad}
-use Rattle.rules.proofs.Map.MapWords.{Stands, length-wordsAt, pad-stands, stands-append, wordsAt-stands}
+use Rattle.rules.proofs.Map.MapWords.{Stands, length-words_at, pad-stands, stands-append, words_at-stands}
 use Rattle.memory.specs.Lines.{InLine, Joined, Left}
 use Rattle.memory.specs.Writes.{Wrote}
 use Rattle.memory.proofs.WriteLaws.{covered, lengthened, shifted, stands_word, widened-end, wrote_as}
@@ -42,8 +42,8 @@ module _ {m : List ℕ} {count line room : ℕ} {xs : List ℕ} (s : LineStands 
   numbers-stand = ((pad-stands m line room xs s.few).0 s.numbers).0
 
   -- a line is read
-  pub line_read : wordsAt m line (word m count) ≡ xs
-  line_read = wordsAt-stands m line (word m count) xs (sym s.counted) numbers-stand
+  pub line_read : words_at m line (word m count) ≡ xs
+  line_read = words_at-stands m line (word m count) xs (sym s.counted) numbers-stand
 
   -- a number of it, and the first
   pub line_at : (j : ℕ) → j < length xs → word m (line + j) ≡ get_or xs j 0
@@ -60,7 +60,7 @@ module _ {m : List ℕ} {count line room : ℕ} {xs : List ℕ} (s : LineStands 
     pub may-leave : (i : ℕ) → i < length xs → InLine m count line × (i < word m count)
     may-leave i h = (line-within, omega (arith, s.counted))
 
-    pub may-join : room ≤ pageCount paper01 → length xs < room → InLine m count line × ((word m count < pageCount paper01) × (line + word m count < length m))
+    pub may-join : room ≤ page_count paper01 → length xs < room → InLine m count line × ((word m count < page_count paper01) × (line + word m count < length m))
     may-join few h = (line-within, (omega (arith, s.counted), omega (arith, s.counted)))
 
   module _ {m' : List ℕ} where
@@ -79,10 +79,10 @@ module _ {m : List ℕ} {count line room : ℕ} {xs : List ℕ} (s : LineStands 
         let padded : pad room xs ≡ us ++ pad k (y ∷ vs) = ap (pad room) parts ∙ ap (λ (t : ℕ). pad t (us ++ (y ∷ vs))) (sym all) ∙ pad-part us (y ∷ vs) k in
         let both = rw lu at ((stands-append m line us (pad k (y ∷ vs))).0 (rw padded at s.numbers)) in
         let n : word m count - i - 1 ≡ length vs = omega (arith, s.counted) in
-        let w : Wrote m gone.between (line + i) (wordsAt m (line + i + 1) (length vs) ++ (0 ∷ [])) = rw n at gone.moved in
+        let w : Wrote m gone.between (line + i) (words_at m (line + i + 1) (length vs) ++ (0 ∷ [])) = rw n at gone.moved in
         let moved : Stands gone.between (line + i) (pad k vs) = shifted (line + i) k (y ∷ []) vs (omega arith) both.1 w in
-        let lw : length (wordsAt m (line + i + 1) (length vs) ++ (0 ∷ [])) ≡ length vs + 1 =
-        length-append (wordsAt m (line + i + 1) (length vs)) (0 ∷ []) ∙ ap (λ (t : ℕ). t + 1) (length-wordsAt m (line + i + 1) (length vs)) in
+        let lw : length (words_at m (line + i + 1) (length vs) ++ (0 ∷ [])) ≡ length vs + 1 =
+        length-append (words_at m (line + i + 1) (length vs)) (0 ∷ []) ∙ ap (λ (t : ℕ). t + 1) (length-words_at m (line + i + 1) (length vs)) in
         let c : Wrote m gone.between (line + i) (pad k vs) = covered w (line + i) (pad k vs) (omega arith) (omega (arith, length-pad k vs)) moved in
         let fewer : word m count - 1 ≡ length (us ++ vs) = omega (arith, s.counted, length-append us vs) in (
           gone.number ∙ line_at i h,
@@ -114,9 +114,9 @@ module _ {m m' : List ℕ} {count line x : ℕ} where
 
   pub left-above : {i : ℕ} → i < word m count → Left m m' count line i x → (b : ℕ) → count < b → line + word m count ≤ b → word m' b ≡ word m b
   left-above {i} inside gone b h l =
-      let ws = wordsAt m (line + i + 1) (word m count - i - 1) in
+      let ws = words_at m (line + i + 1) (word m count - i - 1) in
       gone.counted.above b (omega arith)
-      ∙ gone.moved.above b (omega (arith, length-append ws (0 ∷ []), length-wordsAt m (line + i + 1) (word m count - i - 1)))
+      ∙ gone.moved.above b (omega (arith, length-append ws (0 ∷ []), length-words_at m (line + i + 1) (word m count - i - 1)))
 
   pub left-length : {i : ℕ} → Left m m' count line i x → length m' ≡ length m
   left-length gone = gone.counted.same_length ∙ gone.moved.same_length

@@ -4,8 +4,8 @@ use native.Mathlib.Omega.{arith}
 use mathlib.Core.List.{List}
 use mathlib.Core.Path.{◌≡◌}
 use lib.ListN.{get_or, length}
-use Rattle.rules.specs.Build.{groupCount, paper01}
-use Rattle.rules.specs.Memory.{groupAddress, heldOffset, listOffset, running_at, word}
+use Rattle.rules.specs.Build.{group_count, paper01}
+use Rattle.rules.specs.Memory.{group_address, held_offset, list_offset, running_at, word}
 use Rattle.rules.specs.Node.{Node, group_of}
 use Rattle.rules.specs.Sound.{Sound}
 use Rattle.memory.specs.Holds.{Holds}
@@ -17,14 +17,14 @@ module _ {m : List ℕ} {n : Node} {r : List ℕ} (h : Holds m n r) (s : Sound p
   pub runs : 1 ≤ n.running
   runs = omega (arith, (holds-pieces h).running)
 
-  pub runner-high : word m running_at ≤ groupCount
+  pub runner-high : word m running_at ≤ group_count
   runner-high = omega (arith, (holds-pieces h).running, s.running-bound)
 
   -- how many pages it has
-  pub runner-held : word m (groupAddress (word m running_at) + heldOffset) ≡ length (group_of n n.running).buffer.frames
+  pub runner-held : word m (group_address (word m running_at) + held_offset) ≡ length (group_of n n.running).buffer.frames
   runner-held = rw (holds-pieces h).running (list-line (holds-pieces h) h.mapped n.running runs s.running-bound).counted
 
   -- and the first of them
   pub runner-first : 1 ≤ length (group_of n n.running).buffer.frames
-      → word m (groupAddress (word m running_at) + listOffset) ≡ get_or (group_of n n.running).buffer.frames 0 0
+      → word m (group_address (word m running_at) + list_offset) ≡ get_or (group_of n n.running).buffer.frames 0 0
   runner-first some = rw (holds-pieces h).running (line_first (list-line (holds-pieces h) h.mapped n.running runs s.running-bound) some)

@@ -10,9 +10,9 @@ use lib.ListN.{length, get_or}
 use borrow.Author.Tests.{eq-eqb, ne_eqb}
 use Rattle.rules.specs.Build.{paper01}
 use Rattle.rules.specs.Lists.{filter}
-use Rattle.rules.specs.Memory.{entered_at, enteredCountAt, groupAddress, heldOffset, listOffset, running_at, word}
+use Rattle.rules.specs.Memory.{entered_at, entered_count_at, group_address, held_offset, list_offset, running_at, word}
 use Rattle.rules.specs.Node.{Node, group_of}
-use Rattle.rules.specs.Paging.{spared, standsFirst, victim}
+use Rattle.rules.specs.Paging.{spared, stands_first, victim}
 use Rattle.rules.proofs.Steps.ListLaws.{filter-fail, filter-pass}
 use Rattle.rules.proofs.Steps.PagingLaws.{entered-once}
 use Rattle.rules.proofs.Steps.SoundLaws.{line-lengths}
@@ -43,7 +43,7 @@ unfolding spared
 spared-nobody n x e = rw (eq-eqb n.running 0 e)
 
 -- else what stands first in the running group's list
-spared-runs : (n : Node) (x : ℕ) → 1 ≤ n.running → spared n x ≡ standsFirst x (group_of n n.running).buffer.frames
+spared-runs : (n : Node) (x : ℕ) → 1 ≤ n.running → spared n x ≡ stands_first x (group_of n n.running).buffer.frames
 unfolding spared
 spared-runs n x low = rw (ne_eqb n.running 0 (λ e. omega arith))
 
@@ -52,7 +52,7 @@ module _ {m : List ℕ} {n : Node} {r : List ℕ} (h : Holds m n r) (c : Crowded
   many : 2 ≤ length n.paging.entered
   many = omega (arith, line-lengths c.sound, ap length c.full)
 
-  order : LineStands m enteredCountAt entered_at paper01.frames n.paging.entered
+  order : LineStands m entered_count_at entered_at paper01.frames n.paging.entered
   order = entered-line (holds-pieces h) h.mapped.swap-short h.mapped.entered-short
 
   first : ℕ
@@ -112,32 +112,32 @@ module _ {m : List ℕ} {n : Node} {r : List ℕ} (h : Holds m n r) (c : Crowded
   nobody-chosen e = first_read ∙ unspared (spared-nobody n first (sym (holds-pieces h).running ∙ e))
 
   module _ (low : 1 ≤ word m running_at) where
-    list_read : (z : ℕ) (zs : List ℕ) → (group_of n n.running).buffer.frames ≡ z ∷ zs → word m (groupAddress (word m running_at) + listOffset) ≡ z
+    list_read : (z : ℕ) (zs : List ℕ) → (group_of n n.running).buffer.frames ≡ z ∷ zs → word m (group_address (word m running_at) + list_offset) ≡ z
     list_read z zs e = runner-first h c.sound low (omega (arith, ap length e)) ∙ ap (λ (l : List ℕ). get_or l 0 0) e
 
     -- it has no page
-    pub empty-chosen : word m (groupAddress (word m running_at) + heldOffset) ≡ 0 → word m entered_at ≡ victim n
-    unfolding standsFirst
+    pub empty-chosen : word m (group_address (word m running_at) + held_offset) ≡ 0 → word m entered_at ≡ victim n
+    unfolding stands_first
     empty-chosen e = first_read ∙ unspared (spared-runs n first (runs h c.sound low) ∙ go (group_of n n.running).buffer.frames refl)
       where
-        go : (zs : List ℕ) → (group_of n n.running).buffer.frames ≡ zs → standsFirst first (group_of n n.running).buffer.frames ≡ false
+        go : (zs : List ℕ) → (group_of n n.running).buffer.frames ≡ zs → stands_first first (group_of n n.running).buffer.frames ≡ false
         go [] q = rw q
         go (z ∷ zs) q = absurd (omega (arith, runner-held h c.sound low, ap length q))
 
     -- its first page is another
-    pub other-chosen : word m (groupAddress (word m running_at) + heldOffset) ≢ 0 → word m (groupAddress (word m running_at) + listOffset) ≢ word m entered_at
+    pub other-chosen : word m (group_address (word m running_at) + held_offset) ≢ 0 → word m (group_address (word m running_at) + list_offset) ≢ word m entered_at
         → word m entered_at ≡ victim n
-    unfolding standsFirst
+    unfolding stands_first
     other-chosen some d = first_read ∙ unspared (spared-runs n first (runs h c.sound low) ∙ go (group_of n n.running).buffer.frames refl)
       where
-        go : (zs : List ℕ) → (group_of n n.running).buffer.frames ≡ zs → standsFirst first (group_of n n.running).buffer.frames ≡ false
+        go : (zs : List ℕ) → (group_of n n.running).buffer.frames ≡ zs → stands_first first (group_of n n.running).buffer.frames ≡ false
         go [] q = absurd (some (runner-held h c.sound low ∙ ap length q))
         go (z ∷ zs) q = rw q (ne_eqb z first (λ same. d (list_read z zs q ∙ same ∙ sym first_read)))
 
     -- its first page is the first in the order
-    pub second-chosen : word m (groupAddress (word m running_at) + heldOffset) ≢ 0 → word m (groupAddress (word m running_at) + listOffset) ≡ word m entered_at
+    pub second-chosen : word m (group_address (word m running_at) + held_offset) ≢ 0 → word m (group_address (word m running_at) + list_offset) ≡ word m entered_at
         → word m (entered_at + 1) ≡ victim n
-    unfolding standsFirst
+    unfolding stands_first
     second-chosen some same =
         second-read ∙ go (group_of n n.running).buffer.frames refl
       where

@@ -5,10 +5,10 @@ use native.Mathlib.Omega.{arith}
 use mathlib.Core.Path.{◌≡◌, refl, ◌∙◌}
 use mathlib.Core.List.{List, [], ◌∷◌}
 use lib.ListN.{length, set}
-use Rattle.rules.specs.Memory.{word, wordsAt}
+use Rattle.rules.specs.Memory.{word, words_at}
 use Rattle.rules.proofs.Map.MapWords.{stands-cons}
 use Rattle.memory.specs.Writes.{Wrote, Swapped}
-use Rattle.memory.proofs.WriteLaws.{same-wordsAt, wordsAt-more, wrote-set, wrote-stands}
+use Rattle.memory.proofs.WriteLaws.{same-words_at, words_at-more, wrote-set, wrote-stands}
 
 -- the word that is written
 pub wrote-word : {m m' : List ℕ} {a w : ℕ} → Wrote m m' a (w ∷ []) → word m' a ≡ w
@@ -25,7 +25,7 @@ uncopied {m} {m'} {to} {ws} w from n less apart = go (dec_lt from to)
 
 -- nothing is exchanged
 pub swapped-none : (m : List ℕ) (a b : ℕ) → Swapped m m a b 0
-unfolding wordsAt
+unfolding words_at
 swapped-none m a b = record { same_length = refl; first = refl; second = refl; else = λ c f g. refl }
 
 -- one word more
@@ -40,14 +40,14 @@ swapped-more {m} {m'} a b i apart inside s =
     let x : word m₂ (a + i) ≡ word m (b + i) =
     w₂.below (a + i) (omega arith) ∙ wrote-word w₁ ∙ s.else (b + i) (λ h. omega arith) (λ h. omega arith) in
     let y : word m₂ (b + i) ≡ word m (a + i) = wrote-word w₂ ∙ s.else (a + i) (λ h. omega arith) (λ h. absurd (omega arith)) in
-    let first : wordsAt m₂ a i ≡ wordsAt m b i =
-    same-wordsAt m' m₂ a i (λ c h k. w₂.below c (omega arith) ∙ w₁.below c (omega arith)) ∙ s.first in
-    let second : wordsAt m₂ b i ≡ wordsAt m a i =
-    same-wordsAt m' m₂ b i (λ c h k. w₂.below c (omega arith) ∙ w₁.above c (omega arith)) ∙ s.second in
+    let first : words_at m₂ a i ≡ words_at m b i =
+    same-words_at m' m₂ a i (λ c h k. w₂.below c (omega arith) ∙ w₁.below c (omega arith)) ∙ s.first in
+    let second : words_at m₂ b i ≡ words_at m a i =
+    same-words_at m' m₂ b i (λ c h k. w₂.below c (omega arith) ∙ w₁.above c (omega arith)) ∙ s.second in
     record {
       same_length = w₂.same_length ∙ w₁.same_length ∙ l;
-      first = rw (wordsAt-more m₂ a i, wordsAt-more m b i, first, x);
-      second = rw (wordsAt-more m₂ b i, wordsAt-more m a i, second, y);
+      first = rw (words_at-more m₂ a i, words_at-more m b i, first, x);
+      second = rw (words_at-more m₂ b i, words_at-more m a i, second, y);
       else = λ c f g. outside c f g ∙ s.else c (λ h. omega (arith, f h)) (λ h. omega (arith, g h));
     }
   where

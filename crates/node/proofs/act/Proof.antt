@@ -1,5 +1,5 @@
 -- `node::act` meets its contract: each arm hands on to the function of its operation. Assumes nothing.
-use Rattle.rules.specs.Types.{operationOf}
+use Rattle.rules.specs.Types.{operation_of}
 use mathlib.Core.Path.{ap, sym}
 use borrow.Author.Rules.{rules}
 use Rattle.rules.specs.declared.Operation.{Operation as Operation·rt}
@@ -56,47 +56,47 @@ same_length : tie.Need-same-length
 same_length c = search rules
 
 returns : tie.Need-returns
-unfolding operationOf
-returns c n r h v = acted-named (sym (ap (λ (o : Operation·rt). operationOf o c.before.before.before.before.before.before.before.before.before.args.words.now) c.before.before.before.before.before.op.given.1)) (c.before.before.arrive.ensures n r h v)
+unfolding operation_of
+returns c n r h v = acted-named (sym (ap (λ (o : Operation·rt). operation_of o c.before.before.before.before.before.before.before.before.before.args.words.now) c.before.before.before.before.before.op.given.1)) (c.before.before.arrive.ensures n r h v)
 
 same-length-2 : tie.Need-same-length-2
 same-length-2 c = search rules
 
 returns-2 : tie.Need-returns-2
-unfolding operationOf
-returns-2 c n r h v = acted-named (sym (ap (λ (o : Operation·rt). operationOf o c.before.before.before.before.before.before.before.before.before.args.words.now) c.before.before.before.before.before.op2.given.1)) (c.before.before.schedule.ensures n r h v)
+unfolding operation_of
+returns-2 c n r h v = acted-named (sym (ap (λ (o : Operation·rt). operation_of o c.before.before.before.before.before.before.before.before.before.args.words.now) c.before.before.before.before.before.op2.given.1)) (c.before.before.schedule.ensures n r h v)
 
 same-length-3 : tie.Need-same-length-3
 same-length-3 c = search rules
 
 returns-3 : tie.Need-returns-3
-unfolding operationOf
-returns-3 c n r h v = acted-named (sym (ap (λ (o : Operation·rt). operationOf o c.before.before.before.before.before.before.before.before.args.words.now) c.before.before.before.before.enum_told.given.1)) (c.before.before.preempt.ensures n r h v)
+unfolding operation_of
+returns-3 c n r h v = acted-named (sym (ap (λ (o : Operation·rt). operation_of o c.before.before.before.before.before.before.before.before.args.words.now) c.before.before.before.before.enum_told.given.1)) (c.before.before.preempt.ensures n r h v)
 
 same-length-4 : tie.Need-same-length-4
 same-length-4 c = search rules
 
 returns-4 : tie.Need-returns-4
-unfolding operationOf
-returns-4 c n r h v = acted-named (sym (ap (λ (o : Operation·rt). operationOf o c.before.before.before.before.before.before.before.before.before.args.words.now) c.before.before.before.before.before.op3.given.1)) (c.before.before.dispatch.ensures n r h v)
+unfolding operation_of
+returns-4 c n r h v = acted-named (sym (ap (λ (o : Operation·rt). operation_of o c.before.before.before.before.before.before.before.before.before.args.words.now) c.before.before.before.before.before.op3.given.1)) (c.before.before.dispatch.ensures n r h v)
 
 same-length-5 : tie.Need-same-length-5
 same-length-5 c = search rules
 
 returns-5 : tie.Need-returns-5
-unfolding operationOf
-returns-5 c n r h v = acted-named (sym (ap (λ (o : Operation·rt). operationOf o c.before.before.before.before.before.before.before.before.before.args.words.now) c.before.before.before.before.before.op4.given.1)) (c.before.before.tick.ensures n r h v)
+unfolding operation_of
+returns-5 c n r h v = acted-named (sym (ap (λ (o : Operation·rt). operation_of o c.before.before.before.before.before.before.before.before.before.args.words.now) c.before.before.before.before.before.op4.given.1)) (c.before.before.tick.ensures n r h v)
 
 same-length-6 : tie.Need-same-length-6
 same-length-6 c = search rules
 
 returns-6 : tie.Need-returns-6
-unfolding operationOf
-returns-6 c n r h v = acted-named (sym (ap (λ (o : Operation·rt). operationOf o c.before.before.before.before.before.before.args.words.now) c.before.before.enum-told2.given.1)) (c.turn.ensures n r h v)
+unfolding operation_of
+returns-6 c n r h v = acted-named (sym (ap (λ (o : Operation·rt). operation_of o c.before.before.before.before.before.before.args.words.now) c.before.before.enum-told2.given.1)) (c.turn.ensures n r h v)
 
 returns-7 : tie.Need-returns-7
-unfolding operationOf
-returns-7 c n r h v = acted-named (sym (ap (λ (o : Operation·rt). operationOf o c.before.before.before.before.before.args.words.now) c.before.enum-told3.given.1)) (unknown-acts h c.refused.ensures)
+unfolding operation_of
+returns-7 c n r h v = acted-named (sym (ap (λ (o : Operation·rt). operation_of o c.before.before.before.before.before.args.words.now) c.before.enum-told3.given.1)) (unknown-acts h c.refused.ensures)
 
 same-length-7 : tie.Need-same-length-7
 same-length-7 c = search rules

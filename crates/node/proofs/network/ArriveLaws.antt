@@ -8,14 +8,14 @@ use mathlib.Core.Path.{◌≡◌, refl, sym, ap, ◌∙◌}
 use lib.Dec.{eqb, leb, ltb}
 use lib.ListN.{length, length-append}
 use borrow.Author.Tests.{eq-eqb, le-leb, le-ltb, lt-leb, lt-ltb, ne_eqb}
-use Rattle.rules.specs.Build.{Build, paper01, pageCount, groupCount, wordLimit}
+use Rattle.rules.specs.Build.{Build, paper01, page_count, group_count, word_limit}
 use Rattle.rules.specs.Frames.{pledges}
 use Rattle.rules.specs.Lists.{is_empty}
-use Rattle.rules.specs.Node.{Message, Node, withQueue}
-use Rattle.rules.specs.Operation.{accepted, arrive, badGroup, badWords, noFrames, queueFull, Operation, refused}
-use Rattle.rules.specs.Refusal.{queued, refusal, refuseArrive}
+use Rattle.rules.specs.Node.{Message, Node, with_queue}
+use Rattle.rules.specs.Operation.{accepted, arrive, bad_group, bad_words, no_frames, queue_full, Operation, refused}
+use Rattle.rules.specs.Refusal.{queued, refusal, refuse_arrive}
 use Rattle.rules.specs.Step.{act, valued}
-use Rattle.rules.specs.Types.{reportOf}
+use Rattle.rules.specs.Types.{report_of}
 use Rattle.rules.specs.Valid.{GoodMessage, Valid}
 use Rattle.rules.proofs.Steps.EveryLaws.{every_append}
 use Rattle.rules.proofs.Steps.ListLaws.{length_some}
@@ -43,66 +43,66 @@ module _ (b : Build) (n : Node) (g : ℕ) (ws : List ℕ) where
 
   -- 6, or accepted
   abbrev by-pledges : ℕ
-  by-pledges = cond (ltb (pageCount b) (pledges b (queued message n))) noFrames accepted
+  by-pledges = cond (ltb (page_count b) (pledges b (queued message n))) no_frames accepted
 
   -- 5, or what comes after
   abbrev by-queue : ℕ
-  by-queue = cond (leb b.places (length n.queue)) queueFull by-pledges
+  by-queue = cond (leb b.places (length n.queue)) queue_full by-pledges
 
   -- 4, or what comes after
   abbrev by-words : ℕ
-  by-words = cond (is_empty ws || ltb wordLimit (length ws)) badWords by-queue
+  by-words = cond (is_empty ws || ltb word_limit (length ws)) bad_words by-queue
 
   -- "3: group not 1 to 8."
-  pub no-group : g ≡ 0 → refusal b n (arrive g ws) ≡ badGroup
-  unfolding refusal refuseArrive
-  no-group e = ap (λ (t : Bool). cond (t || ltb groupCount g) badGroup by-words) (eq-eqb g 0 e)
+  pub no-group : g ≡ 0 → refusal b n (arrive g ws) ≡ bad_group
+  unfolding refusal refuse_arrive
+  no-group e = ap (λ (t : Bool). cond (t || ltb group_count g) bad_group by-words) (eq-eqb g 0 e)
 
-  pub high-group : groupCount < g → refusal b n (arrive g ws) ≡ badGroup
-  unfolding refusal refuseArrive
+  pub high-group : group_count < g → refusal b n (arrive g ws) ≡ bad_group
+  unfolding refusal refuse_arrive
   high-group h =
-      ap (λ (t : Bool). cond (eqb g 0 || t) badGroup by-words) (lt-ltb groupCount g h)
-      ∙ ap (λ (t : Bool). cond t badGroup by-words) (or_right (eqb g 0))
+      ap (λ (t : Bool). cond (eqb g 0 || t) bad_group by-words) (lt-ltb group_count g h)
+      ∙ ap (λ (t : Bool). cond t bad_group by-words) (or_right (eqb g 0))
 
-  module _ (low : 1 ≤ g) (high : g ≤ groupCount) where
+  module _ (low : 1 ≤ g) (high : g ≤ group_count) where
     good-group : refusal b n (arrive g ws) ≡ by-words
-    unfolding refusal refuseArrive
+    unfolding refusal refuse_arrive
     good-group =
-        ap (λ (t : Bool). cond (t || ltb groupCount g) badGroup by-words) (ne_eqb g 0 (λ e. omega arith))
-        ∙ ap (λ (t : Bool). cond t badGroup by-words) (le-ltb groupCount g high)
+        ap (λ (t : Bool). cond (t || ltb group_count g) bad_group by-words) (ne_eqb g 0 (λ e. omega arith))
+        ∙ ap (λ (t : Bool). cond t bad_group by-words) (le-ltb group_count g high)
 
     -- "4: no words, or more than 8."
-    pub no_words : length ws ≡ 0 → refusal b n (arrive g ws) ≡ badWords
-    no_words e = good-group ∙ ap (λ (t : Bool). cond (t || ltb wordLimit (length ws)) badWords by-queue) (none-empty ws e)
+    pub no_words : length ws ≡ 0 → refusal b n (arrive g ws) ≡ bad_words
+    no_words e = good-group ∙ ap (λ (t : Bool). cond (t || ltb word_limit (length ws)) bad_words by-queue) (none-empty ws e)
 
-    pub many-words : wordLimit < length ws → refusal b n (arrive g ws) ≡ badWords
+    pub many-words : word_limit < length ws → refusal b n (arrive g ws) ≡ bad_words
     many-words h =
         good-group
-        ∙ ap (λ (t : Bool). cond (is_empty ws || t) badWords by-queue) (lt-ltb wordLimit (length ws) h)
-        ∙ ap (λ (t : Bool). cond t badWords by-queue) (or_right (is_empty ws))
+        ∙ ap (λ (t : Bool). cond (is_empty ws || t) bad_words by-queue) (lt-ltb word_limit (length ws) h)
+        ∙ ap (λ (t : Bool). cond t bad_words by-queue) (or_right (is_empty ws))
 
   module _ (good : GoodMessage message) where
     good-words : refusal b n (arrive g ws) ≡ by-queue
     good-words =
         good-group good.group-low good.group-high
-        ∙ ap (λ (t : Bool). cond (t || ltb wordLimit (length ws)) badWords by-queue) (length_some ws good.some_words)
-        ∙ ap (λ (t : Bool). cond t badWords by-queue) (le-ltb wordLimit (length ws) good.few_words)
+        ∙ ap (λ (t : Bool). cond (t || ltb word_limit (length ws)) bad_words by-queue) (length_some ws good.some_words)
+        ∙ ap (λ (t : Bool). cond t bad_words by-queue) (le-ltb word_limit (length ws) good.few_words)
 
     -- "5: 16 messages already in the hardware queue."
-    pub full-queue : b.places ≤ length n.queue → refusal b n (arrive g ws) ≡ queueFull
-    full-queue h = good-words ∙ ap (λ (t : Bool). cond t queueFull by-pledges) (le-leb b.places (length n.queue) h)
+    pub full-queue : b.places ≤ length n.queue → refusal b n (arrive g ws) ≡ queue_full
+    full-queue h = good-words ∙ ap (λ (t : Bool). cond t queue_full by-pledges) (le-leb b.places (length n.queue) h)
 
     module _ (room : length n.queue < b.places) where
       queue-room : refusal b n (arrive g ws) ≡ by-pledges
-      queue-room = good-words ∙ ap (λ (t : Bool). cond t queueFull by-pledges) (lt-leb b.places (length n.queue) room)
+      queue-room = good-words ∙ ap (λ (t : Bool). cond t queue_full by-pledges) (lt-leb b.places (length n.queue) room)
 
       -- "6: with this message the pledges would sum to above 32", which now reads 96
-      pub above-pages : pageCount b < pledges b (queued message n) → refusal b n (arrive g ws) ≡ noFrames
-      above-pages h = queue-room ∙ ap (λ (t : Bool). cond t noFrames accepted) (lt-ltb (pageCount b) (pledges b (queued message n)) h)
+      pub above-pages : page_count b < pledges b (queued message n) → refusal b n (arrive g ws) ≡ no_frames
+      above-pages h = queue-room ∙ ap (λ (t : Bool). cond t no_frames accepted) (lt-ltb (page_count b) (pledges b (queued message n)) h)
 
       -- accepted
-      pub within-pages : pledges b (queued message n) ≤ pageCount b → refusal b n (arrive g ws) ≡ accepted
-      within-pages h = queue-room ∙ ap (λ (t : Bool). cond t noFrames accepted) (le-ltb (pageCount b) (pledges b (queued message n)) h)
+      pub within-pages : pledges b (queued message n) ≤ page_count b → refusal b n (arrive g ws) ≡ accepted
+      within-pages h = queue-room ∙ ap (λ (t : Bool). cond t no_frames accepted) (le-ltb (page_count b) (pledges b (queued message n)) h)
 
 -- an accepted arrival: the message is good, the queue has room for it, and the node with it is sound
 pub record Arriving (b : Build) (n : Node) (x : Message) : Type 0 where
@@ -112,7 +112,7 @@ pub record Arriving (b : Build) (n : Node) (x : Message) : Type 0 where
 
 pub arriving : {b : Build} {n : Node} → Valid b n → (g : ℕ) (ws : List ℕ) → refusal b n (arrive g ws) ≡ 0
     → Arriving b n (record { group = g; words = ws })
-unfolding act valued queued withQueue
+unfolding act valued queued with_queue
 arriving {b} {n} v g ws e =
     let x : Message = record { group = g; words = ws } in
     let s : Sound b (queued x n) = act-sound v (arrive g ws) e in
@@ -124,7 +124,7 @@ arriving {b} {n} v g ws e =
 
 -- a step refused with a number that is not 0
 pub refusing : {m : List ℕ} {n : Node} {r : List ℕ} → Holds m n r → (op : Operation) (a : ℕ) → a ≡ refusal paper01 n op → a ≢ 0 → {acted : Act·rt}
-    → acted ≡ done (reportOf (refused a)) → Acted m n r op acted
+    → acted ≡ done (report_of (refused a)) → Acted m n r op acted
 refusing h op zero e some p = absurd (some refl)
 refusing h op (suc a) e some p = acted-refused op a (sym e) h p
 

@@ -4,7 +4,7 @@ use mathlib.Core.List.{[]}
 use mathlib.Core.Path.{◌∙◌, ap, sym}
 use borrow.Author.Rules.{rules}
 use Rattle.rules.specs.Memory.{word}
-use Rattle.rules.specs.Types.{operationOf}
+use Rattle.rules.specs.Types.{operation_of}
 use Rattle.rules.specs.declared.Operation.{Operation as Operation·rt}
 use Rattle.memory.proofs.PieceLaws.{holds-pieces}
 use Rattle.node.specs.Steps.{IsRunning}
@@ -92,50 +92,50 @@ same_length : tie.Need-same-length
 same_length c = search rules
 
 returns-2 : tie.Need-returns-2
-unfolding word operationOf
-returns-2 c q e n r h v = acted-named (sym (ap (λ (o : Operation·rt). operationOf o []) c.before.before.before.enum_told.given.1) ∙ e) (acted-done _ c.done.ensures (c.before.poll.ensures n r h (somebody-runs h c.before.before.before.before.before.if1.false v)))
+unfolding word operation_of
+returns-2 c q e n r h v = acted-named (sym (ap (λ (o : Operation·rt). operation_of o []) c.before.before.before.enum_told.given.1) ∙ e) (acted-done _ c.done.ensures (c.before.poll.ensures n r h (somebody-runs h c.before.before.before.before.before.if1.false v)))
 
 same-length-2 : tie.Need-same-length-2
 same-length-2 c = search rules
 
 returns-3 : tie.Need-returns-3
-unfolding word operationOf
-returns-3 c q e n r h v = acted-named (sym (ap (λ (o : Operation·rt). operationOf o []) c.before.before.before.before.op.given.1) ∙ e) (acted-done _ c.done2.ensures (c.before.peek.ensures n r h (somebody-runs h c.before.before.before.before.before.before.if1.false v)))
+unfolding word operation_of
+returns-3 c q e n r h v = acted-named (sym (ap (λ (o : Operation·rt). operation_of o []) c.before.before.before.before.op.given.1) ∙ e) (acted-done _ c.done2.ensures (c.before.peek.ensures n r h (somebody-runs h c.before.before.before.before.before.before.if1.false v)))
 
 same-length-3 : tie.Need-same-length-3
 same-length-3 c = search rules
 
 returns-4 : tie.Need-returns-4
-unfolding word operationOf
-returns-4 c q e n r h v = acted-named (sym (ap (λ (o : Operation·rt). operationOf o []) c.before.before.before.before.enum-told2.given.1) ∙ e) (c.before.before.dispose.ensures n r h (somebody-runs h c.before.before.before.before.before.before.if1.false v))
+unfolding word operation_of
+returns-4 c q e n r h v = acted-named (sym (ap (λ (o : Operation·rt). operation_of o []) c.before.before.before.before.enum-told2.given.1) ∙ e) (c.before.before.dispose.ensures n r h (somebody-runs h c.before.before.before.before.before.before.if1.false v))
 
 same-length-4 : tie.Need-same-length-4
 same-length-4 c = search rules
 
 returns-5 : tie.Need-returns-5
-unfolding word operationOf
-returns-5 c q e n r h v = acted-named (sym (ap (λ (o : Operation·rt). operationOf o []) c.before.before.before.before.before.before.op2.given.1) ∙ e) (acted-done _ c.done3.ensures (c.before.before.before.begin.ensures n r h (somebody-runs h c.before.before.before.before.before.before.before.before.if1.false v)))
+unfolding word operation_of
+returns-5 c q e n r h v = acted-named (sym (ap (λ (o : Operation·rt). operation_of o []) c.before.before.before.before.before.before.op2.given.1) ∙ e) (acted-done _ c.done3.ensures (c.before.before.before.begin.ensures n r h (somebody-runs h c.before.before.before.before.before.before.before.before.if1.false v)))
 
 same-length-5 : tie.Need-same-length-5
 same-length-5 c = search rules
 
 returns-6 : tie.Need-returns-6
-unfolding word operationOf
-returns-6 c q e n r h v = acted-named (sym (ap (λ (o : Operation·rt). operationOf o []) c.before.before.before.before.enum-told3.given.1) ∙ e) (c.before.before.end.ensures n r h (somebody-runs h c.before.before.before.before.before.before.if1.false v))
+unfolding word operation_of
+returns-6 c q e n r h v = acted-named (sym (ap (λ (o : Operation·rt). operation_of o []) c.before.before.before.before.enum-told3.given.1) ∙ e) (c.before.before.end.ensures n r h (somebody-runs h c.before.before.before.before.before.before.if1.false v))
 
 same-length-6 : tie.Need-same-length-6
 same-length-6 c = search rules
 
 returns-7 : tie.Need-returns-7
-unfolding word operationOf
-returns-7 c q e n r h v = acted-named (sym (ap (λ (o : Operation·rt). operationOf o []) c.before.before.before.before.before.before.op3.given.1) ∙ e) (acted-done _ c.done4.ensures (c.before.before.before.describe.ensures n r h (somebody-runs h c.before.before.before.before.before.before.before.before.if1.false v)))
+unfolding word operation_of
+returns-7 c q e n r h v = acted-named (sym (ap (λ (o : Operation·rt). operation_of o []) c.before.before.before.before.before.before.op3.given.1) ∙ e) (acted-done _ c.done4.ensures (c.before.before.before.describe.ensures n r h (somebody-runs h c.before.before.before.before.before.before.before.before.if1.false v)))
 
 same-length-7 : tie.Need-same-length-7
 same-length-7 c = search rules
 
 returns-8 : tie.Need-returns-8
-unfolding word operationOf
-returns-8 c q e n r h v = acted-named (sym (ap (λ (o : Operation·rt). operationOf o []) c.before.before.before.before.before.before.op4.given.1) ∙ e) (acted-done _ c.done5.ensures (c.before.before.before.launch.ensures n r h (somebody-runs h c.before.before.before.before.before.before.before.before.if1.false v)))
+unfolding word operation_of
+returns-8 c q e n r h v = acted-named (sym (ap (λ (o : Operation·rt). operation_of o []) c.before.before.before.before.before.before.op4.given.1) ∙ e) (acted-done _ c.done5.ensures (c.before.before.before.launch.ensures n r h (somebody-runs h c.before.before.before.before.before.before.before.before.if1.false v)))
 
 returns-9 : tie.Need-returns-9
 returns-9 c q e n r h v = absurd (not-request c.before.before.before.before.before.args.op c.before.match.keys8 q e)

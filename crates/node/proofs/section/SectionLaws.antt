@@ -8,12 +8,12 @@ use mathlib.Core.Path.{◌∙◌, ◌≡◌, refl, subst, sym}
 use lib.ListN.{length, set}
 use borrow.Author.Tests.{ltb-true}
 use Rattle.rules.specs.Build.{paper01}
-use Rattle.rules.specs.Frames.{ceilDiv}
+use Rattle.rules.specs.Frames.{ceil_div}
 use Rattle.rules.specs.Lists.{is_empty}
-use Rattle.rules.specs.Memory.{queued_at, running_at, size, timerAt, word}
-use Rattle.rules.specs.Node.{line, Message, Node, bufferHolds, group_of}
-use Rattle.rules.specs.Operation.{dispose, endAtomic, accepted, noMessage, stillPending}
-use Rattle.rules.specs.Refusal.{refuseDispose, refuseEnd, refuseRequest}
+use Rattle.rules.specs.Memory.{queued_at, running_at, size, timer_at, word}
+use Rattle.rules.specs.Node.{line, Message, Node, buffer_holds, group_of}
+use Rattle.rules.specs.Operation.{dispose, end_atomic, accepted, no_message, still_pending}
+use Rattle.rules.specs.Refusal.{refuse_dispose, refuse_end, refuse_request}
 use Rattle.rules.specs.Step.{disposed, flagged, removed}
 use Rattle.rules.specs.Valid.{Valid}
 use Rattle.rules.proofs.Steps.FrameLaws.{held}
@@ -22,7 +22,7 @@ use Rattle.rules.proofs.Steps.NodeLaws.{group-good}
 use Rattle.rules.proofs.Steps.PagingLaws.{first-entered}
 use Rattle.rules.proofs.Steps.SoundLaws.{line-lengths, valid-sound}
 use Rattle.memory.specs.Holds.{Holds, Queued, Waits, dropping, flagging, removing}
-use Rattle.memory.specs.Writes.{groupRead}
+use Rattle.memory.specs.Writes.{group_read}
 use Rattle.memory.proofs.PieceLaws.{holds-pieces}
 use Rattle.memory.proofs.PieceWrites.{timer-held}
 use Rattle.memory.proofs.WriteLaws.{wrote-set}
@@ -35,62 +35,62 @@ pub valid-settles : {n : Node} → Valid paper01 n → Settles n
 valid-settles v = record { sound = valid-sound v; head = v.head-stays }
 
 module _ {m : List ℕ} {n : Node} {r : List ℕ} (h : Holds m n r) (run : Running n) where
-  count-read : (groupRead m (word m running_at)).count ≡ (group_of n n.running).buffer.count
+  count-read : (group_read m (word m running_at)).count ≡ (group_of n n.running).buffer.count
   count-read = runner-count h run.some run.valid.running-bound
 
   -- its line is empty exactly where its buffer holds nothing and the queue is empty
-  pub runner-none : (groupRead m (word m running_at)).count ≡ 0 → word m queued_at ≡ 0 → is_empty (line n n.running) ≡ true
+  pub runner-none : (group_read m (word m running_at)).count ≡ 0 → word m queued_at ≡ 0 → is_empty (line n n.running) ≡ true
   runner-none none empty = line-none n n.running (sym count-read ∙ none) (sym (holds-pieces h).queued ∙ empty)
 
-  pub runner-buffered : (groupRead m (word m running_at)).count ≢ 0 → is_empty (line n n.running) ≡ false
+  pub runner-buffered : (group_read m (word m running_at)).count ≢ 0 → is_empty (line n n.running) ≡ false
   runner-buffered some =
       line-buffered (valid-sound run.valid) n.running run.some run.valid.running-bound (let c = count-read in omega arith)
 
-  pub runner-queued : (groupRead m (word m running_at)).count ≡ 0 → word m queued_at ≢ 0 → is_empty (line n n.running) ≡ false
+  pub runner-queued : (group_read m (word m running_at)).count ≡ 0 → word m queued_at ≢ 0 → is_empty (line n n.running) ≡ false
   runner-queued none some =
       line-queued (valid-settles run.valid) (sym count-read ∙ none) (let c = (holds-pieces h).queued in omega arith)
 
 -- N.
 
-pub section-pending : (n : Node) → (group_of n n.running).pending ≡ true → refuseRequest n endAtomic ≡ stillPending
-unfolding refuseRequest refuseEnd
+pub section-pending : (n : Node) → (group_of n n.running).pending ≡ true → refuse_request n end_atomic ≡ still_pending
+unfolding refuse_request refuse_end
 section-pending n on = rw on
 
-pub section-ends : (n : Node) → (group_of n n.running).pending ≡ false → refuseRequest n endAtomic ≡ accepted
-unfolding refuseRequest refuseEnd
+pub section-ends : (n : Node) → (group_of n n.running).pending ≡ false → refuse_request n end_atomic ≡ accepted
+unfolding refuse_request refuse_end
 section-ends n off = rw off
 
 -- D.
 
-pub line-missing : (n : Node) → is_empty (line n n.running) ≡ true → refuseRequest n dispose ≡ noMessage
-unfolding refuseRequest refuseDispose
+pub line-missing : (n : Node) → is_empty (line n n.running) ≡ true → refuse_request n dispose ≡ no_message
+unfolding refuse_request refuse_dispose
 line-missing n none = go (line n n.running) none
   where
-    go : (ms : List Message) → is_empty ms ≡ true → refuseDispose ms ≡ noMessage
+    go : (ms : List Message) → is_empty ms ≡ true → refuse_dispose ms ≡ no_message
     go [] e = refl
     go (x ∷ ms) e = absurd (true≢false (sym e))
 
-pub line-present : (n : Node) → is_empty (line n n.running) ≡ false → refuseRequest n dispose ≡ accepted
-unfolding refuseRequest refuseDispose
+pub line-present : (n : Node) → is_empty (line n n.running) ≡ false → refuse_request n dispose ≡ accepted
+unfolding refuse_request refuse_dispose
 line-present n some = go (line n n.running) some
   where
-    go : (ms : List Message) → is_empty ms ≡ false → refuseDispose ms ≡ accepted
+    go : (ms : List Message) → is_empty ms ≡ false → refuse_dispose ms ≡ accepted
     go [] e = absurd (true≢false e)
     go (x ∷ ms) e = refl
 
 -- from the buffer
-pub removed-buffered : (n : Node) → bufferHolds n n.running ≡ true → removed paper01 n ≡ removing n.running n
+pub removed-buffered : (n : Node) → buffer_holds n n.running ≡ true → removed paper01 n ≡ removing n.running n
 unfolding removed removing
 removed-buffered n e = rw e
 
 -- from the head of the queue
-pub removed-direct : {n : Node} → Valid paper01 n → bufferHolds n n.running ≡ false → removed paper01 n ≡ dropping 1 n
+pub removed-direct : {n : Node} → Valid paper01 n → buffer_holds n n.running ≡ false → removed paper01 n ≡ dropping 1 n
 unfolding removed dropping
 removed-direct v e = rw (e, without-running v)
 
 -- a group whose buffer holds a message has one to remove, its first page is in a frame, and its other places are wiped
-pub buffered-waits : {n : Node} → Running n → bufferHolds n n.running ≡ true → Waits n.running n
-unfolding bufferHolds ceilDiv
+pub buffered-waits : {n : Node} → Running n → buffer_holds n n.running ≡ true → Waits n.running n
+unfolding buffer_holds ceil_div
 buffered-waits {n} run e =
     let good = (group-good (valid-sound run.valid) n.running run.some run.valid.running-bound).buffer in
     let some = ltb-true 0 (group_of n n.running).buffer.count e in
@@ -105,15 +105,15 @@ buffered-waits {n} run e =
     }
 
 -- and one whose buffer holds none, with a line, the queue's head
-pub direct-queued : {n : Node} → Valid paper01 n → bufferHolds n n.running ≡ false → is_empty (line n n.running) ≡ false → Queued 1 n
+pub direct-queued : {n : Node} → Valid paper01 n → buffer_holds n n.running ≡ false → is_empty (line n n.running) ≡ false → Queued 1 n
 direct-queued v direct some = let t = direct-head v direct some in rw t.2 (omega arith)
 
 -- pending off, timer 0
 pub disposing : {m : List ℕ} (n : Node) {r : List ℕ} → (a : Bool) → a ≡ (group_of n n.running).atomic → Holds m (flagging n.running a false (removed paper01 n)) r
-    → size ≤ length m → Holds (set m timerAt 0) (disposed paper01 n) r
+    → size ≤ length m → Holds (set m timer_at 0) (disposed paper01 n) r
 unfolding flagging disposed flagged
 disposing {m} n {r} a e h long =
     let h' : Holds m (flagging (removed paper01 n).running (group_of n n.running).atomic false (removed paper01 n)) r =
     subst (λ (g : ℕ). Holds m (flagging g (group_of n n.running).atomic false (removed paper01 n)) r) (sym (removed-running paper01 n))
     (subst (λ (t : Bool). Holds m (flagging n.running t false (removed paper01 n)) r) e h) in
-    timer-held h' 0 (wrote-set m timerAt 0 (omega arith))
+    timer-held h' 0 (wrote-set m timer_at 0 (omega arith))

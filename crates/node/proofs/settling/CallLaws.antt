@@ -8,12 +8,12 @@ use mathlib.Core.Path.{◌∙◌, ◌≡◌, ap, refl, sym, subst}
 use lib.Dec.{eqb}
 use lib.ListN.{length}
 use borrow.Author.Tests.{eq-eqb, ne_eqb}
-use Rattle.rules.specs.Build.{groupCount, paper01}
+use Rattle.rules.specs.Build.{group_count, paper01}
 use Rattle.rules.specs.Lists.{is_empty}
-use Rattle.rules.specs.Memory.{atomicOffset, countOffset, flagWord, groupAddress, queued_at, word}
-use Rattle.rules.specs.Node.{line, Group, Message, Node, bufferHolds, group_of, inQueue, is_of}
-use Rattle.rules.specs.Paging.{runnerResident}
-use Rattle.rules.specs.Settling.{settle, upcall, calls, upcallGroup}
+use Rattle.rules.specs.Memory.{atomic_offset, count_offset, flag_word, group_address, queued_at, word}
+use Rattle.rules.specs.Node.{line, Group, Message, Node, buffer_holds, group_of, in_queue, is_of}
+use Rattle.rules.specs.Paging.{runner_resident}
+use Rattle.rules.specs.Settling.{settle, upcall, calls, upcall_group}
 use Rattle.rules.proofs.Steps.LineLaws.{stays, direct-line, line-buffered}
 use Rattle.rules.proofs.Steps.ListLaws.{filter-pass}
 use Rattle.rules.proofs.Steps.NodeLaws.{is-of}
@@ -30,7 +30,7 @@ use Rattle.node.specs.Steps.{Called, Settles}
 
 -- a settled queue that is not empty is the running group's
 pub line-queued : {n : Node} → Settles n → (group_of n n.running).buffer.count ≡ 0 → 1 ≤ length n.queue → is_empty (line n n.running) ≡ false
-unfolding inQueue bufferHolds
+unfolding in_queue buffer_holds
 line-queued {n} s none some = go n.queue refl
   where
     go : (q : List Message) → n.queue ≡ q → is_empty (line n n.running) ≡ false
@@ -41,7 +41,7 @@ line-queued {n} s none some = go n.queue refl
 
 -- and a group without either has none
 pub line-none : (n : Node) (g : ℕ) → (group_of n g).buffer.count ≡ 0 → length n.queue ≡ 0 → is_empty (line n g) ≡ true
-unfolding inQueue bufferHolds
+unfolding in_queue buffer_holds
 line-none n g none empty = go n.queue refl
   where
     go : (q : List Message) → n.queue ≡ q → is_empty (line n g) ≡ true
@@ -51,19 +51,19 @@ line-none n g none empty = go n.queue refl
 -- The upcall.
 
 -- a flag is read from its word
-pub flag-on : (f : Bool) → flagWord f ≢ 0 → f ≡ true
-unfolding flagWord
+pub flag-on : (f : Bool) → flag_word f ≢ 0 → f ≡ true
+unfolding flag_word
 flag-on true d = refl
 flag-on false d = absurd (d refl)
 
-pub flag_off : (f : Bool) → flagWord f ≡ 0 → f ≡ false
-unfolding flagWord
+pub flag_off : (f : Bool) → flag_word f ≡ 0 → f ≡ false
+unfolding flag_word
 flag_off true e = absurd (omega arith)
 flag_off false e = refl
 
 -- none is due, and nothing changes
 called-none : {m : List ℕ} {n : Node} {r : List ℕ} → Holds m n r → calls n ≡ false → Called m n r 0
-unfolding upcall upcallGroup
+unfolding upcall upcall_group
 called-none {m} {n} {r} h e = record { group = rw e; holds = rw e h }
 
 module _ {m : List ℕ} {n : Node} {r : List ℕ} (h : Holds m n r) (s : Settles n) where
@@ -79,7 +79,7 @@ module _ {m : List ℕ} {n : Node} {r : List ℕ} (h : Holds m n r) (s : Settles
     low : 1 ≤ word m 0
     low = omega arith
 
-    pub runner-high : word m 0 ≤ groupCount
+    pub runner-high : word m 0 ≤ group_count
     runner-high = rw runner s.sound.running-bound
 
     own : group_of n (word m 0) ≡ group_of n n.running
@@ -89,24 +89,24 @@ module _ {m : List ℕ} {n : Node} {r : List ℕ} (h : Holds m n r) (s : Settles
     awake = ne_eqb n.running 0 (λ e. some (runner ∙ e))
 
     -- the runner is atomic
-    pub called-atomic : word m (groupAddress (word m 0) + atomicOffset) ≢ 0 → Called m n r 0
+    pub called-atomic : word m (group_address (word m 0) + atomic_offset) ≢ 0 → Called m n r 0
     unfolding calls
     called-atomic on =
         let words = group-words (holds-pieces h) h.mapped (word m 0) low runner-high in
         let atomic : (group_of n n.running).atomic ≡ true = ap (λ (G : Group). G.atomic) (sym own) ∙ flag-on _ (λ e. on (words.atomic ∙ e)) in
         called-none h (rw (awake, atomic))
 
-    module _ (off : word m (groupAddress (word m 0) + atomicOffset) ≡ 0) where
+    module _ (off : word m (group_address (word m 0) + atomic_offset) ≡ 0) where
       quiet : (group_of n n.running).atomic ≡ false
       quiet =
           let words = group-words (holds-pieces h) h.mapped (word m 0) low runner-high in
           ap (λ (G : Group). G.atomic) (sym own) ∙ flag_off _ (sym words.atomic ∙ off)
 
-      count-read : word m (groupAddress (word m 0) + countOffset) ≡ (group_of n n.running).buffer.count
+      count-read : word m (group_address (word m 0) + count_offset) ≡ (group_of n n.running).buffer.count
       count-read = (group-words (holds-pieces h) h.mapped (word m 0) low runner-high).count ∙ ap (λ (G : Group). G.buffer.count) own
 
       -- it has no line
-      pub called-empty : word m (groupAddress (word m 0) + countOffset) ≡ 0 → word m queued_at ≡ 0 → Called m n r 0
+      pub called-empty : word m (group_address (word m 0) + count_offset) ≡ 0 → word m queued_at ≡ 0 → Called m n r 0
       unfolding calls
       called-empty none empty =
           called-none h (rw (awake, quiet, line-none n n.running (sym count-read ∙ none) (sym (holds-pieces h).queued ∙ empty)))
@@ -117,22 +117,22 @@ module _ {m : List ℕ} {n : Node} {r : List ℕ} (h : Holds m n r) (s : Settles
       due some' = rw (awake, quiet, some')
 
       called : is_empty (line n n.running) ≡ false → {m' : List ℕ} → Holds m' (flagging (word m 0) true true n) r → Called m' n r (word m 0)
-      unfolding upcall upcallGroup flagging
+      unfolding upcall upcall_group flagging
       called some' {m'} k =
           let yes' = due some' in
           let k' : Holds m' (flagging n.running true true n) r = subst (λ (g : ℕ). Holds m' (flagging g true true n) r) runner k in
           record { group = rw yes' runner; holds = rw yes' k' }
 
-      pub called-buffered : word m (groupAddress (word m 0) + countOffset) ≢ 0 → {m' : List ℕ} → Holds m' (flagging (word m 0) true true n) r → Called m' n r (word m 0)
+      pub called-buffered : word m (group_address (word m 0) + count_offset) ≢ 0 → {m' : List ℕ} → Holds m' (flagging (word m 0) true true n) r → Called m' n r (word m 0)
       called-buffered more =
           called (line-buffered s.sound n.running (rw (← runner) low) s.sound.running-bound (let c = count-read in omega arith))
 
-      pub called-queued : word m (groupAddress (word m 0) + countOffset) ≡ 0 → word m queued_at ≢ 0 → {m' : List ℕ} → Holds m' (flagging (word m 0) true true n) r → Called m' n r (word m 0)
+      pub called-queued : word m (group_address (word m 0) + count_offset) ≡ 0 → word m queued_at ≢ 0 → {m' : List ℕ} → Holds m' (flagging (word m 0) true true n) r → Called m' n r (word m 0)
       called-queued none more =
           called (line-queued s (sym count-read ∙ none) (let c = (holds-pieces h).queued in omega arith))
 
 -- Settling leaves a node for which an upcall can be told, wherever its pages are.
-pub settled-settles : {n : Node} → Sound paper01 n → Settles (runnerResident paper01 (settle paper01 n).node)
+pub settled-settles : {n : Node} → Sound paper01 n → Settles (runner_resident paper01 (settle paper01 n).node)
 settled-settles {n} s =
     let k = (settle paper01 n).node in
     let same = runner-repaged paper01 k in

@@ -7,17 +7,17 @@ use mathlib.Core.Path.{◌∙◌, ◌≡◌, sym}
 use borrow.Author.Tests.{eq-eqb, ne_eqb}
 use Rattle.rules.specs.Memory.{running_at, word}
 use Rattle.rules.specs.Node.{Message, Node, buffered}
-use Rattle.rules.specs.Settling.{mayStay}
+use Rattle.rules.specs.Settling.{may_stay}
 use Rattle.memory.specs.Holds.{Holds}
 use Rattle.memory.proofs.PieceLaws.{holds-pieces}
 
 module _ {m : List ℕ} {n : Node} {r : List ℕ} (h : Holds m n r) (x : Message) where
   -- another group's may not
-  pub stays-other : word m running_at ≢ x.group → mayStay n x ≡ false
-  unfolding mayStay
+  pub stays-other : word m running_at ≢ x.group → may_stay n x ≡ false
+  unfolding may_stay
   stays-other other = rw (ne_eqb x.group n.running (λ e. other ((holds-pieces h).running ∙ sym e)))
 
   -- the running group's may where it is direct
-  pub stays-own : word m running_at ≡ x.group → mayStay n x ≡ not (buffered n x.group)
-  unfolding mayStay
+  pub stays-own : word m running_at ≡ x.group → may_stay n x ≡ not (buffered n x.group)
+  unfolding may_stay
   stays-own own = rw (eq-eqb x.group n.running (sym own ∙ (holds-pieces h).running))

@@ -8,9 +8,9 @@ use mathlib.Core.Path.{◌∙◌, ◌≡◌, ap, refl, sym}
 use lib.Dec.{eqb}
 use borrow.Author.Tests.{eq-eqb, ne_eqb}
 use Rattle.rules.specs.Build.{paper01}
-use Rattle.rules.specs.Memory.{flagWord, forceOffset, groupAddress, queued_at, running_at, word}
-use Rattle.rules.specs.Node.{Node, forced, group_of, timerRuns, withTimer}
-use Rattle.rules.specs.Settling.{restTimer}
+use Rattle.rules.specs.Memory.{flag_word, force_offset, group_address, queued_at, running_at, word}
+use Rattle.rules.specs.Node.{Node, forced, group_of, timer_runs, with_timer}
+use Rattle.rules.specs.Settling.{rest_timer}
 use Rattle.rules.specs.Sound.{Sound}
 use Rattle.rules.proofs.Steps.ListLaws.{length_some}
 use Rattle.rules.proofs.Steps.NodeLaws.{group-good}
@@ -27,18 +27,18 @@ with-other false a only = refl
 with-other true a only = only refl
 
 -- a flag is read from its word
-flag-read : (f : Bool) (x : ℕ) → x ≡ flagWord f → f ≡ not (eqb x 0)
-unfolding flagWord
+flag-read : (f : Bool) (x : ℕ) → x ≡ flag_word f → f ≡ not (eqb x 0)
+unfolding flag_word
 flag-read true x e = sym (ap (λ (y : ℕ). not (eqb y 0)) e)
 flag-read false x e = sym (ap (λ (y : ℕ). not (eqb y 0)) e)
 
 -- a timer that does not run is put to rest, and one that runs is left
-pub rest-stopped : (n : Node) → timerRuns n ≡ false → restTimer n ≡ withTimer 0 n
-unfolding restTimer
+pub rest-stopped : (n : Node) → timer_runs n ≡ false → rest_timer n ≡ with_timer 0 n
+unfolding rest_timer
 rest-stopped n rests = rw rests
 
-pub rest-running : (n : Node) → timerRuns n ≡ true → restTimer n ≡ n
-unfolding restTimer
+pub rest-running : (n : Node) → timer_runs n ≡ true → rest_timer n ≡ n
+unfolding rest_timer
 rest-running n runs = rw runs
 
 module _ {m : List ℕ} {n : Node} {r : List ℕ} (h : Holds m n r) where
@@ -49,12 +49,12 @@ module _ {m : List ℕ} {n : Node} {r : List ℕ} (h : Holds m n r) where
 
   -- else the running group's force tells
   module _ (s : Sound paper01 n) (some : word m running_at ≢ 0) where
-    pub force-in : InGroup m (word m running_at) forceOffset
+    pub force-in : InGroup m (word m running_at) force_offset
     force-in =
         let e = (holds-pieces h).running in
         record { long = (holds-pieces h).long; low = omega arith; high = omega (arith, s.running-bound); inside = omega arith }
 
-    pub forced-read : (x : ℕ) → x ≡ word m (groupAddress (word m running_at) + forceOffset) → forced n ≡ not (eqb x 0)
+    pub forced-read : (x : ℕ) → x ≡ word m (group_address (word m running_at) + force_offset) → forced n ≡ not (eqb x 0)
     unfolding forced
     forced-read x e =
         let g = word m running_at in
@@ -62,14 +62,14 @@ module _ {m : List ℕ} {n : Node} {r : List ℕ} (h : Holds m n r) where
         let G = group_of n n.running in
         let good = group-good s n.running (omega arith) s.running-bound in
         let stands = (group-words (holds-pieces h) h.mapped g force-in.low force-in.high).force in
-        let read : x ≡ flagWord G.force = e ∙ stands ∙ ap (λ (i : ℕ). flagWord (group_of n i).force) same in
+        let read : x ≡ flag_word G.force = e ∙ stands ∙ ap (λ (i : ℕ). flag_word (group_of n i).force) same in
         ap (λ (t : Bool). not t && (G.force && G.atomic)) (ne_eqb n.running 0 (λ z. some (same ∙ z)))
         ∙ with-other G.force G.atomic good.force-atomic
         ∙ flag-read G.force x read
 
   -- with a message queued the timer runs, and else where it is forced
-  pub runs-read : word m queued_at ≢ 0 → timerRuns n ≡ true
+  pub runs-read : word m queued_at ≢ 0 → timer_runs n ≡ true
   runs-read some = let c = (holds-pieces h).queued in runs-queued n (length_some n.queue (omega arith))
 
-  pub runs-idle : word m queued_at ≡ 0 → timerRuns n ≡ forced n
+  pub runs-idle : word m queued_at ≡ 0 → timer_runs n ≡ forced n
   runs-idle none = runs-empty n (none-queued n.queue (sym (holds-pieces h).queued ∙ none))

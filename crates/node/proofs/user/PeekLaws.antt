@@ -4,52 +4,52 @@ use Prim.Native.Nat.{ℕ, ◌+◌, ◌≤◌, ◌<◌}
 use mathlib.Core.List.{List}
 use mathlib.Core.Path.{◌≡◌, ◌∙◌, ap, refl, subst, sym}
 use lib.ListN.{length}
-use Rattle.rules.specs.Build.{wordLimit}
+use Rattle.rules.specs.Build.{word_limit}
 use Rattle.rules.specs.Memory.{word}
-use Rattle.rules.specs.MemoryTest.{runnerPart}
+use Rattle.rules.specs.MemoryTest.{runner_part}
 use Rattle.rules.specs.Node.{Node, line}
-use Rattle.rules.specs.Operation.{acceptedWith, noMessage, pastMessage, peek, poll, refused, user}
-use Rattle.rules.specs.Refusal.{refuseRequest}
+use Rattle.rules.specs.Operation.{accepted_with, no_message, past_message, peek, poll, refused, user}
+use Rattle.rules.specs.Refusal.{refuse_request}
 use Rattle.rules.specs.Step.{serve, valued}
-use Rattle.rules.specs.Types.{reportOf}
+use Rattle.rules.specs.Types.{report_of}
 use Rattle.rules.specs.declared.Report.{Report as Report·rt}
 use Rattle.rules.proofs.Map.ShownLaws.{Shows, shown-length, shown-none, shown-past, shown-below, shown-word}
 use Rattle.memory.specs.Holds.{Holds}
-use Rattle.node.specs.Parts.{part_of, shownBy}
+use Rattle.node.specs.Parts.{part_of, shown_by}
 use Rattle.node.specs.Steps.{Running, Stepping}
 use Rattle.node.specs.declared.message.Part.{Part as Part·rt}
 use Rattle.node.proofs.message.HeadLaws.{part-shows}
 use Rattle.rules.proofs.Steps.QuietLaws.{valid-quiet}
-use Rattle.node.proofs.ServedLaws.{ownReport, request-quiet, request-refused}
+use Rattle.node.proofs.ServedLaws.{own_report, request-quiet, request-refused}
 
-module _ {m : List ℕ} {n : Node} {r : List ℕ} {p : Part·rt} (h : Holds m n r) (runs : Running n) (e : p ≡ part_of (runnerPart m n)) where
+module _ {m : List ℕ} {n : Node} {r : List ℕ} {p : Part·rt} (h : Holds m n r) (runs : Running n) (e : p ≡ part_of (runner_part m n)) where
   -- the part shows the first message of the running group's line
-  shown : Shows m (shownBy p) (line n n.running)
-  shown = subst (λ (q : Part·rt). Shows m (shownBy q) (line n n.running)) (sym e) (part-shows h runs.valid runs.some)
+  shown : Shows m (shown_by p) (line n n.running)
+  shown = subst (λ (q : Part·rt). Shows m (shown_by q) (line n n.running)) (sym e) (part-shows h runs.valid runs.some)
 
   -- it lies within the memory
-  pub first-inside : (p.start + p.len ≤ length m) × (p.len ≤ wordLimit)
+  pub first-inside : (p.start + p.len ≤ length m) × (p.len ≤ word_limit)
   first-inside = (shown.inside, shown.few)
 
   -- M
-  pub poll-serves : {rep : Report·rt} → rep ≡ reportOf (acceptedWith p.len 0 0 0) → Stepping m n r (user poll) rep
-  unfolding refuseRequest serve valued ownReport
+  pub poll-serves : {rep : Report·rt} → rep ≡ report_of (accepted_with p.len 0 0 0) → Stepping m n r (user poll) rep
+  unfolding refuse_request serve valued own_report
   poll-serves report =
-      request-quiet runs poll refl (valid-quiet runs.valid) (report ∙ ap (λ (x : ℕ). reportOf (acceptedWith x 0 0 0)) (sym (shown-length shown))) h
+      request-quiet runs poll refl (valid-quiet runs.valid) (report ∙ ap (λ (x : ℕ). report_of (accepted_with x 0 0 0)) (sym (shown-length shown))) h
 
   -- E with an empty line
-  pub peek-none : {rep : Report·rt} (i : ℕ) → p.len ≡ 0 → rep ≡ reportOf (refused noMessage) → Stepping m n r (user (peek i)) rep
-  unfolding refuseRequest
+  pub peek-none : {rep : Report·rt} (i : ℕ) → p.len ≡ 0 → rep ≡ report_of (refused no_message) → Stepping m n r (user (peek i)) rep
+  unfolding refuse_request
   peek-none i none = request-refused runs (peek i) h 7 (shown-none shown i none)
 
   -- E past the first message
-  pub peek-past : {rep : Report·rt} (i : ℕ) → 1 ≤ p.len → p.len ≤ i → rep ≡ reportOf (refused pastMessage) → Stepping m n r (user (peek i)) rep
-  unfolding refuseRequest
+  pub peek-past : {rep : Report·rt} (i : ℕ) → 1 ≤ p.len → p.len ≤ i → rep ≡ report_of (refused past_message) → Stepping m n r (user (peek i)) rep
+  unfolding refuse_request
   peek-past i some past = request-refused runs (peek i) h 8 (shown-past shown i some past)
 
   -- E within it
-  pub peek-there : {rep : Report·rt} (i : ℕ) → i < p.len → rep ≡ reportOf (acceptedWith (word m (p.start + i)) 0 0 0) → Stepping m n r (user (peek i)) rep
-  unfolding refuseRequest serve valued ownReport
+  pub peek-there : {rep : Report·rt} (i : ℕ) → i < p.len → rep ≡ report_of (accepted_with (word m (p.start + i)) 0 0 0) → Stepping m n r (user (peek i)) rep
+  unfolding refuse_request serve valued own_report
   peek-there i below report =
       request-quiet runs (peek i) (shown-below shown i below) (valid-quiet runs.valid)
-      (report ∙ ap (λ (x : ℕ). reportOf (acceptedWith x 0 0 0)) (sym (shown-word shown i below))) h
+      (report ∙ ap (λ (x : ℕ). report_of (accepted_with x 0 0 0)) (sym (shown-word shown i below))) h

@@ -1,12 +1,12 @@
 -- The cases of the rules before order 5 hold, by computation. Assumes nothing.
 use mathlib.Core.Path.{refl}
-use Rattle.rules.specs.Run.{answer_of, answerTo, answersOf}
-use Rattle.rules.specs.Before.{scheduled, stepBefore, playBefore, runBefore}
+use Rattle.rules.specs.Run.{answer_of, answer_to, answers_of}
+use Rattle.rules.specs.Before.{scheduled, step_before, play_before, run_before}
 use Rattle.rules.specs.Cases.BeforeCases.{ScheduledBefore, FullBefore, FullNow}
 use Rattle.rules.proofs.Cases.Computes.{computes}
 
 pub scheduled-before : ScheduledBefore
-unfolding computes scheduled stepBefore playBefore runBefore
+unfolding computes scheduled step_before play_before run_before
 scheduled-before =
     record {
       k4-before = refl;
@@ -16,7 +16,7 @@ scheduled-before =
     }
 
 pub full-before : FullBefore
-unfolding computes scheduled stepBefore playBefore runBefore answer_of answerTo answersOf
+unfolding computes scheduled step_before play_before run_before answer_of answer_to answers_of
 full-before =
     record {
       queue-before = refl;
@@ -25,7 +25,7 @@ full-before =
     }
 
 pub full-now : FullNow
-unfolding computes answer_of answerTo answersOf
+unfolding computes answer_of answer_to answers_of
 full-now =
     record {
       queue-now = refl;

@@ -1,34 +1,34 @@
 -- Computing with the rules: to unfold `computes` is to unfold every definition that a step, a listing, the memory map and the clauses of "a node" are
 -- made of. The memory test, its clauses on words, a step on memory, the head's part and the counts of pages stay shut: MemoryParts and TestComputes
 -- have the laws of them. Assumes nothing.
-use Rattle.rules.specs.Text.{extendFirst, split, isDigit, valueFrom, decimalBefore, decimal, row}
-use Rattle.rules.specs.Script.{is_number, number, andNumber, numbers, groupAndWords, oneField, no_field, yesOrNo, forceField, letters, lettered, onlyByte, operationOf, readFields, readLine, ended, scriptLines, reportLine, list_from, header, listing}
-use Rattle.rules.specs.Node.{emptyPage, emptyPaging, powerOn, group_of, withRunning, withTimer, withQueue, withFree, withPaging, withGroups, withGroup, withEntered, with_flags, withTimerFlags, withBuffer, withDescriptor, bufferHolds, buffered, forced, timerRuns, place_of, messageOf, waiting, unused, inBuffer, is_of, inQueue, line}
-use Rattle.rules.specs.Frames.{ceilDiv, extended, takeFrame, withRoom, appended, withStock, put, firstFrame, without, freeFirst, useUp, removeFirst, pledge, pledges}
-use Rattle.rules.specs.Paging.{inFrame, traded, tradedIn, trading, more, standsFirst, spared, victim, sendOut, freed, exchange, bringIn, resident, nextPage, prepared, store, firstResident, runnerResident}
-use Rattle.rules.specs.Refusal.{queued, refuseArrive, refuseSchedule, refuseDispatch, refuseTick, refusePeek, refuseDispose, refuseEnd, refuseDescribe, refuseLaunch, refuseRequest, refusal}
-use Rattle.rules.specs.Settling.{oneMore, mayStay, pass, restTimer, settle, drain, calls, upcall, upcallGroup}
-use Rattle.rules.specs.Turn.{hasMail, turnOrder, whoseTurn}
-use Rattle.rules.specs.Step.{valued, preempted, timerFlagged, revoke, timedOut, counted, oneTick, ticks, firstLength, first_word, withoutFirst, removed, flagged, disposed, sectionBegun, sectionEnded, extending, described, launched, serve, act, finish, inARow, switched, performed, step}
-use Rattle.rules.specs.Valid.{frameList, idle, frameNumbers, frameOrder, isMessage, isPlace, isWaiting, isWiped, isBuffer, onlyAtomic, is_group, pendingHasLine, runnerAtomic, headStays, isSwap, firstInFrame, runnerInFrame, standsOnce, nodeTests, isNode}
-use Rattle.rules.specs.Memory.{frameAddress, groupAddress, flagWord, messageWords, queueWords, lineWords, listWords, groupWords, placeWords, pagesFrom, pagesOf, places_of, allPages, frameWords, pagingWords, words, word, wordsAt, messageAt, messagesAt, placeAt, places_at, framePlaces, flagAt, listAt, bufferAt, groupAt, groupsFrom, pagingFrom, nodeAt}
-use Rattle.rules.specs.MemoryTest.{lengthInBounds, memoryTests, replaced, powerOnMemory, firstPlace, bufferPart, queuePart, runnerPart}
-use Rattle.rules.specs.Run.{asked, play, run, playMemory, runMemory}
+use Rattle.rules.specs.Text.{extend_first, split, is_digit, value_from, decimal_before, decimal, row}
+use Rattle.rules.specs.Script.{is_number, number, and_number, numbers, group_and_words, one_field, no_field, yes_or_no, force_field, letters, lettered, only_byte, operation_of, read_fields, read_line, ended, script_lines, report_line, list_from, header, listing}
+use Rattle.rules.specs.Node.{empty_page, empty_paging, power_on, group_of, with_running, with_timer, with_queue, with_free, with_paging, with_groups, with_group, with_entered, with_flags, with_timer_flags, with_buffer, with_descriptor, buffer_holds, buffered, forced, timer_runs, place_of, message_of, waiting, unused, in_buffer, is_of, in_queue, line}
+use Rattle.rules.specs.Frames.{ceil_div, extended, take_frame, with_room, appended, with_stock, put, first_frame, without, free_first, use_up, remove_first, pledge, pledges}
+use Rattle.rules.specs.Paging.{in_frame, traded, traded_in, trading, more, stands_first, spared, victim, send_out, freed, exchange, bring_in, resident, next_page, prepared, store, first_resident, runner_resident}
+use Rattle.rules.specs.Refusal.{queued, refuse_arrive, refuse_schedule, refuse_dispatch, refuse_tick, refuse_peek, refuse_dispose, refuse_end, refuse_describe, refuse_launch, refuse_request, refusal}
+use Rattle.rules.specs.Settling.{one_more, may_stay, pass, rest_timer, settle, drain, calls, upcall, upcall_group}
+use Rattle.rules.specs.Turn.{has_mail, turn_order, whose_turn}
+use Rattle.rules.specs.Step.{valued, preempted, timer_flagged, revoke, timed_out, counted, one_tick, ticks, first_length, first_word, without_first, removed, flagged, disposed, section_begun, section_ended, extending, described, launched, serve, act, finish, in_arow, switched, performed, step}
+use Rattle.rules.specs.Valid.{frame_list, idle, frame_numbers, frame_order, is_message, is_place, is_waiting, is_wiped, is_buffer, only_atomic, is_group, pending_has_line, runner_atomic, head_stays, is_swap, first_in_frame, runner_in_frame, stands_once, node_tests, is_node}
+use Rattle.rules.specs.Memory.{frame_address, group_address, flag_word, message_words, queue_words, line_words, list_words, group_words, place_words, pages_from, pages_of, places_of, all_pages, frame_words, paging_words, words, word, words_at, message_at, messages_at, place_at, places_at, frame_places, flag_at, list_at, buffer_at, group_at, groups_from, paging_from, node_at}
+use Rattle.rules.specs.MemoryTest.{length_in_bounds, memory_tests, replaced, power_on_memory, first_place, buffer_part, queue_part, runner_part}
+use Rattle.rules.specs.Run.{asked, play, run, play_memory, run_memory}
 
 -- all of them
 unfoldable pub computes : Unit {0}
 unfolding
-    extendFirst split isDigit valueFrom decimalBefore decimal row
-    is_number number andNumber numbers groupAndWords oneField no_field yesOrNo forceField letters lettered onlyByte operationOf readFields readLine ended scriptLines reportLine list_from header listing
-    emptyPage emptyPaging powerOn group_of withRunning withTimer withQueue withFree withPaging withGroups withGroup withEntered with_flags withTimerFlags withBuffer withDescriptor bufferHolds buffered forced timerRuns place_of messageOf waiting unused inBuffer is_of inQueue line
-    ceilDiv extended takeFrame withRoom appended withStock put firstFrame without freeFirst useUp removeFirst pledge pledges
-    inFrame traded tradedIn trading more standsFirst spared victim sendOut freed exchange bringIn resident nextPage prepared store firstResident runnerResident
-    queued refuseArrive refuseSchedule refuseDispatch refuseTick refusePeek refuseDispose refuseEnd refuseDescribe refuseLaunch refuseRequest refusal
-    oneMore mayStay pass restTimer settle drain calls upcall upcallGroup
-    hasMail turnOrder whoseTurn
-    valued preempted timerFlagged revoke timedOut counted oneTick ticks firstLength first_word withoutFirst removed flagged disposed sectionBegun sectionEnded extending described launched serve act finish inARow switched performed step
-    frameList idle frameNumbers frameOrder isMessage isPlace isWaiting isWiped isBuffer onlyAtomic is_group pendingHasLine runnerAtomic headStays isSwap firstInFrame runnerInFrame standsOnce nodeTests isNode
-    frameAddress groupAddress flagWord messageWords queueWords lineWords listWords groupWords placeWords pagesFrom pagesOf places_of allPages frameWords pagingWords words word wordsAt messageAt messagesAt placeAt places_at framePlaces flagAt listAt bufferAt groupAt groupsFrom pagingFrom nodeAt
-    lengthInBounds memoryTests replaced powerOnMemory firstPlace bufferPart queuePart runnerPart
-    asked play run playMemory runMemory
+    extend_first split is_digit value_from decimal_before decimal row
+    is_number number and_number numbers group_and_words one_field no_field yes_or_no force_field letters lettered only_byte operation_of read_fields read_line ended script_lines report_line list_from header listing
+    empty_page empty_paging power_on group_of with_running with_timer with_queue with_free with_paging with_groups with_group with_entered with_flags with_timer_flags with_buffer with_descriptor buffer_holds buffered forced timer_runs place_of message_of waiting unused in_buffer is_of in_queue line
+    ceil_div extended take_frame with_room appended with_stock put first_frame without free_first use_up remove_first pledge pledges
+    in_frame traded traded_in trading more stands_first spared victim send_out freed exchange bring_in resident next_page prepared store first_resident runner_resident
+    queued refuse_arrive refuse_schedule refuse_dispatch refuse_tick refuse_peek refuse_dispose refuse_end refuse_describe refuse_launch refuse_request refusal
+    one_more may_stay pass rest_timer settle drain calls upcall upcall_group
+    has_mail turn_order whose_turn
+    valued preempted timer_flagged revoke timed_out counted one_tick ticks first_length first_word without_first removed flagged disposed section_begun section_ended extending described launched serve act finish in_arow switched performed step
+    frame_list idle frame_numbers frame_order is_message is_place is_waiting is_wiped is_buffer only_atomic is_group pending_has_line runner_atomic head_stays is_swap first_in_frame runner_in_frame stands_once node_tests is_node
+    frame_address group_address flag_word message_words queue_words line_words list_words group_words place_words pages_from pages_of places_of all_pages frame_words paging_words words word words_at message_at messages_at place_at places_at frame_places flag_at list_at buffer_at group_at groups_from paging_from node_at
+    length_in_bounds memory_tests replaced power_on_memory first_place buffer_part queue_part runner_part
+    asked play run play_memory run_memory
 computes = tt

@@ -4,12 +4,12 @@ use mathlib.Core.Bool.{true}
 use mathlib.Core.List.{[], ◌∷◌, ◌++◌}
 use lib.ListN.{take}
 use Rattle.rules.specs.Operation.{schedule, user, dispose}
-use Rattle.rules.specs.MemoryTest.{isMemory}
-use Rattle.rules.specs.Cases.MemoryCases.{cut, fresh, forced, busy, sevenUsed, swapped, firstSwapped, nobodys}
+use Rattle.rules.specs.MemoryTest.{is_memory}
+use Rattle.rules.specs.Cases.MemoryCases.{cut, fresh, forced, busy, seven_used, swapped, first_swapped, nobodys}
 use Rattle.rules.specs.Cases.MemoryCases.{MapCases, StepOnMemoryCases, NodeCases, NoNodeCases, HeadCases, CountCases}
 use Rattle.rules.proofs.Cases.Computes.{computes}
 use Rattle.rules.proofs.Cases.MemoryParts.{counts-in, flags-in, unused-in, idle-in}
-use Rattle.rules.proofs.Cases.TestComputes.{words-fail, node-fails, page-fails, is-node, same-words, step-report, step-writes, step-refused, head_of, head-reads, head-none, counts_of, counts-none}
+use Rattle.rules.proofs.Cases.TestComputes.{words-fail, node-fails, page-fails, is-node, same-words, step-report, step-writes, step-refused, head_of, head-reads, head-none, counts-of, counts-none}
 
 pub map_cases : MapCases
 unfolding computes
@@ -25,37 +25,37 @@ map_cases =
     }
 
 -- memories that the cases below speak of more than once
-fresh-node : isMemory fresh ≡ true
+fresh-node : is_memory fresh ≡ true
 unfolding computes
 fresh-node = is-node _ refl
 
 -- the busy node, with a word past its size
-busy-node : isMemory (busy ++ (7 ∷ [])) ≡ true
+busy-node : is_memory (busy ++ (7 ∷ [])) ≡ true
 unfolding computes
 busy-node = is-node _ refl
 
 -- the one with seven places used up
-seven-used : isMemory sevenUsed ≡ true
+seven-used : is_memory seven_used ≡ true
 unfolding computes
 seven-used = is-node _ refl
 
 -- the one with a page in swap
-swapped-node : isMemory swapped ≡ true
+swapped-node : is_memory swapped ≡ true
 unfolding computes
 swapped-node = is-node _ refl
 
 -- the one with a first page in swap
-first-swapped : isMemory firstSwapped ≡ true
+first-swapped : is_memory first_swapped ≡ true
 unfolding computes
 first-swapped = is-node _ refl
 
 -- the one in which they are group 1's pages
-nobodys-node : isMemory nobodys ≡ true
+nobodys-node : is_memory nobodys ≡ true
 unfolding computes
 nobodys-node = is-node _ refl
 
 -- the one whose timer force keeps
-forced-timer : isMemory forced ≡ true
+forced-timer : is_memory forced ≡ true
 unfolding computes
 forced-timer = is-node _ refl
 
@@ -227,7 +227,7 @@ pub count-cases : CountCases
 unfolding computes
 count-cases =
     record {
-      counts-fresh = counts_of _ fresh-node;
-      counts-told = counts_of _ swapped-node;
+      counts-fresh = counts-of _ fresh-node;
+      counts-told = counts-of _ swapped-node;
       counts-no-node = counts-none _ (node-fails _ 14 refl);
     }

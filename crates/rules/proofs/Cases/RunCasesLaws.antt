@@ -1,20 +1,20 @@
 -- The cases of a run hold, by computation. Assumes nothing.
 use mathlib.Core.Path.{refl}
-use Rattle.rules.specs.Private.{atFirst, told, says, refuses, unchanged, ownPoll, ownPeek, ownDispose, withAtomic, withOwnDescriptor, ownEnd, ownDescribe, ownLaunch, own, isCalled, called, afterwards, answered, unheard, joined, withHas, hear}
-use Rattle.rules.specs.Run.{wasAccepted, arrivedBy, arrived, arrivals, answer_of, answerTo, answersOf, upcallsOf, disposedBy, disposals, leftBy, left, tickedBy, ticked, listenFrom, listen}
+use Rattle.rules.specs.Private.{at_first, told, says, refuses, unchanged, own_poll, own_peek, own_dispose, with_atomic, with_own_descriptor, own_end, own_describe, own_launch, own, is_called, called, afterwards, answered, unheard, joined, with_has, hear}
+use Rattle.rules.specs.Run.{was_accepted, arrived_by, arrived, arrivals, answer_of, answer_to, answers_of, upcalls_of, disposed_by, disposals, left_by, left, ticked_by, ticked, listen_from, listen}
 use Rattle.rules.specs.Cases.RunCases.{RunCases, SwitchedRunCases, TurningRunCases, ToldCases}
 use Rattle.rules.proofs.Cases.Computes.{computes}
 
 -- a run is computed, with all that is counted of it and what a private line hears
-unfoldable countsRun : Unit {0}
+unfoldable counts_run : Unit {0}
 unfolding
     computes
-    atFirst told says refuses unchanged ownPoll ownPeek ownDispose withAtomic withOwnDescriptor ownEnd ownDescribe ownLaunch own isCalled called afterwards answered unheard joined withHas hear
-    wasAccepted arrivedBy arrived arrivals answer_of answerTo answersOf upcallsOf disposedBy disposals leftBy left tickedBy ticked listenFrom listen
-countsRun = tt
+    at_first told says refuses unchanged own_poll own_peek own_dispose with_atomic with_own_descriptor own_end own_describe own_launch own is_called called afterwards answered unheard joined with_has hear
+    was_accepted arrived_by arrived arrivals answer_of answer_to answers_of upcalls_of disposed_by disposals left_by left ticked_by ticked listen_from listen
+counts_run = tt
 
 pub run-cases : RunCases
-unfolding countsRun
+unfolding counts_run
 run-cases =
     record {
       arrivals-seen = refl;
@@ -30,7 +30,7 @@ run-cases =
     }
 
 pub switched-run-cases : SwitchedRunCases
-unfolding countsRun
+unfolding counts_run
 switched-run-cases =
     record {
       switching-arrivals = refl;
@@ -45,7 +45,7 @@ switched-run-cases =
     }
 
 pub turning-run-cases : TurningRunCases
-unfolding countsRun
+unfolding counts_run
 turning-run-cases =
     record {
       turning-arrivals = refl;

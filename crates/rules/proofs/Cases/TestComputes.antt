@@ -9,14 +9,14 @@ use lib.Dec.{eqb, leb}
 use lib.ListN.{length, take, drop, get_or}
 use native.Mathlib.Omega.{arith}
 use Rattle.rules.specs.Lists.{passes, all, is_empty, count_of, up_from}
-use Rattle.rules.specs.Build.{paper01, pageCount}
-use Rattle.rules.specs.Operation.{Operation, notNode, refused}
+use Rattle.rules.specs.Build.{paper01, page_count}
+use Rattle.rules.specs.Operation.{Operation, not_node, refused}
 use Rattle.rules.specs.Step.{step}
 use Rattle.rules.specs.Node.{Node}
-use Rattle.rules.specs.Valid.{frameNumbers, frameOrder, standsOnce, nodeTests, isNode}
-use Rattle.rules.specs.Memory.{out_at, broughtAt, size, word}
-use Rattle.rules.specs.MemoryTest.{memoryTests, isMemory, replaced, stepMemory, emptyPart, runnerPart, headPart, headWords, pageCounts}
-use Rattle.rules.proofs.Cases.MemoryParts.{Parts, parts_of, nodeIn, node_in, countsIn, counts-in, flagsIn, flags-in, unusedIn, unused-in, all_same, idleIn, idle-in}
+use Rattle.rules.specs.Valid.{frame_numbers, frame_order, stands_once, node_tests, is_node}
+use Rattle.rules.specs.Memory.{out_at, brought_at, size, word}
+use Rattle.rules.specs.MemoryTest.{memory_tests, is_memory, replaced, step_memory, empty_part, runner_part, head_part, head_words, page_counts}
+use Rattle.rules.proofs.Cases.MemoryParts.{Parts, parts_of, node_in, node-in, counts_in, counts-in, flags_in, flags-in, unused_in, unused-in, all_same, idle_in, idle-in}
 
 -- word by word
 abbrev pub same : List ℕ → List ℕ → Bool
@@ -163,109 +163,109 @@ draws-count (x ∷ xs) ys k e = go (has x ys) refl (draws-count xs (drawn x ys) 
 -- where those below k are drawn, each stands in the list as it does among those below k: once
 pub once : (k : ℕ) (ys : List ℕ)
     → draws (up_from 0 k) ys ≡ true
-    → all (standsOnce ys) (up_from 0 k) ≡ all (standsOnce (up_from 0 k)) (up_from 0 k)
-unfolding standsOnce
+    → all (stands_once ys) (up_from 0 k) ≡ all (stands_once (up_from 0 k)) (up_from 0 k)
+unfolding stands_once
 once k ys e =
-    let same : (i : ℕ) → standsOnce ys i ≡ standsOnce (up_from 0 k) i = λ i. ap (λ (n : ℕ). eqb n 1) (draws-count (up_from 0 k) ys i e) in
-    all_same (standsOnce ys) (standsOnce (up_from 0 k)) same (up_from 0 k)
+    let same : (i : ℕ) → stands_once ys i ≡ stands_once (up_from 0 k) i = λ i. ap (λ (n : ℕ). eqb n 1) (draws-count (up_from 0 k) ys i e) in
+    all_same (stands_once ys) (stands_once (up_from 0 k)) same (up_from 0 k)
 
 -- The memory test.
 
 -- memory is no node where the i-th clause on its words fails
-pub words-fail : (m : List ℕ) (i : ℕ) → get_or memoryTests i always m ≡ false → isMemory m ≡ false
-unfolding isMemory
-words-fail m i e = fails memoryTests m i e
+pub words-fail : (m : List ℕ) (i : ℕ) → get_or memory_tests i always m ≡ false → is_memory m ≡ false
+unfolding is_memory
+words-fail m i e = fails memory_tests m i e
 
 -- and where the i-th on the node that they hold does
-pub node-fails : (m : List ℕ) (i : ℕ) → get_or (nodeTests paper01) i always (nodeIn (parts_of m)) ≡ false → isMemory m ≡ false
-unfolding memoryTests isNode
-node-fails m i e = words-fail m 5 (rw (node_in m) (fails (nodeTests paper01) (nodeIn (parts_of m)) i e))
+pub node-fails : (m : List ℕ) (i : ℕ) → get_or (node_tests paper01) i always (node_in (parts_of m)) ≡ false → is_memory m ≡ false
+unfolding memory_tests is_node
+node-fails m i e = words-fail m 5 (rw (node-in m) (fails (node_tests paper01) (node_in (parts_of m)) i e))
 
 -- and where the frame or swap page with number f does not stand once
 pub page-fails : (m : List ℕ) (f : ℕ)
-    → all (standsOnce (frameNumbers (nodeIn (parts_of m)))) (take 1 (drop f (up_from 0 (pageCount paper01)))) ≡ false
-    → isMemory m ≡ false
-unfolding nodeTests
-page-fails m f e = node-fails m 6 (all-fails (standsOnce (frameNumbers (nodeIn (parts_of m)))) (up_from 0 (pageCount paper01)) f e)
+    → all (stands_once (frame_numbers (node_in (parts_of m)))) (take 1 (drop f (up_from 0 (page_count paper01)))) ≡ false
+    → is_memory m ≡ false
+unfolding node_tests
+page-fails m f e = node-fails m 6 (all-fails (stands_once (frame_numbers (node_in (parts_of m)))) (up_from 0 (page_count paper01)) f e)
 
 -- the clauses on words, in the memory's parts
-abbrev pub wordTests : List (Parts → Bool)
-wordTests = (λ p. leb size (length p.start)) ∷ countsIn ∷ flagsIn ∷ unusedIn ∷ idleIn ∷ []
+abbrev pub word_tests : List (Parts → Bool)
+word_tests = (λ p. leb size (length p.start)) ∷ counts_in ∷ flags_in ∷ unused_in ∷ idle_in ∷ []
 
 -- a test of the node, there
-abbrev pub ofNode : (Node → Bool) → Parts → Bool
-ofNode t p = t (nodeIn p)
+abbrev pub of_node : (Node → Bool) → Parts → Bool
+of_node t p = t (node_in p)
 
 -- all clauses, with this test of the node
-abbrev pub partTests : (Node → Bool) → List (Parts → Bool)
-partTests t = wordTests ++ (ofNode t ∷ [])
+abbrev pub part_tests : (Node → Bool) → List (Parts → Bool)
+part_tests t = word_tests ++ (of_node t ∷ [])
 
 -- they are the memory test's
-pub parts-tested : (m : List ℕ) → isMemory m ≡ passes (partTests (isNode paper01)) (parts_of m)
-unfolding isMemory memoryTests
+pub parts-tested : (m : List ℕ) → is_memory m ≡ passes (part_tests (is_node paper01)) (parts_of m)
+unfolding is_memory memory_tests
 parts-tested m =
-    passes_same memoryTests (partTests (isNode paper01)) m (parts_of m)
-    (refl, (counts-in m, (flags-in m, (unused-in m, (idle-in m, (ap (isNode paper01) (node_in m), tt))))))
+    passes_same memory_tests (part_tests (is_node paper01)) m (parts_of m)
+    (refl, (counts-in m, (flags-in m, (unused-in m, (idle-in m, (ap (is_node paper01) (node-in m), tt))))))
 
 -- the clauses on the node, where the numbers that stand once, of all frames and swap pages and of the frames, are drawn
-abbrev pub drawnTests : List (Node → Bool)
-drawnTests =
-    (λ n. draws (up_from 0 (pageCount paper01)) (frameNumbers n))
-    ∷ (λ n. draws (up_from 0 paper01.frames) (frameOrder n))
-    ∷ lacking 8 (lacking 6 (nodeTests paper01))
+abbrev pub drawn_tests : List (Node → Bool)
+drawn_tests =
+    (λ n. draws (up_from 0 (page_count paper01)) (frame_numbers n))
+    ∷ (λ n. draws (up_from 0 paper01.frames) (frame_order n))
+    ∷ lacking 8 (lacking 6 (node_tests paper01))
 
 -- a node passes where it passes these
-pub drawn-node : (n : Node) → passes drawnTests n ≡ true → isNode paper01 n ≡ true
-unfolding isNode nodeTests standsOnce
+pub drawn-node : (n : Node) → passes drawn_tests n ≡ true → is_node paper01 n ≡ true
+unfolding is_node node_tests stands_once
 drawn-node n e =
-    let pages = pass-both (λ n. draws (up_from 0 (pageCount paper01)) (frameNumbers n)) (drop 1 drawnTests) n e in
-    let frames = pass-both (λ n. draws (up_from 0 paper01.frames) (frameOrder n)) (drop 2 drawnTests) n pages.1 in
-    pass-at (nodeTests paper01) n 6 (once (pageCount paper01) (frameNumbers n) pages.0)
-    (pass-at (lacking 6 (nodeTests paper01)) n 8 (once paper01.frames (frameOrder n) frames.0) frames.1)
+    let pages = pass-both (λ n. draws (up_from 0 (page_count paper01)) (frame_numbers n)) (drop 1 drawn_tests) n e in
+    let frames = pass-both (λ n. draws (up_from 0 paper01.frames) (frame_order n)) (drop 2 drawn_tests) n pages.1 in
+    pass-at (node_tests paper01) n 6 (once (page_count paper01) (frame_numbers n) pages.0)
+    (pass-at (lacking 6 (node_tests paper01)) n 8 (once paper01.frames (frame_order n) frames.0) frames.1)
 
 -- memory is a node where its parts pass
-pub is-node : (m : List ℕ) → passes (partTests (passes drawnTests)) (parts_of m) ≡ true → isMemory m ≡ true
+pub is-node : (m : List ℕ) → passes (part_tests (passes drawn_tests)) (parts_of m) ≡ true → is_memory m ≡ true
 is-node m e =
-    parts-tested m ∙ pass-last wordTests (ofNode (passes drawnTests)) (ofNode (isNode paper01)) (parts_of m) (drawn-node (nodeIn (parts_of m))) e
+    parts-tested m ∙ pass-last word_tests (of_node (passes drawn_tests)) (of_node (is_node paper01)) (parts_of m) (drawn-node (node_in (parts_of m))) e
 
 -- a step on memory that is a node, and on one that is none
-pub step-report : (m : List ℕ) (op : Operation) → isMemory m ≡ true → (stepMemory m op).report ≡ (step paper01 (nodeIn (parts_of m)) op).report
-unfolding stepMemory
-step-report m op e = rw (e, stepMemory, node_in m)
+pub step-report : (m : List ℕ) (op : Operation) → is_memory m ≡ true → (step_memory m op).report ≡ (step paper01 (node_in (parts_of m)) op).report
+unfolding step_memory
+step-report m op e = rw (e, step_memory, node-in m)
 
 -- the words that it leaves, as far as they are looked at
 pub step-writes : (m : List ℕ) (op : Operation) (look : List ℕ → List ℕ) (ws : List ℕ)
-    → isMemory m ≡ true
-    → same (look (replaced (step paper01 (nodeIn (parts_of m)) op).node m)) ws ≡ true
-    → look (stepMemory m op).memory ≡ ws
-unfolding stepMemory
-step-writes m op look ws e r = rw (e, stepMemory, node_in m) (same-words _ _ r)
+    → is_memory m ≡ true
+    → same (look (replaced (step paper01 (node_in (parts_of m)) op).node m)) ws ≡ true
+    → look (step_memory m op).memory ≡ ws
+unfolding step_memory
+step-writes m op look ws e r = rw (e, step_memory, node-in m) (same-words _ _ r)
 
-pub step-refused : (m : List ℕ) (op : Operation) → isMemory m ≡ false → stepMemory m op ≡ record { report = refused notNode; memory = m }
-unfolding stepMemory
-step-refused m op e = rw (e, stepMemory)
+pub step-refused : (m : List ℕ) (op : Operation) → is_memory m ≡ false → step_memory m op ≡ record { report = refused not_node; memory = m }
+unfolding step_memory
+step-refused m op e = rw (e, step_memory)
 
 -- the head message's part, of both
-pub head_of : (m : List ℕ) → isMemory m ≡ true → headPart m ≡ runnerPart m (nodeIn (parts_of m))
-unfolding headPart
-head_of m e = rw (e, headPart, node_in m)
+pub head_of : (m : List ℕ) → is_memory m ≡ true → head_part m ≡ runner_part m (node_in (parts_of m))
+unfolding head_part
+head_of m e = rw (e, head_part, node-in m)
 
 pub head-reads : (m ws : List ℕ)
-    → isMemory m ≡ true
-    → same (take (runnerPart m (nodeIn (parts_of m))).len (drop (runnerPart m (nodeIn (parts_of m))).start m)) ws ≡ true
-    → headWords m ≡ ws
-unfolding headWords
+    → is_memory m ≡ true
+    → same (take (runner_part m (node_in (parts_of m))).len (drop (runner_part m (node_in (parts_of m))).start m)) ws ≡ true
+    → head_words m ≡ ws
+unfolding head_words
 head-reads m ws e r = rw (head_of m e) (same-words _ _ r)
 
-pub head-none : (m : List ℕ) → isMemory m ≡ false → headPart m ≡ emptyPart
-unfolding headPart
-head-none m e = rw (e, headPart)
+pub head-none : (m : List ℕ) → is_memory m ≡ false → head_part m ≡ empty_part
+unfolding head_part
+head-none m e = rw (e, head_part)
 
 -- the counts of pages, of both
-pub counts_of : (m : List ℕ) → isMemory m ≡ true → pageCounts m ≡ record { out = word m out_at; brought = word m broughtAt }
-unfolding pageCounts
-counts_of m e = rw (e, pageCounts)
+pub counts-of : (m : List ℕ) → is_memory m ≡ true → page_counts m ≡ record { out = word m out_at; brought = word m brought_at }
+unfolding page_counts
+counts-of m e = rw (e, page_counts)
 
-pub counts-none : (m : List ℕ) → isMemory m ≡ false → pageCounts m ≡ record { out = 0; brought = 0 }
-unfolding pageCounts
-counts-none m e = rw (e, pageCounts)
+pub counts-none : (m : List ℕ) → is_memory m ≡ false → page_counts m ≡ record { out = 0; brought = 0 }
+unfolding page_counts
+counts-none m e = rw (e, page_counts)

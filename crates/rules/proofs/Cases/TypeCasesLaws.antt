@@ -1,15 +1,15 @@
 -- The types' cases hold: each is computed from the definitions. Assumes nothing.
 use mathlib.Core.Path.{refl}
-use Rattle.rules.specs.Types.{operationOf as operationNamed}
-use Rattle.rules.specs.Text.{extendFirst, split, isDigit, valueFrom}
-use Rattle.rules.specs.Script.{is_number, number, andNumber, numbers, groupAndWords, oneField, no_field, yesOrNo, forceField, letters, lettered, onlyByte, operationOf, readFields, readLine}
+use Rattle.rules.specs.Types.{operation_of as operation_named}
+use Rattle.rules.specs.Text.{extend_first, split, is_digit, value_from}
+use Rattle.rules.specs.Script.{is_number, number, and_number, numbers, group_and_words, one_field, no_field, yes_or_no, force_field, letters, lettered, only_byte, operation_of, read_fields, read_line}
 use Rattle.rules.specs.Cases.TypeCases.{TypesHold}
 
 pub types-hold : TypesHold
 unfolding
-    operationNamed
-    extendFirst split isDigit valueFrom
-    is_number number andNumber numbers groupAndWords oneField no_field yesOrNo forceField letters lettered onlyByte operationOf readFields readLine
+    operation_named
+    extend_first split is_digit value_from
+    is_number number and_number numbers group_and_words one_field no_field yes_or_no force_field letters lettered only_byte operation_of read_fields read_line
 types-hold =
     record {
       operations = λ x ws. refl;

@@ -11,15 +11,15 @@ use borrow.Author.Tests.{eqb-false, ltb-false}
 use lib.Dec.{eqb, leb, ltb}
 use lib.ListN.{length, length-append}
 use Rattle.rules.specs.Lists.{filter, is_empty}
-use Rattle.rules.specs.Build.{paper01, pageCount, groupCount, wordLimit, lastNode, tickLimit}
-use Rattle.rules.specs.Node.{Message, Node, group_of, withQueue, is_of, inQueue, line}
-use Rattle.rules.specs.Frames.{ceilDiv, pledge, pledges}
-use Rattle.rules.specs.Operation.{Request, poll, peek, dispose, beginAtomic, endAtomic, describe, launch}
+use Rattle.rules.specs.Build.{paper01, page_count, group_count, word_limit, last_node, tick_limit}
+use Rattle.rules.specs.Node.{Message, Node, group_of, with_queue, is_of, in_queue, line}
+use Rattle.rules.specs.Frames.{ceil_div, pledge, pledges}
+use Rattle.rules.specs.Operation.{Request, poll, peek, dispose, begin_atomic, end_atomic, describe, launch}
 use Rattle.rules.specs.Operation.{Operation, arrive, schedule, preempt, dispatch, tick, turn, user, unknown}
-use Rattle.rules.specs.Refusal.{queued, refuseArrive, refuseSchedule, refuseDispatch, refuseTick, refusePeek, refuseDispose, refuseEnd, refuseDescribe, refuseLaunch, refuseRequest, refusal}
-use Rattle.rules.specs.MemoryTest.{isMemory}
+use Rattle.rules.specs.Refusal.{queued, refuse_arrive, refuse_schedule, refuse_dispatch, refuse_tick, refuse_peek, refuse_dispose, refuse_end, refuse_describe, refuse_launch, refuse_request, refusal}
+use Rattle.rules.specs.MemoryTest.{is_memory}
 use Rattle.rules.specs.Valid.{Valid}
-use Rattle.rules.specs.Conditions.{pledgeWith, pledgesWith, Due, not-node, unreadable, bad-group, bad-words, queue-full, no_frames, nobody-runs, nothing-to-dispose, nothing-to-peek}
+use Rattle.rules.specs.Conditions.{pledge_with, pledges_with, Due, not-node, unreadable, bad-group, bad-words, queue-full, no-frames, nobody-runs, nothing-to-dispose, nothing-to-peek}
 use Rattle.rules.specs.Conditions.{past-message, still-pending, descriptor-full, descriptor-empty, bad-node, bad-schedule, bad-dispatch, bad-ticks, already-runs, FirstDue}
 use Rattle.rules.proofs.Steps.ListLaws.{filter-append}
 use Rattle.rules.proofs.Steps.NodeLaws.{group-good}
@@ -63,8 +63,8 @@ full-tells a k within = (λ e. omega (arith, (leb_tells a k).0 e), λ e. (leb_te
 
 -- the messages of group g in the hardware queue, once one has arrived for group a
 queue-with : (n : Node) (a : ℕ) (ws : List ℕ) (g : ℕ)
-    → length (inQueue (queued (record { group = a; words = ws }) n) g) ≡ length (inQueue n g) + cond (eqb a g) 1 0
-unfolding inQueue queued withQueue is_of
+    → length (in_queue (queued (record { group = a; words = ws }) n) g) ≡ length (in_queue n g) + cond (eqb a g) 1 0
+unfolding in_queue queued with_queue is_of
 queue-with n a ws g =
     let one : List Message = record { group = a; words = ws } ∷ [] in
     ap length (filter-append (is_of g) n.queue one) ∙ length-append (filter (is_of g) n.queue) (filter (is_of g) one)
@@ -75,14 +75,14 @@ queue-with n a ws g =
     go false = refl
 
 -- a group's pledge with it
-pledge-with : (n : Node) (a : ℕ) (ws : List ℕ) (g : ℕ) → pledge paper01 (queued (record { group = a; words = ws }) n) g ≡ pledgeWith n a g
-unfolding pledge ceilDiv pledgeWith group_of queued withQueue
+pledge-with : (n : Node) (a : ℕ) (ws : List ℕ) (g : ℕ) → pledge paper01 (queued (record { group = a; words = ws }) n) g ≡ pledge_with n a g
+unfolding pledge ceil_div pledge_with group_of queued with_queue
 pledge-with n a ws g =
     ap (λ (k : ℕ). ((group_of n g).buffer.used + (group_of n g).buffer.count + k + 7) / 8) (queue-with n a ws g)
 
 -- all of them
-pledges-with : (n : Node) (a : ℕ) (ws : List ℕ) → pledges paper01 (queued (record { group = a; words = ws }) n) ≡ pledgesWith n a
-unfolding pledges pledgesWith
+pledges-with : (n : Node) (a : ℕ) (ws : List ℕ) → pledges paper01 (queued (record { group = a; words = ws }) n) ≡ pledges_with n a
+unfolding pledges pledges_with
 pledges-with n a ws = simp pledge-with (omega arith)
 
 -- A first number.
@@ -108,22 +108,22 @@ module _ {m : List ℕ} {n : Node} {op : Operation} where
 
 -- What can be due on memory that is a node: P holds of every number that is due where it holds of each that the operation can meet.
 
-module _ (m : List ℕ) (n : Node) (node : isMemory m ≡ true) (P : ℕ → Type 0) where
+module _ (m : List ℕ) (n : Node) (node : is_memory m ≡ true) (P : ℕ → Type 0) where
   -- 1 cannot be due
-  no_node : {k : ℕ} → isMemory m ≡ false → P k
+  no_node : {k : ℕ} → is_memory m ≡ false → P k
   no_node e = absurd (true≢false (sym node ∙ e))
 
   on-arrive : {g : ℕ} {ws : List ℕ}
       → (¬ ((1 ≤ g) × (g ≤ 8)) → P 3)
       → ((length ws ≡ 0) ⊎ (8 < length ws) → P 4)
       → (length n.queue ≡ 16 → P 5)
-      → (96 < pledgesWith n g → P 6)
+      → (96 < pledges_with n g → P 6)
       → (k : ℕ) → Due m n (arrive g ws) k → P k
   on-arrive p3 p4 p5 p6 k (not-node e) = no_node e
   on-arrive p3 p4 p5 p6 k (bad-group x) = p3 x
   on-arrive p3 p4 p5 p6 k (bad-words x) = p4 x
   on-arrive p3 p4 p5 p6 k (queue-full x) = p5 x
-  on-arrive p3 p4 p5 p6 k (no_frames x) = p6 x
+  on-arrive p3 p4 p5 p6 k (no-frames x) = p6 x
 
   on-schedule : {g : ℕ} → (8 < g → P 14) → (k : ℕ) → Due m n (schedule g) k → P k
   on-schedule p k (not-node e) = no_node e
@@ -152,7 +152,7 @@ module _ (m : List ℕ) (n : Node) (node : isMemory m ≡ true) (P : ℕ → Typ
   on-poll p7 k (not-node e) = no_node e
   on-poll p7 k (nobody-runs x) = p7 x
 
-  on-begin : {force : Bool} → (n.running ≡ 0 → P 7) → (k : ℕ) → Due m n (user (beginAtomic force)) k → P k
+  on-begin : {force : Bool} → (n.running ≡ 0 → P 7) → (k : ℕ) → Due m n (user (begin_atomic force)) k → P k
   on-begin p7 k (not-node e) = no_node e
   on-begin p7 k (nobody-runs x) = p7 x
 
@@ -171,7 +171,7 @@ module _ (m : List ℕ) (n : Node) (node : isMemory m ≡ true) (P : ℕ → Typ
   on-dispose p7 p8 k (nobody-runs x) = p7 x
   on-dispose p7 p8 k (nothing-to-dispose x) = p8 x
 
-  on-end : (n.running ≡ 0 → P 7) → ((group_of n n.running).pending ≡ true → P 10) → (k : ℕ) → Due m n (user endAtomic) k → P k
+  on-end : (n.running ≡ 0 → P 7) → ((group_of n n.running).pending ≡ true → P 10) → (k : ℕ) → Due m n (user end_atomic) k → P k
   on-end p7 p10 k (not-node e) = no_node e
   on-end p7 p10 k (nobody-runs x) = p7 x
   on-end p7 p10 k (still-pending x) = p10 x
@@ -204,45 +204,45 @@ from a k = a ≤ k
 abbrev never : ℕ → Type 0
 never k = ⊥
 
-module _ (m : List ℕ) (n : Node) (node : isMemory m ≡ true) (v : Valid paper01 n) where
-  arrive-first : (g : ℕ) (ws : List ℕ) → FirstDue m n (arrive g ws) (refuseArrive paper01 n (record { group = g; words = ws }))
-  unfolding refuseArrive
+module _ (m : List ℕ) (n : Node) (node : is_memory m ≡ true) (v : Valid paper01 n) where
+  arrive-first : (g : ℕ) (ws : List ℕ) → FirstDue m n (arrive g ws) (refuse_arrive paper01 n (record { group = g; words = ws }))
+  unfolding refuse_arrive
   arrive-first g ws =
-      decide (eqb g 0 || ltb groupCount g) (group-tells g)
+      decide (eqb g 0 || ltb group_count g) (group-tells g)
       (λ bad. refuse (bad-group bad) (on-arrive m n node (from 3) (λ x. omega arith) (λ x. omega arith) (λ x. omega arith) (λ x. omega arith)))
       (λ group.
-      decide (is_empty ws || ltb wordLimit (length ws)) (either-tells (is_empty ws) (ltb wordLimit (length ws)) (empty-tells ws) (ltb-tells 8 (length ws)))
+      decide (is_empty ws || ltb word_limit (length ws)) (either-tells (is_empty ws) (ltb word_limit (length ws)) (empty-tells ws) (ltb-tells 8 (length ws)))
       (λ bad. refuse (bad-words bad) (on-arrive m n node (from 4) (λ x. absurd (group x)) (λ x. omega arith) (λ x. omega arith) (λ x. omega arith)))
       (λ words.
       decide (leb paper01.places (length n.queue)) (full-tells 16 (length n.queue) v.queue-length)
       (λ bad. refuse (queue-full bad) (on-arrive m n node (from 5) (λ x. absurd (group x)) (λ x. absurd (words x)) (λ x. omega arith) (λ x. omega arith)))
       (λ place.
-      decide (ltb (pageCount paper01) (pledges paper01 (queued (record { group = g; words = ws }) n))) (frames-tell g ws)
-      (λ bad. refuse (no_frames bad) (on-arrive m n node (from 6) (λ x. absurd (group x)) (λ x. absurd (words x)) (λ x. absurd (place x)) (λ x. omega arith)))
+      decide (ltb (page_count paper01) (pledges paper01 (queued (record { group = g; words = ws }) n))) (frames-tell g ws)
+      (λ bad. refuse (no-frames bad) (on-arrive m n node (from 6) (λ x. absurd (group x)) (λ x. absurd (words x)) (λ x. absurd (place x)) (λ x. omega arith)))
       (λ frames. accept (on-arrive m n node never group words place frames)))))
     where
-      frames-tell : (g : ℕ) (ws : List ℕ) → (ltb 96 (pledges paper01 (queued (record { group = g; words = ws }) n)) ≡ true) ↔ (96 < pledgesWith n g)
-      frames-tell g ws = rw (pledges-with n g ws) (ltb-tells 96 (pledgesWith n g))
+      frames-tell : (g : ℕ) (ws : List ℕ) → (ltb 96 (pledges paper01 (queued (record { group = g; words = ws }) n)) ≡ true) ↔ (96 < pledges_with n g)
+      frames-tell g ws = rw (pledges-with n g ws) (ltb-tells 96 (pledges_with n g))
 
-  schedule-first : (g : ℕ) → FirstDue m n (schedule g) (refuseSchedule g)
-  unfolding refuseSchedule
+  schedule-first : (g : ℕ) → FirstDue m n (schedule g) (refuse_schedule g)
+  unfolding refuse_schedule
   schedule-first g =
-      decide (ltb groupCount g) (ltb-tells 8 g) (λ bad. refuse (bad-schedule bad) (on-schedule m n node (from 14) (λ x. omega arith)))
+      decide (ltb group_count g) (ltb-tells 8 g) (λ bad. refuse (bad-schedule bad) (on-schedule m n node (from 14) (λ x. omega arith)))
       (λ group. accept (on-schedule m n node never group))
 
-  dispatch-first : (g : ℕ) → FirstDue m n (dispatch g) (refuseDispatch n.running g)
-  unfolding refuseDispatch
+  dispatch-first : (g : ℕ) → FirstDue m n (dispatch g) (refuse_dispatch n.running g)
+  unfolding refuse_dispatch
   dispatch-first g =
-      decide (eqb g 0 || ltb groupCount g) (group-tells g)
+      decide (eqb g 0 || ltb group_count g) (group-tells g)
       (λ bad. refuse (bad-dispatch bad) (on-dispatch m n node (from 14) (λ x. omega arith) (λ x. omega arith)))
       (λ group.
       decide (eqb n.running 0) (eqb_tells n.running 0) (λ nobody. accept (on-dispatch m n node never group (λ runs. runs nobody)))
       (λ runs. refuse (already-runs runs) (on-dispatch m n node (from 16) (λ x. absurd (group x)) (λ x. omega arith))))
 
-  tick-first : (k : ℕ) → FirstDue m n (tick k) (refuseTick k)
-  unfolding refuseTick
+  tick-first : (k : ℕ) → FirstDue m n (tick k) (refuse_tick k)
+  unfolding refuse_tick
   tick-first k =
-      decide (eqb k 0 || ltb tickLimit k) (either-tells (eqb k 0) (ltb tickLimit k) (eqb_tells k 0) (ltb-tells 65535 k))
+      decide (eqb k 0 || ltb tick_limit k) (either-tells (eqb k 0) (ltb tick_limit k) (eqb_tells k 0) (ltb-tells 65535 k))
       (λ bad. refuse (bad-ticks bad) (on-tick m n node (from 15) (λ x. omega arith)))
       (λ ticks. accept (on-tick m n node never ticks))
 
@@ -259,8 +259,8 @@ module _ (m : List ℕ) (n : Node) (node : isMemory m ≡ true) (v : Valid paper
   user-least r k (bad-node x) = omega arith
 
   module _ (runs : ¬ (n.running ≡ 0)) where
-    peek-first : (i : ℕ) (l : List Message) → line n n.running ≡ l → FirstDue m n (user (peek i)) (refusePeek l i)
-    unfolding refusePeek
+    peek-first : (i : ℕ) (l : List Message) → line n n.running ≡ l → FirstDue m n (user (peek i)) (refuse_peek l i)
+    unfolding refuse_peek
     peek-first i [] e =
         refuse (nothing-to-peek e) (on-peek m n node (from 8) (λ x. absurd (runs x)) (λ x. omega arith) (λ y ys x l. omega arith))
     peek-first i (y ∷ ys) e =
@@ -270,44 +270,44 @@ module _ (m : List ℕ) (n : Node) (node : isMemory m ≡ true) (v : Valid paper
         (λ within.
         accept (on-peek m n node never runs some (λ z zs x l. within (subst (λ (w : Message). length w.words ≤ i) (head-eq_of_cons-eq (sym x ∙ e)) l))))
 
-    dispose-first : (l : List Message) → line n n.running ≡ l → FirstDue m n (user dispose) (refuseDispose l)
-    unfolding refuseDispose
+    dispose-first : (l : List Message) → line n n.running ≡ l → FirstDue m n (user dispose) (refuse_dispose l)
+    unfolding refuse_dispose
     dispose-first [] e = refuse (nothing-to-dispose e) (on-dispose m n node (from 8) (λ x. absurd (runs x)) (λ x. omega arith))
     dispose-first (y ∷ ys) e = accept (on-dispose m n node never runs (λ x. nil≢cons (sym x ∙ e)))
 
-    end-first : FirstDue m n (user endAtomic) (refuseEnd (group_of n n.running).pending)
-    unfolding refuseEnd
+    end-first : FirstDue m n (user end_atomic) (refuse_end (group_of n n.running).pending)
+    unfolding refuse_end
     end-first =
         decide (group_of n n.running).pending (λ e. e, λ e. e)
         (λ bad. refuse (still-pending bad) (on-end m n node (from 10) (λ x. absurd (runs x)) (λ x. omega arith)))
         (λ off. accept (on-end m n node never runs off))
 
-    describe-first : (w : ℕ) → FirstDue m n (user (describe w)) (refuseDescribe (group_of n n.running).descriptor)
-    unfolding refuseDescribe
+    describe-first : (w : ℕ) → FirstDue m n (user (describe w)) (refuse_describe (group_of n n.running).descriptor)
+    unfolding refuse_describe
     describe-first w =
         let d : List ℕ = (group_of n n.running).descriptor in
-        let bound : length d ≤ wordLimit = (group-good (valid-sound v) n.running (omega arith) v.running-bound).descriptor in
-        decide (leb wordLimit (length d)) (full-tells 8 (length d) bound)
+        let bound : length d ≤ word_limit = (group-good (valid-sound v) n.running (omega arith) v.running-bound).descriptor in
+        decide (leb word_limit (length d)) (full-tells 8 (length d) bound)
         (λ bad. refuse (descriptor-full bad) (on-describe m n node (from 11) (λ x. absurd (runs x)) (λ x. omega arith)))
         (λ room. accept (on-describe m n node never runs room))
 
-    launch-first : (i : ℕ) (d : List ℕ) → (group_of n n.running).descriptor ≡ d → FirstDue m n (user (launch i)) (refuseLaunch d i)
-    unfolding refuseLaunch
+    launch-first : (i : ℕ) (d : List ℕ) → (group_of n n.running).descriptor ≡ d → FirstDue m n (user (launch i)) (refuse_launch d i)
+    unfolding refuse_launch
     launch-first i [] e =
         refuse (descriptor-empty e) (on-launch m n node (from 12) (λ x. absurd (runs x)) (λ x. omega arith) (λ x. omega arith))
     launch-first i (w ∷ d) e =
         let some : ¬ ((group_of n n.running).descriptor ≡ []) = λ x. nil≢cons (sym x ∙ e) in
-        decide (ltb lastNode i) (ltb-tells 63 i)
+        decide (ltb last_node i) (ltb-tells 63 i)
         (λ bad. refuse (bad-node bad) (on-launch m n node (from 13) (λ x. absurd (runs x)) (λ x. absurd (some x)) (λ x. omega arith)))
         (λ near. accept (on-launch m n node never runs some near))
 
-    request-first : (r : Request) → FirstDue m n (user r) (refuseRequest n r)
-    unfolding refuseRequest
+    request-first : (r : Request) → FirstDue m n (user r) (refuse_request n r)
+    unfolding refuse_request
     request-first poll = accept (on-poll m n node never runs)
     request-first (peek i) = peek-first i (line n n.running) refl
     request-first dispose = dispose-first (line n n.running) refl
-    request-first (beginAtomic force) = accept (on-begin m n node never runs)
-    request-first endAtomic = end-first
+    request-first (begin_atomic force) = accept (on-begin m n node never runs)
+    request-first end_atomic = end-first
     request-first (describe w) = describe-first w
     request-first (launch i) = launch-first i (group_of n n.running).descriptor refl
 
@@ -328,7 +328,7 @@ module _ (m : List ℕ) (n : Node) (node : isMemory m ≡ true) (v : Valid paper
 
 -- 1 is for memory that is no node, 2 for an unknown operation, and 16 is the last
 data Placed (m : List ℕ) (op : Operation) (k : ℕ) : Type 0 where
-  first : k ≡ 1 → isMemory m ≡ false → Placed m op k
+  first : k ≡ 1 → is_memory m ≡ false → Placed m op k
   second : k ≡ 2 → op ≡ unknown → Placed m op k
   later : 3 ≤ k → k ≤ 16 → Placed m op k
 
@@ -338,7 +338,7 @@ placed unreadable = second refl refl
 placed (bad-group x) = later (omega arith) (omega arith)
 placed (bad-words x) = later (omega arith) (omega arith)
 placed (queue-full x) = later (omega arith) (omega arith)
-placed (no_frames x) = later (omega arith) (omega arith)
+placed (no-frames x) = later (omega arith) (omega arith)
 placed (nobody-runs x) = later (omega arith) (omega arith)
 placed (nothing-to-dispose x) = later (omega arith) (omega arith)
 placed (nothing-to-peek x) = later (omega arith) (omega arith)
@@ -353,7 +353,7 @@ placed (bad-ticks x) = later (omega arith) (omega arith)
 placed (already-runs x) = later (omega arith) (omega arith)
 
 -- memory that is no node
-pub no-node-first : (m : List ℕ) (n : Node) (op : Operation) → isMemory m ≡ false → FirstDue m n op 1
+pub no-node-first : (m : List ℕ) (n : Node) (op : Operation) → is_memory m ≡ false → FirstDue m n op 1
 no-node-first m n op e = refuse (not-node e) (λ k d. least (placed d))
   where
     least : {k : ℕ} → Placed m op k → 1 ≤ k
@@ -383,16 +383,16 @@ module _ {m : List ℕ} {n : Node} {op : Operation} {a : ℕ} (f : FirstDue m n 
       go (no not) = last (placed (f.due not))
 
   -- it is 1 exactly where the memory is no node
-  pub first_one : (a ≡ 1) ↔ (isMemory m ≡ false)
+  pub first_one : (a ≡ 1) ↔ (is_memory m ≡ false)
   first_one = (λ e. go e (placed (f.due (omega arith))), λ e. let b = at_most (not-node e) in omega arith)
     where
-      go : a ≡ 1 → Placed m op a → isMemory m ≡ false
+      go : a ≡ 1 → Placed m op a → is_memory m ≡ false
       go e (first z x) = x
       go e (second z x) = absurd (omega arith)
       go e (later l h) = absurd (omega arith)
 
   -- on a node it is 2 exactly for an unknown operation
-  pub first_two : isMemory m ≡ true → (a ≡ 2) ↔ (op ≡ unknown)
+  pub first_two : is_memory m ≡ true → (a ≡ 2) ↔ (op ≡ unknown)
   first_two node = (
     λ e. go e (placed (f.due (omega arith))),
     λ e.

@@ -10,11 +10,11 @@ use native.Mathlib.Omega.{arith}
 use lib.ListN.{length, take, drop, replicate, length-drop, take-append-drop}
 use lib.Seq.{drop-drop, length-take-le, take_at, ext_get_or}
 use Rattle.rules.specs.Lists.{Every, pad}
-use Rattle.rules.specs.Build.{Build, groupCount, wordLimit}
-use Rattle.rules.specs.Node.{Message, Place, Buffer, Node, emptyPlace, emptyGroup, group_of, place_of, messageOf, waiting, inBuffer, inQueue, line}
+use Rattle.rules.specs.Build.{Build, group_count, word_limit}
+use Rattle.rules.specs.Node.{Message, Place, Buffer, Node, empty_place, empty_group, group_of, place_of, message_of, waiting, in_buffer, in_queue, line}
 use Rattle.rules.specs.Valid.{GoodPlace, GoodWaiting, GoodBuffer, Valid}
-use Rattle.rules.specs.Memory.{size, words, nodeAt}
-use Rattle.rules.specs.MemoryTest.{isMemory, stepMemory, powerOnMemory}
+use Rattle.rules.specs.Memory.{size, words, node_at}
+use Rattle.rules.specs.MemoryTest.{is_memory, step_memory, power_on_memory}
 use Rattle.rules.specs.Dumps.{dump, Agree, Dumps}
 use Rattle.rules.proofs.Steps.EveryLaws.{every-same, every_take, every_drop}
 use Rattle.rules.proofs.Steps.ListLaws.{pad-fits}
@@ -29,19 +29,19 @@ use Rattle.rules.proofs.Demands.DemandOneLaws.{demand-one}
 -- Places.
 
 -- the place of a waiting message is the message as it is kept
-waiting_kept : (g : ℕ) (p : Place) → GoodPlace p → GoodWaiting p → place_of (messageOf g p) ≡ p
-unfolding place_of messageOf
+waiting_kept : (g : ℕ) (p : Place) → GoodPlace p → GoodWaiting p → place_of (message_of g p) ≡ p
+unfolding place_of message_of
 waiting_kept g p good w =
     let len : length (take p.len p.words) ≡ p.len = length-take-le p.len p.words (omega (arith, good.eight, w.few_words)) in
-    let zeros : drop p.len p.words ≡ replicate (wordLimit - p.len) 0 =
+    let zeros : drop p.len p.words ≡ replicate (word_limit - p.len) 0 =
     rw (length-drop, good.eight) at (every-same 0 (drop p.len p.words) w.rest-zero) in
-    let short : length (take p.len p.words) ≤ wordLimit = omega (arith, w.few_words) in
-    let same : pad wordLimit (take p.len p.words) ≡ p.words =
-    pad-fits wordLimit (take p.len p.words) short ∙ rw (len, ← zeros) (take-append-drop p.len p.words) in
+    let short : length (take p.len p.words) ≤ word_limit = omega (arith, w.few_words) in
+    let same : pad word_limit (take p.len p.words) ≡ p.words =
+    pad-fits word_limit (take p.len p.words) short ∙ rw (len, ← zeros) (take-append-drop p.len p.words) in
     λ i. record { len = len i; words = same i }
 
 -- and so with all of them
-waitings-kept : (g : ℕ) (ps : List Place) → Every GoodPlace ps → Every GoodWaiting ps → map place_of (map (messageOf g) ps) ≡ ps
+waitings-kept : (g : ℕ) (ps : List Place) → Every GoodPlace ps → Every GoodWaiting ps → map place_of (map (message_of g) ps) ≡ ps
 waitings-kept g [] good w = refl
 waitings-kept g (p ∷ ps) good w =
     let one = waiting_kept g p good.0 w.0 in
@@ -51,35 +51,35 @@ waitings-kept g (p ∷ ps) good w =
 -- the places of a good buffer: its counts, its list and its messages say all of them
 places-told : {b : Build} (v : Buffer) (g : ℕ) → GoodBuffer b v
     → v.places
-    ≡ replicate v.used emptyPlace
-    ++ (map place_of (map (messageOf g) (waiting v)) ++ replicate (length v.frames * b.perFrame - (v.used + v.count)) emptyPlace)
+    ≡ replicate v.used empty_place
+    ++ (map place_of (map (message_of g) (waiting v)) ++ replicate (length v.frames * b.per_frame - (v.used + v.count)) empty_place)
 unfolding waiting
 places-told {b} v g good =
     let ps = v.places in
-    let up : take v.used ps ≡ replicate v.used emptyPlace =
+    let up : take v.used ps ≡ replicate v.used empty_place =
     rw (length-take-le v.used ps (omega (arith, fits good))) at
     (wiped-places (take v.used ps) (every_take GoodPlace v.used ps good.places) (both-wiped good).0) in
-    let end : drop (v.used + v.count) ps ≡ replicate (length v.frames * b.perFrame - (v.used + v.count)) emptyPlace =
+    let end : drop (v.used + v.count) ps ≡ replicate (length v.frames * b.per_frame - (v.used + v.count)) empty_place =
     rw (length-drop, good.whole) at
     (wiped-places (drop (v.used + v.count) ps) (every_drop GoodPlace (v.used + v.count) ps good.places) (both-wiped good).1) in
-    let kept : map place_of (map (messageOf g) (waiting v)) ≡ waiting v =
+    let kept : map place_of (map (message_of g) (waiting v)) ≡ waiting v =
     waitings-kept g (waiting v) (every_take GoodPlace v.count (drop v.used ps) (every_drop GoodPlace v.used ps good.places)) good.waiting-good in
     rw (← up, ← end, kept, ← drop-drop v.count v.used ps, take-append-drop v.count (drop v.used ps)) (sym (take-append-drop v.used ps))
 
 -- Nodes that agree.
 
 module _ {b : Build} (n k : Node) (v : Valid b n) (w : Valid b k) (a : Agree n k) where
-  module _ (g : ℕ) (low : 1 ≤ g) (high : g ≤ groupCount) where
+  module _ (g : ℕ) (low : 1 ≤ g) (high : g ≤ group_count) where
     -- they have the same messages of a group in its buffer
-    same-messages : inBuffer n g ≡ inBuffer k g
-    unfolding line inQueue
+    same-messages : in_buffer n g ≡ in_buffer k g
+    unfolding line in_queue
     same-messages =
-        let queues : inQueue k g ≡ inQueue n g = rw a.queue in
-        append_cancel_right (inBuffer n g) (inBuffer k g) (inQueue n g) ((a.groups g low high).messages ∙ ap (λ (q : List Message). inBuffer k g ++ q) queues)
+        let queues : in_queue k g ≡ in_queue n g = rw a.queue in
+        append_cancel_right (in_buffer n g) (in_buffer k g) (in_queue n g) ((a.groups g low high).messages ∙ ap (λ (q : List Message). in_buffer k g ++ q) queues)
 
     -- and so the same places
     same-places : (group_of n g).buffer.places ≡ (group_of k g).buffer.places
-    unfolding inBuffer
+    unfolding in_buffer
     same-places =
         let its = a.groups g low high in
         let same = same-messages in
@@ -105,7 +105,7 @@ module _ {b : Build} (n k : Node) (v : Valid b n) (w : Valid b k) (a : Agree n k
   unfolding group_of
   same-groups =
       let count = v.group-count in
-      ext_get_or emptyGroup n.groups k.groups (v.group-count ∙ sym w.group-count) (λ i h. same-group (suc i) (omega arith) (omega arith))
+      ext_get_or empty_group n.groups k.groups (v.group-count ∙ sym w.group-count) (λ i h. same-group (suc i) (omega arith) (omega arith))
 
   -- they are the same node
   same-node : n ≡ k
@@ -121,13 +121,13 @@ module _ {b : Build} (n k : Node) (v : Valid b n) (w : Valid b k) (a : Agree n k
 -- Dumps.
 
 -- a node's dump is its map
-dump-map : (m : List ℕ) → isMemory m ≡ true → dump m ≡ words (nodeAt m)
+dump-map : (m : List ℕ) → is_memory m ≡ true → dump m ≡ words (node_at m)
 dump-map m h =
-    let n = nodeAt m in
+    let n = node_at m in
     ap dump (sym (test_words m h)) ∙ take_at (words n) (drop size m) size (words-length n (valid-mapped (test-valid m h)))
 
 -- so memory with an equal dump is that map too, with what stands behind it
-dump-words : (m m' : List ℕ) → isMemory m ≡ true → dump m ≡ dump m' → words (nodeAt m) ++ drop size m' ≡ m'
+dump-words : (m m' : List ℕ) → is_memory m ≡ true → dump m ≡ dump m' → words (node_at m) ++ drop size m' ≡ m'
 dump-words m m' h e = rw (← dump-map m h, e) (take-append-drop size m')
 
 -- the promise
@@ -135,13 +135,13 @@ pub dumps : Dumps
 dumps =
     record {
       clean = clean;
-      step-clean = λ m op h. clean (stepMemory m op).memory ((demand-one.any_step m op).stays-node h);
-      power-on-clean = λ m long. clean (powerOnMemory m).memory ((demand-one.any-power-on m).makes-node long);
+      step-clean = λ m op h. clean (step_memory m op).memory ((demand-one.any_step m op).stays-node h);
+      power-on-clean = λ m long. clean (power_on_memory m).memory ((demand-one.any-power-on m).makes-node long);
       same-node = λ b n k. same-node n k;
       same-dump = λ m m' h h' a.
-          dump-map m h ∙ ap words (same-node (nodeAt m) (nodeAt m') (test-valid m h) (test-valid m' h') a) ∙ sym (dump-map m' h');
+          dump-map m h ∙ ap words (same-node (node_at m) (node_at m') (test-valid m h) (test-valid m' h') a) ∙ sym (dump-map m' h');
       node-by-dump = λ m m' h e.
-          subst (λ (k : List ℕ). isMemory k ≡ true) (dump-words m m' h e) (test-written (nodeAt m) (drop size m') (test-valid m h));
+          subst (λ (k : List ℕ). is_memory k ≡ true) (dump-words m m' h e) (test-written (node_at m) (drop size m') (test-valid m h));
       same-by-dump = λ m m' h e.
-          sym (subst (λ (k : List ℕ). nodeAt k ≡ nodeAt m) (dump-words m m' h e) (read_back (nodeAt m) (drop size m') (test-valid m h)));
+          sym (subst (λ (k : List ℕ). node_at k ≡ node_at m) (dump-words m m' h e) (read_back (node_at m) (drop size m') (test-valid m h)));
     }

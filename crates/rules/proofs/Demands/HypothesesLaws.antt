@@ -10,23 +10,23 @@ use native.Mathlib.Omega.{arith}
 use lib.ListN.{get_or}
 use borrow.Author.Tests.{not-true}
 use Rattle.rules.specs.Build.{Sensible}
-use Rattle.rules.specs.Node.{Message, Place, Group, Node, withGroup, withBuffer, inBuffer, inQueue, line}
+use Rattle.rules.specs.Node.{Message, Place, Group, Node, with_group, with_buffer, in_buffer, in_queue, line}
 use Rattle.rules.specs.Lists.{Every, all}
 use Rattle.rules.specs.Operation.{Operation, arrive, schedule, preempt, dispatch, tick, turn, user, unknown}
-use Rattle.rules.specs.Memory.{nodeAt}
+use Rattle.rules.specs.Memory.{node_at}
 use Rattle.rules.specs.Run.{Input, operation, asked, Event}
-use Rattle.rules.specs.Before.{scheduled, stepBefore, playBefore, runBefore, Old, isFull, NeverFull}
+use Rattle.rules.specs.Before.{scheduled, step_before, play_before, run_before, Old, is_full, NeverFull}
 use Rattle.rules.specs.Dumps.{WaitsIn, Agree}
-use Rattle.rules.specs.Hypotheses.{build, BuildExamples, withPlaces, AgreeExamples, twoPages, WaitsExamples, wholeCase, OldExamples, TestSays}
+use Rattle.rules.specs.Hypotheses.{build, BuildExamples, with_places, AgreeExamples, two_pages, WaitsExamples, whole_case, OldExamples, TestSays}
 use Rattle.rules.proofs.Cases.Computes.{computes}
 use Rattle.rules.proofs.Steps.NodeLaws.{group-other, kept, line_same}
-use Rattle.rules.proofs.Map.TestLaws.{isNode-valid, valid-isNode}
+use Rattle.rules.proofs.Map.TestLaws.{is_node-valid, valid-is_node}
 use Rattle.rules.proofs.Map.MapLaws.{test-written, test-valid, test_words}
 use Rattle.rules.proofs.Demands.DumpsLaws.{dumps}
 
 -- a build with one of each part but swap pages, and two frames, makes sense
 makes-sense : (f s p q t : ℕ) → Sensible (build (2 + f) s (1 + p) (1 + q) (1 + t))
-makes-sense f s p q t = record { frames = omega arith; perFrame = omega arith; places = omega arith; timeout = omega arith }
+makes-sense f s p q t = record { frames = omega arith; per_frame = omega arith; places = omega arith; timeout = omega arith }
 
 pub build-examples : BuildExamples
 build-examples =
@@ -55,19 +55,19 @@ itself n =
     }
 
 -- other places in a group's buffer, in which the same messages wait
-module _ (n : Node) (g : ℕ) (ps : List Place) (low : 1 ≤ g) (same : inBuffer (withPlaces g ps n) g ≡ inBuffer n g) where
+module _ (n : Node) (g : ℕ) (ps : List Place) (low : 1 ≤ g) (same : in_buffer (with_places g ps n) g ≡ in_buffer n g) where
   -- leave every line
-  places-line : (h : ℕ) → 1 ≤ h → line (withPlaces g ps n) h ≡ line n h
-  unfolding line inQueue withGroup
+  places-line : (h : ℕ) → 1 ≤ h → line (with_places g ps n) h ≡ line n h
+  unfolding line in_queue with_group
   places-line h low' = go (ℕ_discrete h g)
     where
-      go : Dec (h ≡ g) → line (withPlaces g ps n) h ≡ line n h
-      go (yes e) = subst (λ (x : ℕ). line (withPlaces g ps n) x ≡ line n x) (sym e) (ap (λ (ms : List Message). ms ++ inQueue n g) same)
-      go (no other) = line_same n (withPlaces g ps n) h (ap (λ (G : Group). G.buffer) (group-other n g h _ low low' other)) refl
+      go : Dec (h ≡ g) → line (with_places g ps n) h ≡ line n h
+      go (yes e) = subst (λ (x : ℕ). line (with_places g ps n) x ≡ line n x) (sym e) (ap (λ (ms : List Message). ms ++ in_queue n g) same)
+      go (no other) = line_same n (with_places g ps n) h (ap (λ (G : Group). G.buffer) (group-other n g h _ low low' other)) refl
 
   -- and all else of a node that Agree looks at
-  places-untold : Agree (withPlaces g ps n) n
-  unfolding withGroup withBuffer
+  places-untold : Agree (with_places g ps n) n
+  unfolding with_group with_buffer
   places-untold =
       record {
         running = refl;
@@ -97,11 +97,11 @@ agree-examples =
     record {
       itself = itself;
       places-untold = places-untold;
-      same-words = λ m m' h e. subst (λ (k : Node). Agree (nodeAt m) k) (dumps.same-by-dump m m' h e) (itself (nodeAt m));
+      same-words = λ m m' h e. subst (λ (k : Node). Agree (node_at m) k) (dumps.same-by-dump m m' h e) (itself (node_at m));
     }
 
 -- none of its messages waits before the third place of its first page, behind the second of its second, or in another
-none-waits : (p i : ℕ) → (p ≡ 4 → i < 2) → (p ≡ 37 → 2 ≤ i) → ¬ WaitsIn twoPages p i
+none-waits : (p i : ℕ) → (p ≡ 4 → i < 2) → (p ≡ 37 → 2 ≤ i) → ¬ WaitsIn two_pages p i
 none-waits p i before behind w = go w.index w.listed w.number w.behind-used w.before-end
   where
     go : (k : ℕ) → k < 2 → get_or (4 ∷ 37 ∷ []) k 0 ≡ p → 2 ≤ 8 * k + i → 8 * k + i < 2 + 8 → ⊥
@@ -120,14 +120,14 @@ waits-examples =
     }
 
 -- that no answer is 5 or 6, as a test
-never-full : (es : List Event) → NeverFull es ↔ (all (λ e. not (isFull e.report.answer)) es ≡ true)
+never-full : (es : List Event) → NeverFull es ↔ (all (λ e. not (is_full e.report.answer)) es ≡ true)
 unfolding NeverFull
 never-full [] = (λ h. refl, λ h. tt)
 never-full (e ∷ es) = (
-  λ h. (and-eq-true_iff (not (isFull e.report.answer)) _).1 (ap not h.0, (never-full es).0 h.1),
+  λ h. (and-eq-true_iff (not (is_full e.report.answer)) _).1 (ap not h.0, (never-full es).0 h.1),
   λ h.
-      let both = (and-eq-true_iff (not (isFull e.report.answer)) _).0 h in
-      (not-true (isFull e.report.answer) both.0, (never-full es).1 both.1),
+      let both = (and-eq-true_iff (not (is_full e.report.answer)) _).0 h in
+      (not-true (is_full e.report.answer) both.0, (never-full es).1 both.1),
 )
 
 -- an operation that is neither O nor I, as a test
@@ -155,7 +155,7 @@ others-old (i ∷ is) e =
     (other-old i both.0, others-old is both.1)
 
 pub old-examples : OldExamples
-unfolding computes isFull stepBefore playBefore runBefore scheduled
+unfolding computes is_full step_before play_before run_before scheduled
 old-examples =
     record {
       arrival-old = λ g ws. other-old (operation (arrive g ws)) refl;
@@ -166,7 +166,7 @@ old-examples =
       unknown-old = other-old (operation unknown) refl;
       line-old = other-old _ refl;
       full-answers = refl;
-      whole-case = record { old = others-old wholeCase refl; now = (never-full _).1 refl; before = (never-full _).1 refl };
+      whole-case = record { old = others-old whole_case refl; now = (never-full _).1 refl; before = (never-full _).1 refl };
       five-before = λ o. false≢true ((never-full _).0 o.before);
       six-now = λ o. false≢true ((never-full _).0 o.now);
     }
@@ -174,7 +174,7 @@ old-examples =
 pub test-says : TestSays
 test-says =
     record {
-      node-test = λ b n s. (isNode-valid b n s, valid-isNode b n);
+      node-test = λ b n s. (is_node-valid b n s, valid-is_node b n);
       memory-valid = test-valid;
       memory-map = test_words;
       memory-passes = test-written;

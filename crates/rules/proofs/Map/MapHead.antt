@@ -13,29 +13,29 @@ use lib.ListN.{length, take, drop, get_or}
 use lib.Seq.{drop-cons, length-take-le}
 use borrow.Author.Tests.{eq-eqb, ltb-true, ne_eqb}
 use Rattle.rules.specs.Lists.{Every, is_empty}
-use Rattle.rules.specs.Build.{paper01, pageCount, groupCount, wordLimit}
-use Rattle.rules.specs.Node.{Message, Place, Buffer, Group, Node, emptyGroup, emptyPlace, group_of, bufferHolds, messageOf, waiting, inBuffer, is_of, inQueue, line}
-use Rattle.rules.specs.Valid.{GoodWaiting, GoodBuffer, FirstInFrame, Valid, frameList}
-use Rattle.rules.specs.Memory.{queued_at, queueAt, queueStride, groupsAt, groupStride, placeStride, listOffset, heldOffset, usedOffset}
-use Rattle.rules.specs.Memory.{word, wordsAt, frameAddress, groupAddress, messageAt, messagesAt, placeAt, listAt, bufferAt, groupAt, nodeAt}
-use Rattle.rules.specs.MemoryTest.{isMemory, Part, emptyPart, firstPlace, bufferPart, queuePart, runnerPart, headPart, headWords}
-use Rattle.rules.specs.Reading.{InPlace, in-queue, in_frame}
+use Rattle.rules.specs.Build.{paper01, page_count, group_count, word_limit}
+use Rattle.rules.specs.Node.{Message, Place, Buffer, Group, Node, empty_group, empty_place, group_of, buffer_holds, message_of, waiting, in_buffer, is_of, in_queue, line}
+use Rattle.rules.specs.Valid.{GoodWaiting, GoodBuffer, FirstInFrame, Valid, frame_list}
+use Rattle.rules.specs.Memory.{queued_at, queue_at, queue_stride, groups_at, group_stride, place_stride, list_offset, held_offset, used_offset}
+use Rattle.rules.specs.Memory.{word, words_at, frame_address, group_address, message_at, messages_at, place_at, list_at, buffer_at, group_at, node_at}
+use Rattle.rules.specs.MemoryTest.{is_memory, Part, empty_part, first_place, buffer_part, queue_part, runner_part, head_part, head_words}
+use Rattle.rules.specs.Reading.{InPlace, in-queue, in-frame}
 use Rattle.rules.proofs.Steps.EveryLaws.{every-getD, every-concat}
 use Rattle.rules.proofs.Steps.ListLaws.{filter-pass}
 use Rattle.rules.proofs.Steps.SoundLaws.{valid-sound, valid-mapped}
 use Rattle.rules.proofs.Steps.FrameLaws.{fits, held}
 use Rattle.rules.proofs.Steps.NodeLaws.{is-of, within, group-good}
 use Rattle.rules.proofs.Steps.LineLaws.{stays, direct-line}
-use Rattle.rules.proofs.Map.MapWords.{getD-wordsAt, take-wordsAt, wordsAt-part, length-wordsAt, record-at}
+use Rattle.rules.proofs.Map.MapWords.{getD-words_at, take-words_at, words_at-part, length-words_at, record-at}
 use Rattle.rules.proofs.Map.MapParts.{messages, groups}
 use Rattle.rules.proofs.Map.MapFrames.{page-place, both-bounded}
 use Rattle.rules.proofs.Map.MapTest.{memory-fits}
 use Rattle.rules.proofs.Map.MapLaws.{test-size, test-valid}
-use Rattle.rules.proofs.Map.ShownLaws.{firstWords, partWords, Shows, empty-shows}
+use Rattle.rules.proofs.Map.ShownLaws.{first_words, part_words, Shows, empty-shows}
 
 -- some of the eight words at an address, within the memory
-some_words : (m : List ℕ) (a k : ℕ) → k ≤ wordLimit → a + wordLimit ≤ length m → take k (wordsAt m a wordLimit) ≡ take k (drop a m)
-some_words m a k h l = take-wordsAt m a k wordLimit h ∙ wordsAt-part m a k (omega arith)
+some_words : (m : List ℕ) (a k : ℕ) → k ≤ word_limit → a + word_limit ≤ length m → take k (words_at m a word_limit) ≡ take k (drop a m)
+some_words m a k h l = take-words_at m a k word_limit h ∙ words_at-part m a k (omega arith)
 
 -- the first waiting place of a buffer
 first-waiting : (v : Buffer) (d : Place) → 1 ≤ v.count → v.used < length v.places
@@ -47,123 +47,123 @@ first-waiting v d h l =
     (ap (λ (c : ℕ). take c (get_or v.places v.used d ∷ drop (suc v.used) v.places)) e)
 
 -- the buffer of a group is read at the group's address
-buffer-at : (m : List ℕ) (g : ℕ) → 1 ≤ g → g ≤ groupCount → (group_of (nodeAt m) g).buffer ≡ bufferAt m (groupAddress g)
-unfolding group_of nodeAt groupAddress groupAt
+buffer-at : (m : List ℕ) (g : ℕ) → 1 ≤ g → g ≤ group_count → (group_of (node_at m) g).buffer ≡ buffer_at m (group_address g)
+unfolding group_of node_at group_address group_at
 buffer-at m g low high =
     let e : pred g ≡ g - 1 = omega arith in
-    ap (λ (G : Group). G.buffer) (record-at (groups m) emptyGroup groupsAt groupCount (pred g) (omega arith))
-    ∙ ap (λ (i : ℕ). bufferAt m (groupsAt + groupStride * i)) e
+    ap (λ (G : Group). G.buffer) (record-at (groups m) empty_group groups_at group_count (pred g) (omega arith))
+    ∙ ap (λ (i : ℕ). buffer_at m (groups_at + group_stride * i)) e
 
 -- the place at which a buffer's first message waits
-place-first : (m : List ℕ) (a : ℕ) (d : Place) → 1 ≤ word m (a + heldOffset) → word m (a + usedOffset) < paper01.perFrame
-    → get_or (bufferAt m a).places (word m (a + usedOffset)) d
-    ≡ placeAt m (frameAddress (word m (a + listOffset)) + placeStride * word m (a + usedOffset))
-unfolding bufferAt listAt
+place-first : (m : List ℕ) (a : ℕ) (d : Place) → 1 ≤ word m (a + held_offset) → word m (a + used_offset) < paper01.per_frame
+    → get_or (buffer_at m a).places (word m (a + used_offset)) d
+    ≡ place_at m (frame_address (word m (a + list_offset)) + place_stride * word m (a + used_offset))
+unfolding buffer_at list_at
 place-first m a d h l =
-    let some = length-wordsAt m (a + listOffset) (word m (a + heldOffset)) in
-    let first : get_or (listAt m a) 0 0 ≡ word m (a + listOffset) = rw add-zero at (getD-wordsAt m (a + listOffset) (word m (a + heldOffset)) 0 h) in
-    rw (← first) (rw zero-add at (page-place m (listAt m a) 0 (word m (a + usedOffset)) d (omega arith) l))
+    let some = length-words_at m (a + list_offset) (word m (a + held_offset)) in
+    let first : get_or (list_at m a) 0 0 ≡ word m (a + list_offset) = rw add-zero at (getD-words_at m (a + list_offset) (word m (a + held_offset)) 0 h) in
+    rw (← first) (rw zero-add at (page-place m (list_at m a) 0 (word m (a + used_offset)) d (omega arith) l))
 
 -- the numbers of a group's frames are below 96
-list-bounded : (n : Node) → Valid paper01 n → (g : ℕ) → 1 ≤ g → g ≤ groupCount → Every (λ f. f < pageCount paper01) (frameList (group_of n g))
+list-bounded : (n : Node) → Valid paper01 n → (g : ℕ) → 1 ≤ g → g ≤ group_count → Every (λ f. f < page_count paper01) (frame_list (group_of n g))
 unfolding group_of
 list-bounded n v g low high =
-    every-getD (λ G. Every (λ f. f < pageCount paper01) (frameList G)) n.groups (pred g) emptyGroup
-    ((every-concat (λ f. f < pageCount paper01) frameList n.groups).0 (both-bounded n (valid-mapped v)).1) (within (valid-sound v) g low high)
+    every-getD (λ G. Every (λ f. f < page_count paper01) (frame_list G)) n.groups (pred g) empty_group
+    ((every-concat (λ f. f < page_count paper01) frame_list n.groups).0 (both-bounded n (valid-mapped v)).1) (within (valid-sound v) g low high)
 
 -- The first message of a group whose buffer holds one.
 
-module _ (m : List ℕ) (h : isMemory m ≡ true) (g : ℕ) (low : 1 ≤ g) (high : g ≤ groupCount)
-    (some : 1 ≤ (group_of (nodeAt m) g).buffer.count) where
+module _ (m : List ℕ) (h : is_memory m ≡ true) (g : ℕ) (low : 1 ≤ g) (high : g ≤ group_count)
+    (some : 1 ≤ (group_of (node_at m) g).buffer.count) where
   -- its buffer is good
-  pub good-buffer : GoodBuffer paper01 (bufferAt m (groupAddress g))
+  pub good-buffer : GoodBuffer paper01 (buffer_at m (group_address g))
   good-buffer =
       rw (buffer-at m g low high) at (group-good (valid-sound (test-valid m h)) g low high).buffer
 
   -- with a message in it
-  some-count : 1 ≤ (bufferAt m (groupAddress g)).count
+  some-count : 1 ≤ (buffer_at m (group_address g)).count
   some-count = rw (buffer-at m g low high) at some
 
   -- it holds a frame
-  some-held : 1 ≤ word m (groupAddress g + heldOffset)
-  unfolding bufferAt listAt
-  some-held = omega (arith, held good-buffer some-count, length-wordsAt m (groupAddress g + listOffset) (word m (groupAddress g + heldOffset)))
+  some-held : 1 ≤ word m (group_address g + held_offset)
+  unfolding buffer_at list_at
+  some-held = omega (arith, held good-buffer some-count, length-words_at m (group_address g + list_offset) (word m (group_address g + held_offset)))
 
   -- the first of which stands first in its list
-  first-listed : (group_of (nodeAt m) g).buffer.frames
-      ≡ word m (groupAddress g + listOffset) ∷ wordsAt m (groupAddress g + listOffset + 1) (word m (groupAddress g + heldOffset) - 1)
-  unfolding bufferAt listAt wordsAt
+  first-listed : (group_of (node_at m) g).buffer.frames
+      ≡ word m (group_address g + list_offset) ∷ words_at m (group_address g + list_offset + 1) (word m (group_address g + held_offset) - 1)
+  unfolding buffer_at list_at words_at
   first-listed =
-      let e : word m (groupAddress g + heldOffset) ≡ suc (word m (groupAddress g + heldOffset) - 1) = omega (arith, some-held) in
-      ap (λ (v : Buffer). v.frames) (buffer-at m g low high) ∙ ap (wordsAt m (groupAddress g + listOffset)) e
+      let e : word m (group_address g + held_offset) ≡ suc (word m (group_address g + held_offset) - 1) = omega (arith, some-held) in
+      ap (λ (v : Buffer). v.frames) (buffer-at m g low high) ∙ ap (words_at m (group_address g + list_offset)) e
 
   -- so its number is below 96
-  pub first-bounded : word m (groupAddress g + listOffset) < pageCount paper01
-  unfolding frameList
-  first-bounded = (rw first-listed at (list-bounded (nodeAt m) (test-valid m h) g low high)).0
+  pub first-bounded : word m (group_address g + list_offset) < page_count paper01
+  unfolding frame_list
+  first-bounded = (rw first-listed at (list-bounded (node_at m) (test-valid m h) g low high)).0
 
   -- and a frame's, where the first page is in one
-  first-resident : FirstInFrame paper01 (group_of (nodeAt m) g).buffer.frames → word m (groupAddress g + listOffset) < paper01.frames
+  first-resident : FirstInFrame paper01 (group_of (node_at m) g).buffer.frames → word m (group_address g + list_offset) < paper01.frames
   first-resident r = rw first-listed at r
 
   -- its first message waits at the place that the head call names
-  waits_there : waiting (bufferAt m (groupAddress g))
-      ≡ placeAt m (firstPlace m g)
-      ∷ take ((bufferAt m (groupAddress g)).count - 1) (drop (suc (bufferAt m (groupAddress g)).used) (bufferAt m (groupAddress g)).places)
-  unfolding firstPlace bufferAt
+  waits_there : waiting (buffer_at m (group_address g))
+      ≡ place_at m (first_place m g)
+      ∷ take ((buffer_at m (group_address g)).count - 1) (drop (suc (buffer_at m (group_address g)).used) (buffer_at m (group_address g)).places)
+  unfolding first_place buffer_at
   waits_there =
-      rw (← place-first m (groupAddress g) emptyPlace some-held good-buffer.used-bound)
-      (first-waiting (bufferAt m (groupAddress g)) emptyPlace some-count (omega (arith, fits good-buffer, some-count)))
+      rw (← place-first m (group_address g) empty_place some-held good-buffer.used-bound)
+      (first-waiting (buffer_at m (group_address g)) empty_place some-count (omega (arith, fits good-buffer, some-count)))
 
   -- that place is within the memory
-  place-within : firstPlace m g + 1 + wordLimit ≤ length m
-  unfolding firstPlace frameAddress bufferAt
+  place-within : first_place m g + 1 + word_limit ≤ length m
+  unfolding first_place frame_address buffer_at
   place-within = omega (arith, first-bounded, test-size m h, good-buffer.used-bound)
 
   -- of a frame then
-  buffer-in-place : FirstInFrame paper01 (group_of (nodeAt m) g).buffer.frames → InPlace (bufferPart m g)
-  unfolding bufferPart firstPlace bufferAt
-  buffer-in-place r = in_frame (word m (groupAddress g + listOffset)) (word m (groupAddress g + usedOffset)) (first-resident r) good-buffer.used-bound refl
+  buffer-in-place : FirstInFrame paper01 (group_of (node_at m) g).buffer.frames → InPlace (buffer_part m g)
+  unfolding buffer_part first_place buffer_at
+  buffer-in-place r = in-frame (word m (group_address g + list_offset)) (word m (group_address g + used_offset)) (first-resident r) good-buffer.used-bound refl
 
   -- the message there is good
-  first_good : GoodWaiting (placeAt m (firstPlace m g))
+  first_good : GoodWaiting (place_at m (first_place m g))
   first_good = (rw waits_there at good-buffer.waiting-good).0
 
   -- so the line is not empty
-  buffer-line : is_empty (line (nodeAt m) g) ≡ false
-  unfolding line inBuffer
+  buffer-line : is_empty (line (node_at m) g) ≡ false
+  unfolding line in_buffer
   buffer-line = rw (buffer-at m g low high, waits_there)
 
   -- and the part that the head call names holds the message's words
-  buffer-first : firstWords (line (nodeAt m) g) ≡ partWords m (bufferPart m g)
-  unfolding firstWords partWords line inBuffer messageOf bufferPart placeAt
+  buffer-first : first_words (line (node_at m) g) ≡ part_words m (buffer_part m g)
+  unfolding first_words part_words line in_buffer message_of buffer_part place_at
   buffer-first =
       rw (buffer-at m g low high, waits_there)
-      (some_words m (firstPlace m g + 1) (word m (firstPlace m g)) first_good.few_words place-within)
+      (some_words m (first_place m g + 1) (word m (first_place m g)) first_good.few_words place-within)
 
   -- and shows the line
-  buffer-shows : Shows m (bufferPart m g) (line (nodeAt m) g)
-  unfolding bufferPart placeAt
+  buffer-shows : Shows m (buffer_part m g) (line (node_at m) g)
+  unfolding buffer_part place_at
   buffer-shows =
       let good = first_good in
       record {
         inside = omega (arith, place-within, good.few_words);
         few = good.few_words;
-        empty = buffer-line ∙ sym (ne_eqb (word m (firstPlace m g)) 0 (omega (arith, good.some_words)));
+        empty = buffer-line ∙ sym (ne_eqb (word m (first_place m g)) 0 (omega (arith, good.some_words)));
         words = buffer-first;
       }
 
 -- The first message of the running group where its buffer holds none: the head of the hardware queue.
 
-module _ (n : Node) (none : bufferHolds n n.running ≡ false) where
+module _ (n : Node) (none : buffer_holds n n.running ≡ false) where
   -- without messages in the queue it has none
   queue-empty : n.queue ≡ [] → is_empty (line n n.running) ≡ true
-  unfolding inQueue
+  unfolding in_queue
   queue-empty e = rw (direct-line n n.running none, e)
 
   -- the head that may stay is its first
-  queue-first : Valid paper01 n → (x : Message) (q : List Message) → n.queue ≡ x ∷ q → firstWords (line n n.running) ≡ x.words
-  unfolding firstWords inQueue
+  queue-first : Valid paper01 n → (x : Message) (q : List Message) → n.queue ≡ x ∷ q → first_words (line n n.running) ≡ x.words
+  unfolding first_words in_queue
   queue-first v x q e =
       let own = is-of n.running x (stays n x (v.head-stays x q e)).0 in
       rw (direct-line n n.running none, e, filter-pass (is_of n.running) x q own)
@@ -171,8 +171,8 @@ module _ (n : Node) (none : bufferHolds n n.running ≡ false) where
 -- The part by its cases.
 
 -- nobody runs
-pub nobody-part : (m : List ℕ) (n : Node) → n.running ≡ 0 → runnerPart m n ≡ emptyPart
-unfolding runnerPart
+pub nobody-part : (m : List ℕ) (n : Node) → n.running ≡ 0 → runner_part m n ≡ empty_part
+unfolding runner_part
 nobody-part m n e = rw (eq-eqb n.running 0 e)
 
 module _ (m : List ℕ) (n : Node) (low : 1 ≤ n.running) where
@@ -181,30 +181,30 @@ module _ (m : List ℕ) (n : Node) (low : 1 ≤ n.running) where
   runs = ne_eqb n.running 0 (λ e. omega arith)
 
   -- the line is empty
-  pub empty-part : is_empty (line n n.running) ≡ true → runnerPart m n ≡ emptyPart
-  unfolding runnerPart
+  pub empty-part : is_empty (line n n.running) ≡ true → runner_part m n ≡ empty_part
+  unfolding runner_part
   empty-part e = rw (runs, e)
 
   -- its first message is in the buffer
-  pub frame-part : is_empty (line n n.running) ≡ false → bufferHolds n n.running ≡ true → runnerPart m n ≡ bufferPart m n.running
-  unfolding runnerPart
+  pub frame-part : is_empty (line n n.running) ≡ false → buffer_holds n n.running ≡ true → runner_part m n ≡ buffer_part m n.running
+  unfolding runner_part
   frame-part e b = rw (runs, e, b)
 
   -- or at the head of the queue
-  pub queue-part : is_empty (line n n.running) ≡ false → bufferHolds n n.running ≡ false → runnerPart m n ≡ queuePart m
-  unfolding runnerPart
+  pub queue-part : is_empty (line n n.running) ≡ false → buffer_holds n n.running ≡ false → runner_part m n ≡ queue_part m
+  unfolding runner_part
   queue-part e b = rw (runs, e, b)
 
   -- so what holds of the part in each case holds of it
   pub part-cases : (P : Part → Type 0)
-      → (is_empty (line n n.running) ≡ true → P emptyPart)
-      → (1 ≤ (group_of n n.running).buffer.count → P (bufferPart m n.running))
-      → (bufferHolds n n.running ≡ false → is_empty (line n n.running) ≡ false → P (queuePart m))
-      → P (runnerPart m n)
-  unfolding bufferHolds
-  part-cases P none waits queued = go (is_empty (line n n.running)) (bufferHolds n n.running) refl refl
+      → (is_empty (line n n.running) ≡ true → P empty_part)
+      → (1 ≤ (group_of n n.running).buffer.count → P (buffer_part m n.running))
+      → (buffer_holds n n.running ≡ false → is_empty (line n n.running) ≡ false → P (queue_part m))
+      → P (runner_part m n)
+  unfolding buffer_holds
+  part-cases P none waits queued = go (is_empty (line n n.running)) (buffer_holds n n.running) refl refl
     where
-      go : (empty holds : Bool) → is_empty (line n n.running) ≡ empty → bufferHolds n n.running ≡ holds → P (runnerPart m n)
+      go : (empty holds : Bool) → is_empty (line n n.running) ≡ empty → buffer_holds n n.running ≡ holds → P (runner_part m n)
       go true holds e b = rw (empty-part e) (none e)
       go false true e b = rw (frame-part e b) (waits (ltb-true 0 _ b))
       go false false e b = rw (queue-part e b) (queued b e)
@@ -212,58 +212,58 @@ module _ (m : List ℕ) (n : Node) (low : 1 ≤ n.running) where
 -- What the head call shows of any memory.
 
 -- of memory that is no node nothing
-pub untested-part : (m : List ℕ) → isMemory m ≡ false → headPart m ≡ emptyPart
-unfolding headPart
-untested-part m e = rw (e, headPart)
+pub untested-part : (m : List ℕ) → is_memory m ≡ false → head_part m ≡ empty_part
+unfolding head_part
+untested-part m e = rw (e, head_part)
 
-pub head-none : (m : List ℕ) → isMemory m ≡ false → headWords m ≡ []
-unfolding headWords
+pub head-none : (m : List ℕ) → is_memory m ≡ false → head_words m ≡ []
+unfolding head_words
 head-none m e = rw (untested-part m e)
 
-module _ (m : List ℕ) (h : isMemory m ≡ true) where
+module _ (m : List ℕ) (h : is_memory m ≡ true) where
   -- a memory that is a node is read by its running group
-  pub tested-part : headPart m ≡ runnerPart m (nodeAt m)
-  unfolding headPart
-  tested-part = rw (h, headPart)
+  pub tested-part : head_part m ≡ runner_part m (node_at m)
+  unfolding head_part
+  tested-part = rw (h, head_part)
 
   -- the head of the queue is shown where it stands
-  queue-shows : bufferHolds (nodeAt m) (nodeAt m).running ≡ false → is_empty (line (nodeAt m) (nodeAt m).running) ≡ false
-      → Shows m (queuePart m) (line (nodeAt m) (nodeAt m).running)
-  unfolding nodeAt partWords queuePart messageAt
+  queue-shows : buffer_holds (node_at m) (node_at m).running ≡ false → is_empty (line (node_at m) (node_at m).running) ≡ false
+      → Shows m (queue_part m) (line (node_at m) (node_at m).running)
+  unfolding node_at part_words queue_part message_at
   queue-shows none some = go (word m queued_at) refl
     where
-      go : (k : ℕ) → word m queued_at ≡ k → Shows m (queuePart m) (line (nodeAt m) (nodeAt m).running)
-      go zero e = absurd (true≢false (sym (queue-empty (nodeAt m) none (rw e ((messages m).none queueAt))) ∙ some))
+      go : (k : ℕ) → word m queued_at ≡ k → Shows m (queue_part m) (line (node_at m) (node_at m).running)
+      go zero e = absurd (true≢false (sym (queue-empty (node_at m) none (rw e ((messages m).none queue_at))) ∙ some))
       go (suc k) e =
           let v = test-valid m h in
           let fits = ((memory-fits m).0 h).1.0.messages 0 (omega arith) in
-          let q : (nodeAt m).queue ≡ messageAt m queueAt ∷ messagesAt m (queueAt + queueStride) k = rw e ((messages m).more queueAt k) in
+          let q : (node_at m).queue ≡ message_at m queue_at ∷ messages_at m (queue_at + queue_stride) k = rw e ((messages m).more queue_at k) in
           let least = (rw q at v.queue-good).0.some_words in
-          let len : length (take (word m (queueAt + 1)) (wordsAt m (queueAt + 2) wordLimit)) ≡ word m (queueAt + 1) =
-          length-take-le (word m (queueAt + 1)) (wordsAt m (queueAt + 2) wordLimit) (rw (length-wordsAt m (queueAt + 2) wordLimit) fits.few_words) in
+          let len : length (take (word m (queue_at + 1)) (words_at m (queue_at + 2) word_limit)) ≡ word m (queue_at + 1) =
+          length-take-le (word m (queue_at + 1)) (words_at m (queue_at + 2) word_limit) (rw (length-words_at m (queue_at + 2) word_limit) fits.few_words) in
           record {
             inside = omega (arith, test-size m h, fits.few_words);
             few = fits.few_words;
-            empty = some ∙ sym (ne_eqb (word m (queueAt + 1)) 0 (omega (arith, least)));
+            empty = some ∙ sym (ne_eqb (word m (queue_at + 1)) 0 (omega (arith, least)));
             words =
-                queue-first (nodeAt m) none v (messageAt m queueAt) (messagesAt m (queueAt + queueStride) k) q
-                ∙ some_words m (queueAt + 2) (word m (queueAt + 1)) fits.few_words (omega (arith, test-size m h));
+                queue-first (node_at m) none v (message_at m queue_at) (messages_at m (queue_at + queue_stride) k) q
+                ∙ some_words m (queue_at + 2) (word m (queue_at + 1)) fits.few_words (omega (arith, test-size m h));
           }
 
-  module _ (low : 1 ≤ (nodeAt m).running) where
+  module _ (low : 1 ≤ (node_at m).running) where
     -- the running group's first message is shown
-    pub head-shows : Shows m (runnerPart m (nodeAt m)) (line (nodeAt m) (nodeAt m).running)
+    pub head-shows : Shows m (runner_part m (node_at m)) (line (node_at m) (node_at m).running)
     head-shows =
-        part-cases m (nodeAt m) low (λ p. Shows m p (line (nodeAt m) (nodeAt m).running))
-        (empty-shows m (line (nodeAt m) (nodeAt m).running))
-        (buffer-shows m h (nodeAt m).running low (test-valid m h).running-bound)
+        part-cases m (node_at m) low (λ p. Shows m p (line (node_at m) (node_at m).running))
+        (empty-shows m (line (node_at m) (node_at m).running))
+        (buffer-shows m h (node_at m).running low (test-valid m h).running-bound)
         queue-shows
 
     -- from the queue's place or a frame's
-    pub head-in-place : 1 ≤ (runnerPart m (nodeAt m)).len → InPlace (runnerPart m (nodeAt m))
-    unfolding queuePart
+    pub head-in-place : 1 ≤ (runner_part m (node_at m)).len → InPlace (runner_part m (node_at m))
+    unfolding queue_part
     head-in-place =
-        part-cases m (nodeAt m) low (λ p. 1 ≤ p.len → InPlace p)
+        part-cases m (node_at m) low (λ p. 1 ≤ p.len → InPlace p)
         (λ e some. absurd (omega arith))
-        (λ waits some. buffer-in-place m h (nodeAt m).running low (test-valid m h).running-bound waits ((test-valid m h).runner-resident low))
+        (λ waits some. buffer-in-place m h (node_at m).running low (test-valid m h).running-bound waits ((test-valid m h).runner-resident low))
         (λ direct e some. in-queue refl)

@@ -10,15 +10,15 @@ use native.Mathlib.Omega.{arith}
 use native.Mathlib.Nat.{add-zero}
 use lib.Dec.{eqb}
 use lib.ListN.{length, take, length-append}
-use Rattle.rules.specs.Lists.{concatMap, pad}
-use Rattle.rules.specs.Build.{paper01, pageCount, wordLimit}
+use Rattle.rules.specs.Lists.{concat_map, pad}
+use Rattle.rules.specs.Build.{paper01, page_count, word_limit}
 use Rattle.rules.specs.Node.{Message, Place, Group}
 use Rattle.rules.specs.Valid.{GoodMessage, GoodPlace}
-use Rattle.rules.specs.Memory.{queueStride, groupStride, placeStride, atomicOffset, pendingOffset, forceOffset, revokedOffset, usedOffset, countOffset, heldOffset, describedOffset, descriptorOffset, listOffset}
-use Rattle.rules.specs.Memory.{word, wordsAt, flagWord, messageWords, listWords, groupWords, placeWords, messageAt, messagesAt, placeAt, places_at, framePlaces, flagAt, listAt, bufferAt, groupAt, groupsFrom}
-use Rattle.rules.specs.MemoryTest.{zeroAt}
+use Rattle.rules.specs.Memory.{queue_stride, group_stride, place_stride, atomic_offset, pending_offset, force_offset, revoked_offset, used_offset, count_offset, held_offset, described_offset, descriptor_offset, list_offset}
+use Rattle.rules.specs.Memory.{word, words_at, flag_word, message_words, list_words, group_words, place_words, message_at, messages_at, place_at, places_at, frame_places, flag_at, list_at, buffer_at, group_at, groups_from}
+use Rattle.rules.specs.MemoryTest.{zero_at}
 use Rattle.rules.proofs.Steps.ListLaws.{length-pad}
-use Rattle.rules.proofs.Map.MapWords.{Stands, Records, stands-cons, stands-append, stands-wordsAt, wordsAt-stands, length-wordsAt, take-wordsAt, pad-stands}
+use Rattle.rules.proofs.Map.MapWords.{Stands, Records, stands-cons, stands-append, stands-words_at, words_at-stands, length-words_at, take-words_at, pad-stands}
 
 -- the address behind an offset
 next_address : (a k : ℕ) → a + k + 1 ≡ a + suc k
@@ -27,13 +27,13 @@ next_address a k = omega arith
 -- Messages of the queue.
 
 -- messages are read one behind the other
-pub messages : (m : List ℕ) → Records (messageAt m) queueStride (messagesAt m)
-unfolding messagesAt
+pub messages : (m : List ℕ) → Records (message_at m) queue_stride (messages_at m)
+unfolding messages_at
 messages m = record { none = λ a. refl; more = λ a k. refl }
 
 -- a message takes ten words
-pub length-message : (x : Message) → length (messageWords x) ≡ queueStride
-unfolding messageWords
+pub length-message : (x : Message) → length (message_words x) ≡ queue_stride
+unfolding message_words
 length-message x = rw length-pad
 
 -- what stands at the place of a message, word by word
@@ -41,17 +41,17 @@ record MessageStands (m : List ℕ) (a : ℕ) (x : Message) : Type 0 where
   group : word m a ≡ x.group
   len : word m (a + 1) ≡ length x.words
   words : Stands m (a + 2) x.words
-  rest-zero : zeroAt m (a + 2 + length x.words) (wordLimit - length x.words) ≡ true
+  rest-zero : zero_at m (a + 2 + length x.words) (word_limit - length x.words) ≡ true
 
 -- what the memory test asks of the place of a message
 pub record MessageFits (m : List ℕ) (a : ℕ) : Type 0 where
-  pub few_words : word m (a + 1) ≤ wordLimit
-  pub rest-zero : zeroAt m (a + 2 + word m (a + 1)) (wordLimit - word m (a + 1)) ≡ true
+  pub few_words : word m (a + 1) ≤ word_limit
+  pub rest-zero : zero_at m (a + 2 + word m (a + 1)) (word_limit - word m (a + 1)) ≡ true
 
 module _ (m : List ℕ) (a : ℕ) where
   -- a message of at most eight words stands word by word
-  message-stands : (x : Message) → length x.words ≤ wordLimit → Stands m a (messageWords x) ↔ MessageStands m a x
-  unfolding messageWords
+  message-stands : (x : Message) → length x.words ≤ word_limit → Stands m a (message_words x) ↔ MessageStands m a x
+  unfolding message_words
   message-stands x h =
       simp (stands-cons, next_address, pad-stands) (
         λ k. record { group = k.0; len = k.1.0; words = k.1.1.0; rest-zero = k.1.1.1 },
@@ -59,114 +59,114 @@ module _ (m : List ℕ) (a : ℕ) where
       )
 
   -- a message that stands at an address is read there, and its words pass the test
-  pub read-message : (x : Message) → GoodMessage x → Stands m a (messageWords x) → (messageAt m a ≡ x) × MessageFits m a
-  unfolding messageAt
+  pub read-message : (x : Message) → GoodMessage x → Stands m a (message_words x) → (message_at m a ≡ x) × MessageFits m a
+  unfolding message_at
   read-message x g h =
       let k = (message-stands x g.few_words).0 h in
-      let few : word m (a + 1) ≤ wordLimit = rw k.len g.few_words in
-      let same : take (word m (a + 1)) (wordsAt m (a + 2) wordLimit) ≡ x.words =
-      take-wordsAt m (a + 2) (word m (a + 1)) wordLimit few ∙ wordsAt-stands m (a + 2) (word m (a + 1)) x.words (sym k.len) k.words in
+      let few : word m (a + 1) ≤ word_limit = rw k.len g.few_words in
+      let same : take (word m (a + 1)) (words_at m (a + 2) word_limit) ≡ x.words =
+      take-words_at m (a + 2) (word m (a + 1)) word_limit few ∙ words_at-stands m (a + 2) (word m (a + 1)) x.words (sym k.len) k.words in
       (λ i. record { group = k.group i; words = same i }, record { few_words = few; rest-zero = rw k.len k.rest-zero })
 
   -- words that pass the test are those of the message that is read
-  pub message-at-stands : MessageFits m a → Stands m a (messageWords (messageAt m a))
-  unfolding messageAt
+  pub message-at-stands : MessageFits m a → Stands m a (message_words (message_at m a))
+  unfolding message_at
   message-at-stands f =
-      let same = take-wordsAt m (a + 2) (word m (a + 1)) wordLimit f.few_words in
-      let l : length (messageAt m a).words ≡ word m (a + 1) = ap length same ∙ length-wordsAt m (a + 2) (word m (a + 1)) in
-      (message-stands (messageAt m a) (rw l f.few_words)).1
-      (record { group = refl; len = sym l; words = rw same (stands-wordsAt m (a + 2) (word m (a + 1))); rest-zero = rw l f.rest-zero })
+      let same = take-words_at m (a + 2) (word m (a + 1)) word_limit f.few_words in
+      let l : length (message_at m a).words ≡ word m (a + 1) = ap length same ∙ length-words_at m (a + 2) (word m (a + 1)) in
+      (message-stands (message_at m a) (rw l f.few_words)).1
+      (record { group = refl; len = sym l; words = rw same (stands-words_at m (a + 2) (word m (a + 1))); rest-zero = rw l f.rest-zero })
 
 -- Places of a frame.
 
 -- places are read one behind the other
-pub places : (m : List ℕ) → Records (placeAt m) placeStride (places_at m)
+pub places : (m : List ℕ) → Records (place_at m) place_stride (places_at m)
 unfolding places_at
 places m = record { none = λ a. refl; more = λ a k. refl }
 
 -- a place takes nine words
-pub length-place : (p : Place) → GoodPlace p → length (placeWords p) ≡ placeStride
-unfolding placeWords
+pub length-place : (p : Place) → GoodPlace p → length (place_words p) ≡ place_stride
+unfolding place_words
 length-place p g = ap suc g.eight
 
 module _ (m : List ℕ) (a : ℕ) where
   -- a place that stands at an address is read there
-  pub read-place : (p : Place) → GoodPlace p → Stands m a (placeWords p) → placeAt m a ≡ p
-  unfolding placeAt placeWords
+  pub read-place : (p : Place) → GoodPlace p → Stands m a (place_words p) → place_at m a ≡ p
+  unfolding place_at place_words
   read-place p g h =
       let k = (stands-cons m a p.len p.words).0 h in
-      let same = wordsAt-stands m (a + 1) wordLimit p.words g.eight k.1 in
+      let same = words_at-stands m (a + 1) word_limit p.words g.eight k.1 in
       λ i. record { len = k.0 i; words = same i }
 
   -- any place that is read is good
-  pub good-place-at : GoodPlace (placeAt m a)
-  unfolding placeAt
-  good-place-at = record { eight = length-wordsAt m (a + 1) wordLimit }
+  pub good-place-at : GoodPlace (place_at m a)
+  unfolding place_at
+  good-place-at = record { eight = length-words_at m (a + 1) word_limit }
 
   -- and any words are those of the place that is read
-  pub place-at-stands : Stands m a (placeWords (placeAt m a))
-  unfolding placeAt placeWords
-  place-at-stands = (stands-cons m a (word m a) (wordsAt m (a + 1) wordLimit)).1 (refl, stands-wordsAt m (a + 1) wordLimit)
+  pub place-at-stands : Stands m a (place_words (place_at m a))
+  unfolding place_at place_words
+  place-at-stands = (stands-cons m a (word m a) (words_at m (a + 1) word_limit)).1 (refl, stands-words_at m (a + 1) word_limit)
 
 -- Groups.
 
 -- groups are read one behind the other
-pub groups : (m : List ℕ) → Records (groupAt m) groupStride (groupsFrom m)
-unfolding groupsFrom
+pub groups : (m : List ℕ) → Records (group_at m) group_stride (groups_from m)
+unfolding groups_from
 groups m = record { none = λ a. refl; more = λ a k. refl }
 
 -- a group takes 112 words
-pub length-group : (G : Group) → length (groupWords G) ≡ groupStride
-unfolding groupWords listWords
+pub length-group : (G : Group) → length (group_words G) ≡ group_stride
+unfolding group_words list_words
 length-group G = simp (length-append, length-pad)
 
 -- what stands at the record of a group, word by word
 pub record GroupStands (m : List ℕ) (a : ℕ) (G : Group) : Type 0 where
-  pub atomic : word m (a + atomicOffset) ≡ flagWord G.atomic
-  pub pending : word m (a + pendingOffset) ≡ flagWord G.pending
-  pub force : word m (a + forceOffset) ≡ flagWord G.force
-  pub revoked : word m (a + revokedOffset) ≡ flagWord G.revoked
-  pub used : word m (a + usedOffset) ≡ G.buffer.used
-  pub count : word m (a + countOffset) ≡ G.buffer.count
-  pub held : word m (a + heldOffset) ≡ length G.buffer.frames
-  pub described : word m (a + describedOffset) ≡ length G.descriptor
-  pub descriptor : Stands m (a + descriptorOffset) G.descriptor
-  pub descriptor-zero : zeroAt m (a + descriptorOffset + length G.descriptor) (wordLimit - length G.descriptor) ≡ true
-  pub list : Stands m (a + listOffset) G.buffer.frames
-  pub list-zero : zeroAt m (a + listOffset + length G.buffer.frames) (pageCount paper01 - length G.buffer.frames) ≡ true
+  pub atomic : word m (a + atomic_offset) ≡ flag_word G.atomic
+  pub pending : word m (a + pending_offset) ≡ flag_word G.pending
+  pub force : word m (a + force_offset) ≡ flag_word G.force
+  pub revoked : word m (a + revoked_offset) ≡ flag_word G.revoked
+  pub used : word m (a + used_offset) ≡ G.buffer.used
+  pub count : word m (a + count_offset) ≡ G.buffer.count
+  pub held : word m (a + held_offset) ≡ length G.buffer.frames
+  pub described : word m (a + described_offset) ≡ length G.descriptor
+  pub descriptor : Stands m (a + descriptor_offset) G.descriptor
+  pub descriptor-zero : zero_at m (a + descriptor_offset + length G.descriptor) (word_limit - length G.descriptor) ≡ true
+  pub list : Stands m (a + list_offset) G.buffer.frames
+  pub list-zero : zero_at m (a + list_offset + length G.buffer.frames) (page_count paper01 - length G.buffer.frames) ≡ true
 
 -- what the memory test asks of the record of a group
 pub record GroupFits (m : List ℕ) (a : ℕ) : Type 0 where
-  pub atomic : word m (a + atomicOffset) ≤ 1
-  pub pending : word m (a + pendingOffset) ≤ 1
-  pub force : word m (a + forceOffset) ≤ 1
-  pub revoked : word m (a + revokedOffset) ≤ 1
-  pub held : word m (a + heldOffset) ≤ pageCount paper01
-  pub described : word m (a + describedOffset) ≤ wordLimit
-  pub list-zero : zeroAt m (a + listOffset + word m (a + heldOffset)) (pageCount paper01 - word m (a + heldOffset)) ≡ true
-  pub descriptor-zero : zeroAt m (a + descriptorOffset + word m (a + describedOffset)) (wordLimit - word m (a + describedOffset)) ≡ true
+  pub atomic : word m (a + atomic_offset) ≤ 1
+  pub pending : word m (a + pending_offset) ≤ 1
+  pub force : word m (a + force_offset) ≤ 1
+  pub revoked : word m (a + revoked_offset) ≤ 1
+  pub held : word m (a + held_offset) ≤ page_count paper01
+  pub described : word m (a + described_offset) ≤ word_limit
+  pub list-zero : zero_at m (a + list_offset + word m (a + held_offset)) (page_count paper01 - word m (a + held_offset)) ≡ true
+  pub descriptor-zero : zero_at m (a + descriptor_offset + word m (a + described_offset)) (word_limit - word m (a + described_offset)) ≡ true
 
 -- a flag is read from its word, and its word is at most 1
-flag-read : (f : Bool) → (eqb (flagWord f) 1 ≡ f) × (flagWord f ≤ 1)
-unfolding flagWord
+flag-read : (f : Bool) → (eqb (flag_word f) 1 ≡ f) × (flag_word f ≤ 1)
+unfolding flag_word
 flag-read true = (refl, omega arith)
 flag-read false = (refl, omega arith)
 
 -- and a word of at most 1 is that of a flag
-flag_word : (w : ℕ) → w ≤ 1 → w ≡ flagWord (eqb w 1)
-unfolding flagWord
-flag_word zero h = refl
-flag_word (suc zero) h = refl
-flag_word (suc (suc w)) h = absurd (omega arith)
+flag-word : (w : ℕ) → w ≤ 1 → w ≡ flag_word (eqb w 1)
+unfolding flag_word
+flag-word zero h = refl
+flag-word (suc zero) h = refl
+flag-word (suc (suc w)) h = absurd (omega arith)
 
 module _ (m : List ℕ) (a : ℕ) where
   -- a group whose lists fit stands word by word
-  pub group-stands : (G : Group) → length G.descriptor ≤ wordLimit → length G.buffer.frames ≤ pageCount paper01
-      → Stands m a (groupWords G) ↔ GroupStands m a G
-  unfolding groupWords listWords
+  pub group-stands : (G : Group) → length G.descriptor ≤ word_limit → length G.buffer.frames ≤ page_count paper01
+      → Stands m a (group_words G) ↔ GroupStands m a G
+  unfolding group_words list_words
   group-stands G h l =
-      let both = stands-append m (a + descriptorOffset) (pad wordLimit G.descriptor) (listWords G.buffer.frames) in
-      let e : a + descriptorOffset + wordLimit ≡ a + listOffset = omega arith in
+      let both = stands-append m (a + descriptor_offset) (pad word_limit G.descriptor) (list_words G.buffer.frames) in
+      let e : a + descriptor_offset + word_limit ≡ a + list_offset = omega arith in
       simp (stands-cons, next_address, both, length-pad, e, pad-stands) (
         λ k.
             record {
@@ -199,18 +199,18 @@ module _ (m : List ℕ) (a : ℕ) where
       )
 
   -- a group that stands at an address is read there, and its words pass the test
-  pub read-group : (G : Group) → length G.descriptor ≤ wordLimit → length G.buffer.frames ≤ pageCount paper01
-      → concatMap (framePlaces m) G.buffer.frames ≡ G.buffer.places → Stands m a (groupWords G) → (groupAt m a ≡ G) × GroupFits m a
-  unfolding groupAt bufferAt listAt flagAt
+  pub read-group : (G : Group) → length G.descriptor ≤ word_limit → length G.buffer.frames ≤ page_count paper01
+      → concat_map (frame_places m) G.buffer.frames ≡ G.buffer.places → Stands m a (group_words G) → (group_at m a ≡ G) × GroupFits m a
+  unfolding group_at buffer_at list_at flag_at
   read-group G h l e s =
       let k = (group-stands G h l).0 s in
-      let atomic : flagAt m (a + atomicOffset) ≡ G.atomic = rw k.atomic (flag-read G.atomic).0 in
-      let pending : flagAt m (a + pendingOffset) ≡ G.pending = rw k.pending (flag-read G.pending).0 in
-      let force : flagAt m (a + forceOffset) ≡ G.force = rw k.force (flag-read G.force).0 in
-      let revoked : flagAt m (a + revokedOffset) ≡ G.revoked = rw k.revoked (flag-read G.revoked).0 in
-      let list : listAt m a ≡ G.buffer.frames = wordsAt-stands m (a + listOffset) (word m (a + heldOffset)) G.buffer.frames (sym k.held) k.list in
-      let descriptor = wordsAt-stands m (a + descriptorOffset) (word m (a + describedOffset)) G.descriptor (sym k.described) k.descriptor in
-      let places = ap (concatMap (framePlaces m)) list ∙ e in (
+      let atomic : flag_at m (a + atomic_offset) ≡ G.atomic = rw k.atomic (flag-read G.atomic).0 in
+      let pending : flag_at m (a + pending_offset) ≡ G.pending = rw k.pending (flag-read G.pending).0 in
+      let force : flag_at m (a + force_offset) ≡ G.force = rw k.force (flag-read G.force).0 in
+      let revoked : flag_at m (a + revoked_offset) ≡ G.revoked = rw k.revoked (flag-read G.revoked).0 in
+      let list : list_at m a ≡ G.buffer.frames = words_at-stands m (a + list_offset) (word m (a + held_offset)) G.buffer.frames (sym k.held) k.list in
+      let descriptor = words_at-stands m (a + descriptor_offset) (word m (a + described_offset)) G.descriptor (sym k.described) k.descriptor in
+      let places = ap (concat_map (frame_places m)) list ∙ e in (
         λ i. record {
           atomic = atomic i;
           pending = pending i;
@@ -232,23 +232,23 @@ module _ (m : List ℕ) (a : ℕ) where
       )
 
   -- words that pass the test are those of the group that is read
-  pub group-at-stands : GroupFits m a → Stands m a (groupWords (groupAt m a))
-  unfolding groupAt bufferAt listAt flagAt
+  pub group-at-stands : GroupFits m a → Stands m a (group_words (group_at m a))
+  unfolding group_at buffer_at list_at flag_at
   group-at-stands f =
-      let described = length-wordsAt m (a + descriptorOffset) (word m (a + describedOffset)) in
-      let held = length-wordsAt m (a + listOffset) (word m (a + heldOffset)) in
-      (group-stands (groupAt m a) (rw described f.described) (rw held f.held)).1
+      let described = length-words_at m (a + descriptor_offset) (word m (a + described_offset)) in
+      let held = length-words_at m (a + list_offset) (word m (a + held_offset)) in
+      (group-stands (group_at m a) (rw described f.described) (rw held f.held)).1
       (record {
-        atomic = flag_word (word m (a + atomicOffset)) f.atomic;
-        pending = flag_word (word m (a + pendingOffset)) f.pending;
-        force = flag_word (word m (a + forceOffset)) f.force;
-        revoked = flag_word (word m (a + revokedOffset)) f.revoked;
+        atomic = flag-word (word m (a + atomic_offset)) f.atomic;
+        pending = flag-word (word m (a + pending_offset)) f.pending;
+        force = flag-word (word m (a + force_offset)) f.force;
+        revoked = flag-word (word m (a + revoked_offset)) f.revoked;
         used = refl;
         count = refl;
         held = sym held;
         described = sym described;
-        descriptor = stands-wordsAt m (a + descriptorOffset) (word m (a + describedOffset));
+        descriptor = stands-words_at m (a + descriptor_offset) (word m (a + described_offset));
         descriptor-zero = rw described f.descriptor-zero;
-        list = stands-wordsAt m (a + listOffset) (word m (a + heldOffset));
+        list = stands-words_at m (a + list_offset) (word m (a + held_offset));
         list-zero = rw held f.list-zero;
       })

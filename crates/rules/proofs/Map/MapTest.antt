@@ -9,27 +9,27 @@ use mathlib.Core.List.{List}
 use native.Mathlib.Omega.{arith}
 use lib.ListN.{length}
 use Rattle.rules.specs.Lists.{all, Every, up_from}
-use Rattle.rules.specs.Build.{paper01, groupCount}
+use Rattle.rules.specs.Build.{paper01, group_count}
 use Rattle.rules.specs.Valid.{idle, Valid}
-use Rattle.rules.specs.Memory.{queued_at, freeCountAt, queueAt, queueStride, freeAt, groupsAt, groupStride, swapCountAt, enteredCountAt, frameStride, size}
-use Rattle.rules.specs.Memory.{word, frameAddress, groupAddress, nodeAt}
-use Rattle.rules.specs.MemoryTest.{zeroAt, lengthInBounds, groupCounts, countsInBounds, groupFlags, flagsAreFlags, queueUnused, freeUnused, swapUnused, enteredUnused, groupUnused, messageUnused, unusedAreZero, frameWiped, idleAreWiped, memoryTests, isMemory}
+use Rattle.rules.specs.Memory.{queued_at, free_count_at, queue_at, queue_stride, free_at, groups_at, group_stride, swap_count_at, entered_count_at, frame_stride, size}
+use Rattle.rules.specs.Memory.{word, frame_address, group_address, node_at}
+use Rattle.rules.specs.MemoryTest.{zero_at, length_in_bounds, group_counts, counts_in_bounds, group_flags, flags_are_flags, queue_unused, free_unused, swap_unused, entered_unused, group_unused, message_unused, unused_are_zero, frame_wiped, idle_are_wiped, memory_tests, is_memory}
 use Rattle.rules.proofs.Steps.SoundLaws.{paper-sensible}
-use Rattle.rules.proofs.Map.TestLaws.{leb_tells, all-every, range-tells, passes-every, isNode-valid, valid-isNode}
+use Rattle.rules.proofs.Map.TestLaws.{leb_tells, all-every, range-tells, passes-every, is_node-valid, valid-is_node}
 use Rattle.rules.proofs.Map.MapParts.{MessageFits, GroupFits}
 use Rattle.rules.proofs.Map.MapPaging.{PagingFits}
 
 -- what the memory test asks of the words, apart from the size and the node that they hold
 pub record Fits (m : List ℕ) : Type 0 where
   pub queued : word m queued_at ≤ paper01.places
-  pub free : word m freeCountAt ≤ paper01.frames
-  pub messages : (i : ℕ) → i < word m queued_at → MessageFits m (queueAt + queueStride * i)
-  pub groups : (i : ℕ) → i < groupCount → GroupFits m (groupsAt + groupStride * i)
-  pub queue-zero : zeroAt m (queueAt + queueStride * word m queued_at) (queueStride * (paper01.places - word m queued_at)) ≡ true
-  pub free-zero : zeroAt m (freeAt + word m freeCountAt) (paper01.frames - word m freeCountAt) ≡ true
+  pub free : word m free_count_at ≤ paper01.frames
+  pub messages : (i : ℕ) → i < word m queued_at → MessageFits m (queue_at + queue_stride * i)
+  pub groups : (i : ℕ) → i < group_count → GroupFits m (groups_at + group_stride * i)
+  pub queue-zero : zero_at m (queue_at + queue_stride * word m queued_at) (queue_stride * (paper01.places - word m queued_at)) ≡ true
+  pub free-zero : zero_at m (free_at + word m free_count_at) (paper01.frames - word m free_count_at) ≡ true
   pub paging : PagingFits m
   -- a frame or swap page that no buffer holds is 0
-  pub idle-zero : Every (λ f. zeroAt m (frameAddress f) frameStride ≡ true) (idle (nodeAt m))
+  pub idle-zero : Every (λ f. zero_at m (frame_address f) frame_stride ≡ true) (idle (node_at m))
 
 -- two tests tell two facts
 and-tells : {a b : Bool} {P Q : Type 0} → ((a ≡ true) ↔ P) → ((b ≡ true) ↔ Q) → (a && b ≡ true) ↔ (P × Q)
@@ -37,16 +37,16 @@ and-tells {a} {b} p q = Iff.trans (and-eq-true_iff a b) (Iff.and p q)
 
 module _ (m : List ℕ) where
   -- the tests of message i
-  message-fits : (i : ℕ) → ((lengthInBounds m i ≡ true) × (messageUnused m i ≡ true)) ↔ MessageFits m (queueAt + queueStride * i)
-  unfolding lengthInBounds messageUnused
+  message-fits : (i : ℕ) → ((length_in_bounds m i ≡ true) × (message_unused m i ≡ true)) ↔ MessageFits m (queue_at + queue_stride * i)
+  unfolding length_in_bounds message_unused
   message-fits i = simp leb_tells (λ h. record { few_words = h.0; rest-zero = h.1 }, λ f. (f.few_words, f.rest-zero))
 
   -- the tests of all messages
-  messages-fit : ((all (lengthInBounds m) (up_from 0 (word m queued_at)) ≡ true) × (all (messageUnused m) (up_from 0 (word m queued_at)) ≡ true))
-      ↔ ((i : ℕ) → i < word m queued_at → MessageFits m (queueAt + queueStride * i))
+  messages-fit : ((all (length_in_bounds m) (up_from 0 (word m queued_at)) ≡ true) × (all (message_unused m) (up_from 0 (word m queued_at)) ≡ true))
+      ↔ ((i : ℕ) → i < word m queued_at → MessageFits m (queue_at + queue_stride * i))
   messages-fit =
-      let lengths = range-tells (lengthInBounds m) 0 (word m queued_at) in
-      let rests = range-tells (messageUnused m) 0 (word m queued_at) in (
+      let lengths = range-tells (length_in_bounds m) 0 (word m queued_at) in
+      let rests = range-tells (message_unused m) 0 (word m queued_at) in (
         λ h i l. (message-fits i).0 (lengths.0 h.0 i (omega arith) (omega arith), rests.0 h.1 i (omega arith) (omega arith)),
         λ f. (
           lengths.1 (λ i l h. ((message-fits i).1 (f i (omega arith))).0),
@@ -55,8 +55,8 @@ module _ (m : List ℕ) where
       )
 
   -- the tests of group g
-  group-fits : (g : ℕ) → ((groupCounts m g ≡ true) × ((groupFlags m g ≡ true) × (groupUnused m g ≡ true))) ↔ GroupFits m (groupAddress g)
-  unfolding groupCounts groupFlags groupUnused
+  group-fits : (g : ℕ) → ((group_counts m g ≡ true) × ((group_flags m g ≡ true) × (group_unused m g ≡ true))) ↔ GroupFits m (group_address g)
+  unfolding group_counts group_flags group_unused
   group-fits g =
       simp (and-eq-true_iff, leb_tells) (
         λ h.
@@ -77,16 +77,16 @@ module _ (m : List ℕ) where
       )
 
   -- the tests of all groups
-  groups-fit : ((all (groupCounts m) (up_from 1 groupCount) ≡ true)
-      × ((all (groupFlags m) (up_from 1 groupCount) ≡ true) × (all (groupUnused m) (up_from 1 groupCount) ≡ true)))
-      ↔ ((i : ℕ) → i < groupCount → GroupFits m (groupsAt + groupStride * i))
-  unfolding groupAddress
+  groups-fit : ((all (group_counts m) (up_from 1 group_count) ≡ true)
+      × ((all (group_flags m) (up_from 1 group_count) ≡ true) × (all (group_unused m) (up_from 1 group_count) ≡ true)))
+      ↔ ((i : ℕ) → i < group_count → GroupFits m (groups_at + group_stride * i))
+  unfolding group_address
   groups-fit =
-      let counts = range-tells (groupCounts m) 1 groupCount in
-      let flags = range-tells (groupFlags m) 1 groupCount in
-      let rests = range-tells (groupUnused m) 1 groupCount in
-      let at : ((i : ℕ) → i < groupCount → GroupFits m (groupsAt + groupStride * i))
-      → (g : ℕ) → 1 ≤ g → g < 1 + groupCount → GroupFits m (groupAddress g) = λ f g l h. f (g - 1) (omega arith) in (
+      let counts = range-tells (group_counts m) 1 group_count in
+      let flags = range-tells (group_flags m) 1 group_count in
+      let rests = range-tells (group_unused m) 1 group_count in
+      let at : ((i : ℕ) → i < group_count → GroupFits m (groups_at + group_stride * i))
+      → (g : ℕ) → 1 ≤ g → g < 1 + group_count → GroupFits m (group_address g) = λ f g l h. f (g - 1) (omega arith) in (
         λ h i l.
             let e : suc i - 1 ≡ i = omega arith in
             let count = counts.0 h.0 (suc i) (omega arith) (omega arith) in
@@ -100,37 +100,37 @@ module _ (m : List ℕ) where
       )
 
   -- the clauses on counts
-  counts-tell : (countsInBounds m ≡ true)
+  counts-tell : (counts_in_bounds m ≡ true)
       ↔ ((word m queued_at ≤ paper01.places)
-      × ((word m freeCountAt ≤ paper01.frames)
-      × ((word m swapCountAt ≤ paper01.swap)
-      × ((word m enteredCountAt ≤ paper01.frames)
-      × ((all (groupCounts m) (up_from 1 groupCount) ≡ true) × (all (lengthInBounds m) (up_from 0 (word m queued_at)) ≡ true))))))
-  unfolding countsInBounds
+      × ((word m free_count_at ≤ paper01.frames)
+      × ((word m swap_count_at ≤ paper01.swap)
+      × ((word m entered_count_at ≤ paper01.frames)
+      × ((all (group_counts m) (up_from 1 group_count) ≡ true) × (all (length_in_bounds m) (up_from 0 (word m queued_at)) ≡ true))))))
+  unfolding counts_in_bounds
   counts-tell =
       and-tells (leb_tells _ _) (and-tells (leb_tells _ _) (and-tells (leb_tells _ _) (and-tells (leb_tells _ _) (and-tells Iff.rfl Iff.rfl))))
 
   -- the clauses on unused words
-  unused-tells : (unusedAreZero m ≡ true)
-      ↔ ((queueUnused m ≡ true)
-      × ((freeUnused m ≡ true)
-      × ((swapUnused m ≡ true)
-      × ((enteredUnused m ≡ true)
-      × ((all (groupUnused m) (up_from 1 groupCount) ≡ true) × (all (messageUnused m) (up_from 0 (word m queued_at)) ≡ true))))))
-  unfolding unusedAreZero
+  unused-tells : (unused_are_zero m ≡ true)
+      ↔ ((queue_unused m ≡ true)
+      × ((free_unused m ≡ true)
+      × ((swap_unused m ≡ true)
+      × ((entered_unused m ≡ true)
+      × ((all (group_unused m) (up_from 1 group_count) ≡ true) × (all (message_unused m) (up_from 0 (word m queued_at)) ≡ true))))))
+  unfolding unused_are_zero
   unused-tells = and-tells Iff.rfl (and-tells Iff.rfl (and-tells Iff.rfl (and-tells Iff.rfl (and-tells Iff.rfl Iff.rfl))))
 
   -- the clause on the frames and swap pages that no buffer holds
-  idle-tells : (idleAreWiped m ≡ true) ↔ Every (λ f. zeroAt m (frameAddress f) frameStride ≡ true) (idle (nodeAt m))
-  unfolding idleAreWiped frameWiped
-  idle-tells = all-every (frameWiped m) (λ f. zeroAt m (frameAddress f) frameStride ≡ true) (λ f. Iff.rfl) (idle (nodeAt m))
+  idle-tells : (idle_are_wiped m ≡ true) ↔ Every (λ f. zero_at m (frame_address f) frame_stride ≡ true) (idle (node_at m))
+  unfolding idle_are_wiped frame_wiped
+  idle-tells = all-every (frame_wiped m) (λ f. zero_at m (frame_address f) frame_stride ≡ true) (λ f. Iff.rfl) (idle (node_at m))
 
   -- the memory passes the test where it is large enough, fits, and holds a valid node
-  pub memory-fits : (isMemory m ≡ true) ↔ ((size ≤ length m) × (Fits m × Valid paper01 (nodeAt m)))
-  unfolding isMemory memoryTests flagsAreFlags queueUnused freeUnused swapUnused enteredUnused
+  pub memory-fits : (is_memory m ≡ true) ↔ ((size ≤ length m) × (Fits m × Valid paper01 (node_at m)))
+  unfolding is_memory memory_tests flags_are_flags queue_unused free_unused swap_unused entered_unused
   memory-fits = (
     λ h.
-        let t = (passes-every memoryTests m).0 h in
+        let t = (passes-every memory_tests m).0 h in
         let counts = counts-tell.0 t.1.0 in
         let unused = unused-tells.0 t.1.1.1.0 in (
           (leb_tells size (length m)).0 t.0,
@@ -151,7 +151,7 @@ module _ (m : List ℕ) where
                   };
               idle-zero = idle-tells.0 t.1.1.1.1.0;
             },
-            isNode-valid paper01 (nodeAt m) paper-sensible t.1.1.1.1.1.0,
+            is_node-valid paper01 (node_at m) paper-sensible t.1.1.1.1.1.0,
           ),
         ),
     λ h.
@@ -159,7 +159,7 @@ module _ (m : List ℕ) where
         let messages = messages-fit.1 f.messages in
         let groups = groups-fit.1 f.groups in
         let p = f.paging in
-        (passes-every memoryTests m).1 (
+        (passes-every memory_tests m).1 (
           (leb_tells size (length m)).1 h.0,
           (
             counts-tell.1 (f.queued, (f.free, (p.swap, (p.entered, (groups.0, messages.0))))),
@@ -167,7 +167,7 @@ module _ (m : List ℕ) where
               groups.1.0,
               (
                 unused-tells.1 (f.queue-zero, (f.free-zero, (p.swap-zero, (p.entered-zero, (groups.1.1, messages.1))))),
-                (idle-tells.1 f.idle-zero, (valid-isNode paper01 (nodeAt m) h.1.1, tt)),
+                (idle-tells.1 f.idle-zero, (valid-is_node paper01 (node_at m) h.1.1, tt)),
               ),
             ),
           ),

@@ -1,4 +1,4 @@
--- The Bool twin of the invariants is the record: a node passes the tests of isNode exactly where it is Valid. Each test and the fact that
+-- The Bool twin of the invariants is the record: a node passes the tests of is_node exactly where it is Valid. Each test and the fact that
 -- it computes are one statement, "passes ↔ holds", so that the two halves of the theorem are read off by rewriting the tests to the facts.
 -- Assumes nothing.
 use Prim.Native.Nat.{ℕ, zero, suc, ◌+◌, ◌≤◌, ◌<◌}
@@ -12,12 +12,12 @@ use native.Mathlib.Nat.{eq-or-lt_of_le}
 use lib.Dec.{leb, ltb, eqb}
 use borrow.Author.Tests.{leb-true, ltb-true, eqb-true, le-leb, lt-ltb, eq-eqb, eqb-false, ne_eqb, not-true}
 use Rattle.rules.specs.Lists.{all, Every, passes, is_empty, count_of, up_from}
-use Rattle.rules.specs.Build.{Build, Sensible, groupCount}
+use Rattle.rules.specs.Build.{Build, Sensible, group_count}
 use Rattle.rules.specs.Node.{Message, Place, Buffer, Group, Node, group_of, forced, line}
-use Rattle.rules.specs.Paging.{inFrame}
-use Rattle.rules.specs.Settling.{mayStay}
+use Rattle.rules.specs.Paging.{in_frame}
+use Rattle.rules.specs.Settling.{may_stay}
 use Rattle.rules.specs.Valid.{Zero, GoodMessage, GoodPlace, GoodWaiting, Wiped, GoodBuffer, GoodGroup, IsSwap, FirstInFrame, Valid}
-use Rattle.rules.specs.Valid.{isMessage, isPlace, isWaiting, isWiped, isBuffer, onlyAtomic, is_group, pendingHasLine, runnerAtomic, headStays, isSwap, firstInFrame, runnerInFrame, standsOnce, nodeTests, isNode}
+use Rattle.rules.specs.Valid.{is_message, is_place, is_waiting, is_wiped, is_buffer, only_atomic, is_group, pending_has_line, runner_atomic, head_stays, is_swap, first_in_frame, runner_in_frame, stands_once, node_tests, is_node}
 
 -- Tests in general.
 
@@ -93,60 +93,60 @@ pub ruleset tells = (and-eq-true_iff, leb_tells, ltb-tells, eqb_tells, implies-t
 -- The tests of a node's parts.
 
 -- a queued message
-message-tells : (m : Message) → (isMessage m ≡ true) ↔ GoodMessage m
-unfolding isMessage
-message-tells m = (λ (h : isMessage m ≡ true). let k = simp tells at h in search, λ g. simp tells (search))
+message-tells : (m : Message) → (is_message m ≡ true) ↔ GoodMessage m
+unfolding is_message
+message-tells m = (λ (h : is_message m ≡ true). let k = simp tells at h in search, λ g. simp tells (search))
 
 -- a queue of them
-messages-tell : (q : List Message) → (all isMessage q ≡ true) ↔ Every GoodMessage q
-messages-tell = all-every isMessage GoodMessage message-tells
+messages-tell : (q : List Message) → (all is_message q ≡ true) ↔ Every GoodMessage q
+messages-tell = all-every is_message GoodMessage message-tells
 
 -- a place
-place-tells : (p : Place) → (isPlace p ≡ true) ↔ GoodPlace p
-unfolding isPlace
-place-tells p = (λ (h : isPlace p ≡ true). let k = simp tells at h in search, λ g. simp tells (search))
+place-tells : (p : Place) → (is_place p ≡ true) ↔ GoodPlace p
+unfolding is_place
+place-tells p = (λ (h : is_place p ≡ true). let k = simp tells at h in search, λ g. simp tells (search))
 
 -- places
-places-tell : (ps : List Place) → (all isPlace ps ≡ true) ↔ Every GoodPlace ps
-places-tell = all-every isPlace GoodPlace place-tells
+places-tell : (ps : List Place) → (all is_place ps ≡ true) ↔ Every GoodPlace ps
+places-tell = all-every is_place GoodPlace place-tells
 
 -- words that are 0
 pub zeros-tell : (ws : List ℕ) → (all (eqb 0) ws ≡ true) ↔ Every Zero ws
 zeros-tell = all-every (eqb 0) Zero (λ w. (λ e. sym (eqb-true 0 w e), λ e. eq-eqb 0 w (sym e)))
 
 -- a place where a message waits
-waiting-tells : (p : Place) → (isWaiting p ≡ true) ↔ GoodWaiting p
-unfolding isWaiting
+waiting-tells : (p : Place) → (is_waiting p ≡ true) ↔ GoodWaiting p
+unfolding is_waiting
 waiting-tells p =
-    (λ (h : isWaiting p ≡ true). let k = simp (tells, zeros-tell) at h in search, λ g. simp (tells, zeros-tell) (search))
+    (λ (h : is_waiting p ≡ true). let k = simp (tells, zeros-tell) at h in search, λ g. simp (tells, zeros-tell) (search))
 
 -- such places
-waitings-tell : (ps : List Place) → (all isWaiting ps ≡ true) ↔ Every GoodWaiting ps
-waitings-tell = all-every isWaiting GoodWaiting waiting-tells
+waitings-tell : (ps : List Place) → (all is_waiting ps ≡ true) ↔ Every GoodWaiting ps
+waitings-tell = all-every is_waiting GoodWaiting waiting-tells
 
 -- a place where none waits
-wiped-tells : (p : Place) → (isWiped p ≡ true) ↔ Wiped p
-unfolding isWiped
+wiped-tells : (p : Place) → (is_wiped p ≡ true) ↔ Wiped p
+unfolding is_wiped
 wiped-tells p =
-    (λ (h : isWiped p ≡ true). let k = simp (tells, zeros-tell) at h in search, λ g. simp (tells, zeros-tell) (search))
+    (λ (h : is_wiped p ≡ true). let k = simp (tells, zeros-tell) at h in search, λ g. simp (tells, zeros-tell) (search))
 
 -- such places
-all-wiped-tells : (ps : List Place) → (all isWiped ps ≡ true) ↔ Every Wiped ps
-all-wiped-tells = all-every isWiped Wiped wiped-tells
+all-wiped-tells : (ps : List Place) → (all is_wiped ps ≡ true) ↔ Every Wiped ps
+all-wiped-tells = all-every is_wiped Wiped wiped-tells
 
 -- flags that stand only with atomic
 flags-tell : (G : Group)
-    → (onlyAtomic G ≡ true)
+    → (only_atomic G ≡ true)
     ↔ ((G.pending ≡ true → G.atomic ≡ true) × ((G.force ≡ true → G.atomic ≡ true) × (G.revoked ≡ true → G.atomic ≡ true)))
-unfolding onlyAtomic
+unfolding only_atomic
 flags-tell G = rw (or_comm G.atomic) (simp (implies-tells, either-tells) Iff.rfl)
 
 module _ (b : Build) where
   -- a buffer
-  buffer-tells : (v : Buffer) → (isBuffer b v ≡ true) ↔ GoodBuffer b v
-  unfolding isBuffer
+  buffer-tells : (v : Buffer) → (is_buffer b v ≡ true) ↔ GoodBuffer b v
+  unfolding is_buffer
   buffer-tells v = (
-    λ (h : isBuffer b v ≡ true). let k = simp (tells, places-tell, waitings-tell, all-wiped-tells) at h in search,
+    λ (h : is_buffer b v ≡ true). let k = simp (tells, places-tell, waitings-tell, all-wiped-tells) at h in search,
     λ g. simp (tells, places-tell, waitings-tell, all-wiped-tells) (search),
   )
 
@@ -163,50 +163,50 @@ module _ (b : Build) where
   groups-tell = all-every (is_group b) (GoodGroup b) group-tells
 
   -- swap pages
-  swaps-tell : (ss : List ℕ) → (all (isSwap b) ss ≡ true) ↔ Every (IsSwap b) ss
-  unfolding isSwap
-  swaps-tell = all-every (isSwap b) (IsSwap b) (leb_tells b.frames)
+  swaps-tell : (ss : List ℕ) → (all (is_swap b) ss ≡ true) ↔ Every (IsSwap b) ss
+  unfolding is_swap
+  swaps-tell = all-every (is_swap b) (IsSwap b) (leb_tells b.frames)
 
   -- the first page of a list
-  first-tells : (ps : List ℕ) → (firstInFrame b ps ≡ true) ↔ FirstInFrame b ps
-  unfolding firstInFrame inFrame
+  first-tells : (ps : List ℕ) → (first_in_frame b ps ≡ true) ↔ FirstInFrame b ps
+  unfolding first_in_frame in_frame
   first-tells [] = (λ e. tt, λ u. refl)
   first-tells (p ∷ ps) = ltb-tells p b.frames
 
 -- each of the k first numbers stands once
-once-tells : (fs : List ℕ) (k : ℕ) → (all (standsOnce fs) (up_from 0 k) ≡ true) ↔ ((f : ℕ) → f < k → count_of f fs ≡ 1)
-unfolding standsOnce
+once-tells : (fs : List ℕ) (k : ℕ) → (all (stands_once fs) (up_from 0 k) ≡ true) ↔ ((f : ℕ) → f < k → count_of f fs ≡ 1)
+unfolding stands_once
 once-tells fs k =
-    let t = range-tells (standsOnce fs) 0 k in
+    let t = range-tells (stands_once fs) 0 k in
     (λ e f h. eqb-true _ 1 (t.0 e f (omega arith) (omega arith)), λ o. t.1 (λ f l h. eq-eqb _ 1 (o f (omega arith))))
 
 -- pending only with a line
 pending-tells : (n : Node)
-    → (all (pendingHasLine n) (up_from 1 groupCount) ≡ true)
-    ↔ ((g : ℕ) → 1 ≤ g → g ≤ groupCount → (group_of n g).pending ≡ true → is_empty (line n g) ≡ false)
-unfolding pendingHasLine
+    → (all (pending_has_line n) (up_from 1 group_count) ≡ true)
+    ↔ ((g : ℕ) → 1 ≤ g → g ≤ group_count → (group_of n g).pending ≡ true → is_empty (line n g) ≡ false)
+unfolding pending_has_line
 pending-tells n =
-    let t = range-tells (pendingHasLine n) 1 groupCount in (
+    let t = range-tells (pending_has_line n) 1 group_count in (
       λ e g l h. simp (implies-tells, not-tells) at (t.0 e g l (omega arith)),
       λ k. t.1 (λ g l h. simp (implies-tells, not-tells) (k g l (omega arith))),
     )
 
 -- a running group with a line is atomic
 runner-tells : (n : Node)
-    → (runnerAtomic n ≡ true) ↔ (1 ≤ n.running → is_empty (line n n.running) ≡ false → (group_of n n.running).atomic ≡ true)
-unfolding runnerAtomic
+    → (runner_atomic n ≡ true) ↔ (1 ≤ n.running → is_empty (line n n.running) ≡ false → (group_of n n.running).atomic ≡ true)
+unfolding runner_atomic
 runner-tells n = simp (or-tells, zero-tells) Iff.rfl
 
 -- a running group's first page is in a frame
-resident-tells : (b : Build) (n : Node) → (runnerInFrame b n ≡ true) ↔ (1 ≤ n.running → FirstInFrame b (group_of n n.running).buffer.frames)
-unfolding runnerInFrame
+resident-tells : (b : Build) (n : Node) → (runner_in_frame b n ≡ true) ↔ (1 ≤ n.running → FirstInFrame b (group_of n n.running).buffer.frames)
+unfolding runner_in_frame
 resident-tells b n = simp (or-tells, zero-tells, first-tells) Iff.rfl
 
 -- the head of the queue may stay, and without one the timer is 0 or forced
 head-tells : (n : Node) (q : List Message)
-    → (headStays q n ≡ true)
-    ↔ (((m : Message) (r : List Message) → q ≡ m ∷ r → mayStay n m ≡ true) × (q ≡ [] → forced n ≡ false → n.timer ≡ 0))
-unfolding headStays
+    → (head_stays q n ≡ true)
+    ↔ (((m : Message) (r : List Message) → q ≡ m ∷ r → may_stay n m ≡ true) × (q ≡ [] → forced n ≡ false → n.timer ≡ 0))
+unfolding head_stays
 head-tells n [] =
     let idle : (eqb n.timer 0 || forced n ≡ true) ↔ (forced n ≡ false → n.timer ≡ 0) = rw (or_comm (eqb n.timer 0)) (simp (or-tells, eqb_tells) Iff.rfl) in
     (λ e. (λ m r p. absurd (nil≢cons p), λ p. idle.0 e), λ h. idle.1 (h.1 refl))
@@ -217,13 +217,13 @@ ruleset node-facts =
     (passes-every, pending-tells, once-tells, runner-tells, resident-tells, head-tells, messages-tell, groups-tell, swaps-tell, leb_tells, ltb-tells, eqb_tells)
 
 -- what passes the tests of a build that makes sense is valid
-pub isNode-valid : (b : Build) (n : Node) → Sensible b → isNode b n ≡ true → Valid b n
-unfolding isNode nodeTests
-isNode-valid b n s h = let k = simp node-facts at h in search
+pub is_node-valid : (b : Build) (n : Node) → Sensible b → is_node b n ≡ true → Valid b n
+unfolding is_node node_tests
+is_node-valid b n s h = let k = simp node-facts at h in search
 
 -- and what is valid passes them
-pub valid-isNode : (b : Build) (n : Node) → Valid b n → isNode b n ≡ true
-unfolding isNode nodeTests
-valid-isNode b n v =
+pub valid-is_node : (b : Build) (n : Node) → Valid b n → is_node b n ≡ true
+unfolding is_node node_tests
+valid-is_node b n v =
     simp node-facts
     (search, (search, (search, (search, (search, (search, (v.frames-once, (search, (search, (v.entered-once, search))))))))))

@@ -10,23 +10,23 @@ use lib.Dec.{eqb}
 use lib.ListN.{length}
 use Rattle.rules.specs.Lists.{is_empty}
 use Rattle.rules.specs.Build.{Build}
-use Rattle.rules.specs.Node.{Node, withRunning, withTimer, withQueue, withGroup, buffered}
-use Rattle.rules.specs.Operation.{poll, peek, dispose, beginAtomic, endAtomic, describe, launch}
-use Rattle.rules.specs.Operation.{Operation, arrive, schedule, preempt, dispatch, tick, turn, user, unknown, accepted, refused, noTrap, disposeExtend}
+use Rattle.rules.specs.Node.{Node, with_running, with_timer, with_queue, with_group, buffered}
+use Rattle.rules.specs.Operation.{poll, peek, dispose, begin_atomic, end_atomic, describe, launch}
+use Rattle.rules.specs.Operation.{Operation, arrive, schedule, preempt, dispatch, tick, turn, user, unknown, accepted, refused, no_trap, dispose_extend}
 use Rattle.rules.specs.Refusal.{refusal, queued}
 use Rattle.rules.specs.Settling.{settle, drain}
-use Rattle.rules.specs.Step.{Effect, Stepped, valued, preempted, timerFlagged, revoke, timedOut, ticks, flagged, disposed, sectionBegun, sectionEnded, extending, described, launched, serve, act, finish, inARow, step}
-use Rattle.rules.specs.Run.{wasAccepted, disposedBy, leftBy, tickedBy}
+use Rattle.rules.specs.Step.{Effect, Stepped, valued, preempted, timer_flagged, revoke, timed_out, ticks, flagged, disposed, section_begun, section_ended, extending, described, launched, serve, act, finish, in_arow, step}
+use Rattle.rules.specs.Run.{was_accepted, disposed_by, left_by, ticked_by}
 use Rattle.rules.specs.Valid.{Valid}
 use Rattle.rules.proofs.Steps.SettlingLaws.{runs-queued, settle-keeps, settle-moved, drain-queue}
 use Rattle.rules.proofs.Steps.LineLaws.{nobody-empty, buffered-empty}
-use Rattle.rules.proofs.Steps.TickLaws.{timed, leftOver, Ticked, idle, counting, timeout, ticked-by}
+use Rattle.rules.proofs.Steps.TickLaws.{timed, left_over, Ticked, idle, counting, timeout, ticked-by}
 use Rattle.rules.proofs.Steps.ActLaws.{dispatched}
 use Rattle.rules.proofs.Steps.StepLaws.{finish-queue, finish-timer, given-empty, step-law}
 use Rattle.rules.proofs.Steps.SwitchLaws.{nobody-emptied}
 use Rattle.rules.proofs.Private.RequestLaws.{suc-zero}
 use Rattle.rules.proofs.Steps.ListLaws.{some-length}
-use Rattle.rules.proofs.Private.EventLaws.{eventOf, refusal-answer, ticked-none}
+use Rattle.rules.proofs.Private.EventLaws.{event_of, refusal-answer, ticked-none}
 use Rattle.rules.proofs.Runs.RunQueue.{taken}
 
 -- What an accepted operation does to the timer, where the queue had a message and one stays after settling. l is how many leave.
@@ -49,7 +49,7 @@ module _ {b : Build} {n : Node} (v : Valid b n) (some : is_empty n.queue ≡ fal
   tick-timer : (k : ℕ) → is_empty (settle b (ticks b k (valued 0 n)).node).node.queue ≡ false
       → k + n.timer
       ≤ b.timeout * (taken (tick k) (ticks b k (valued 0 n)) + (settle b (ticks b k (valued 0 n)).node).moved) + (ticks b k (valued 0 n)).node.timer
-  unfolding valued timed timedOut revoke timerFlagged withTimer withGroup
+  unfolding valued timed timed_out revoke timer_flagged with_timer with_group
   tick-timer k = go (ticked-by v k)
     where
       Goal : Effect → Type 0
@@ -60,22 +60,22 @@ module _ {b : Build} {n : Node} (v : Valid b n) (some : is_empty n.queue ≡ fal
       go : Ticked b k n → Goal (ticks b k (valued 0 n))
       go (idle rests e) = absurd (true≢false (sym (runs-queued n some) ∙ rests))
       go (counting q h e) = subst Goal (sym e) (λ s. omega arith)
-      go (timeout q e) = subst Goal (sym e) (λ s. absurd (left-some (withTimer (leftOver b k n) (revoke (drain b n.queue n))) s (drain-queue b n.queue n)))
+      go (timeout q e) = subst Goal (sym e) (λ s. absurd (left-some (with_timer (left_over b k n) (revoke (drain b n.queue n))) s (drain-queue b n.queue n)))
 
   -- D
   dispose-timer : (l : ℕ)
-      → 0 + n.timer ≤ b.timeout * (0 + cond (eqb (cond (buffered n n.running) disposeExtend noTrap) noTrap) 1 0 + l) + 0
+      → 0 + n.timer ≤ b.timeout * (0 + cond (eqb (cond (buffered n n.running) dispose_extend no_trap) no_trap) 1 0 + l) + 0
   dispose-timer l = go (buffered n n.running) refl
     where
       go : (t : Bool)
           → buffered n n.running ≡ t
-          → 0 + n.timer ≤ b.timeout * (0 + cond (eqb (cond t disposeExtend noTrap) noTrap) 1 0 + l) + 0
+          → 0 + n.timer ≤ b.timeout * (0 + cond (eqb (cond t dispose_extend no_trap) no_trap) 1 0 + l) + 0
       go true t = absurd (queue-some (buffered-empty v t))
       go false t = omega (arith, paid (0 + 1 + l) (omega arith))
 
   act-timer : (op : Operation) → refusal b n op ≡ 0 → is_empty (settle b (act b n op).node).node.queue ≡ false
-      → tickedBy op true + n.timer ≤ b.timeout * (taken op (act b n op) + (settle b (act b n op).node).moved) + (act b n op).node.timer
-  unfolding act tickedBy refusal valued taken disposedBy serve extending launched described sectionBegun sectionEnded flagged timerFlagged withGroup queued withQueue disposed preempted withTimer withRunning
+      → ticked_by op true + n.timer ≤ b.timeout * (taken op (act b n op) + (settle b (act b n op).node).moved) + (act b n op).node.timer
+  unfolding act ticked_by refusal valued taken disposed_by serve extending launched described section_begun section_ended flagged timer_flagged with_group queued with_queue disposed preempted with_timer with_running
   act-timer (arrive h ws) z s = omega arith
   act-timer preempt z s = absurd (true≢false (ap is_empty (sym (nobody-emptied b (preempted n) refl v.queue-good)) ∙ s))
   act-timer (dispatch h) z s = absurd (queue-some (nobody-empty v (dispatched n h z).nobody))
@@ -85,17 +85,17 @@ module _ {b : Build} {n : Node} (v : Valid b n) (some : is_empty n.queue ≡ fal
   act-timer (user poll) z s = omega arith
   act-timer (user (peek i)) z s = omega arith
   act-timer (user dispose) z s = dispose-timer (settle b (disposed b n)).moved
-  act-timer (user (beginAtomic force)) z s = omega arith
-  act-timer (user endAtomic) z s = omega arith
+  act-timer (user (begin_atomic force)) z s = omega arith
+  act-timer (user end_atomic) z s = omega arith
   act-timer (user (describe w)) z s = omega arith
   act-timer (user (launch k)) z s = omega arith
   act-timer unknown z s = suc-zero z
 
 -- a step
 pub step-timer : {b : Build} {n : Node} → Valid b n → is_empty n.queue ≡ false → (op : Operation) → is_empty (step b n op).node.queue ≡ false
-    → tickedBy op (eqb (step b n op).report.answer accepted) + n.timer
-    ≤ b.timeout * leftBy (eventOf n op (step b n op)) + (step b n op).node.timer
-unfolding finish inARow leftBy wasAccepted taken tickedBy disposedBy
+    → ticked_by op (eqb (step b n op).report.answer accepted) + n.timer
+    ≤ b.timeout * left_by (event_of n op (step b n op)) + (step b n op).node.timer
+unfolding finish in_arow left_by was_accepted taken ticked_by disposed_by
 step-timer {b} v some op =
     step-law Goal
     (record {
@@ -111,21 +111,21 @@ step-timer {b} v some op =
     Goal n op s =
         is_empty n.queue ≡ false
         → is_empty s.node.queue ≡ false
-        → tickedBy op (eqb s.report.answer accepted) + n.timer
-        ≤ b.timeout * leftBy (eventOf n op s) + s.node.timer
+        → ticked_by op (eqb s.report.answer accepted) + n.timer
+        ≤ b.timeout * left_by (event_of n op s) + s.node.timer
 
     refused-timer : (n : Node) (op : Operation) (r : ℕ) → Goal n op (record { report = refused (suc r); node = n })
     refused-timer n op r some s = rw (refusal-answer r, ticked-none op) (omega arith)
 
     finished : {n : Node} → Valid b n → is_empty n.queue ≡ false → (op : Operation) → refusal b n op ≡ 0
         → is_empty (finish b (act b n op)).node.queue ≡ false
-        → tickedBy op true + n.timer ≤ b.timeout * leftBy (eventOf n op (finish b (act b n op))) + (finish b (act b n op)).node.timer
+        → ticked_by op true + n.timer ≤ b.timeout * left_by (event_of n op (finish b (act b n op))) + (finish b (act b n op)).node.timer
     finished {n} v some op z s =
         let e : Effect = act b n op in
         let k : Node = (settle b e.node).node in
         let left : is_empty k.queue ≡ false = ap is_empty (sym (finish-queue b e)) ∙ s in
         let kept : (finish b e).node.timer ≡ e.node.timer = finish-timer b e ∙ settle-keeps b e.node (runs-queued k left) in
-        let d : ℕ = disposedBy op (eqb e.trap noTrap) in
+        let d : ℕ = disposed_by op (eqb e.trap no_trap) in
         let m : ℕ = (settle b e.node).moved in
         let order : b.timeout * (e.moved + d + m) ≡ b.timeout * (e.moved + m + d) = ap (λ (x : ℕ). b.timeout * x) (omega arith) in
         omega (arith, act-timer v some op z left, order, kept)

@@ -11,14 +11,14 @@ use lib.Dec.{ltb, leb, eqb}
 use lib.ListN.{length, drop}
 use borrow.Author.Tests.{ltb-true, ltb-false, eq-eqb}
 use Rattle.rules.specs.Lists.{is_empty}
-use Rattle.rules.specs.Build.{Build, pageCount, groupCount, wordLimit}
-use Rattle.rules.specs.Node.{Message, Buffer, Group, Node, powerOn, group_of, withTimer, withQueue, withFree, withPaging, withGroup, with_flags, withTimerFlags, withDescriptor, bufferHolds, forced, timerRuns, waiting}
-use Rattle.rules.specs.Frames.{Stock, freeFirst, useUp, removeFirst, withStock, pledges}
-use Rattle.rules.specs.Operation.{Request, poll, peek, dispose, beginAtomic, endAtomic, describe, launch}
-use Rattle.rules.specs.Operation.{Operation, arrive, schedule, preempt, dispatch, tick, turn, user, unknown, accepted, badGroup, badWords, queueFull, noFrames, nobodyRuns, noTrap, disposeExtend, atomicityExtend}
-use Rattle.rules.specs.Refusal.{queued, refuseArrive, refusePeek, refuseDispose, refuseEnd, refuseDescribe, refuseLaunch, refuseRequest, refuseDispatch, refusal}
+use Rattle.rules.specs.Build.{Build, page_count, group_count, word_limit}
+use Rattle.rules.specs.Node.{Message, Buffer, Group, Node, power_on, group_of, with_timer, with_queue, with_free, with_paging, with_group, with_flags, with_timer_flags, with_descriptor, buffer_holds, forced, timer_runs, waiting}
+use Rattle.rules.specs.Frames.{Stock, free_first, use_up, remove_first, with_stock, pledges}
+use Rattle.rules.specs.Operation.{Request, poll, peek, dispose, begin_atomic, end_atomic, describe, launch}
+use Rattle.rules.specs.Operation.{Operation, arrive, schedule, preempt, dispatch, tick, turn, user, unknown, accepted, bad_group, bad_words, queue_full, no_frames, nobody_runs, no_trap, dispose_extend, atomicity_extend}
+use Rattle.rules.specs.Refusal.{queued, refuse_arrive, refuse_peek, refuse_dispose, refuse_end, refuse_describe, refuse_launch, refuse_request, refuse_dispatch, refusal}
 use Rattle.rules.specs.Settling.{settle, drain, calls, upcall}
-use Rattle.rules.specs.Step.{Effect, Stepped, valued, preempted, timerFlagged, revoke, timedOut, ticks, firstLength, first_word, withoutFirst, removed, flagged, disposed, sectionBegun, sectionEnded, extending, described, launched, serve, act, finish, inARow, step}
+use Rattle.rules.specs.Step.{Effect, Stepped, valued, preempted, timer_flagged, revoke, timed_out, ticks, first_length, first_word, without_first, removed, flagged, disposed, section_begun, section_ended, extending, described, launched, serve, act, finish, in_arow, step}
 use Rattle.rules.specs.Run.{Input, asked, play, run}
 use Rattle.rules.specs.Sound.{Sound}
 use Rattle.rules.specs.Unseen.{SameButFrames, PagingUnseen}
@@ -29,7 +29,7 @@ use Rattle.rules.proofs.Steps.NodeLaws.{stock-same, stock-other, within, group-g
 use Rattle.rules.proofs.Steps.PagingLaws.{runner-repaged, runner-sound}
 use Rattle.rules.proofs.Steps.SettlingLaws.{settle-sound, drain-sound, drain-running}
 use Rattle.rules.proofs.Steps.LineLaws.{timer-timed, removed-running}
-use Rattle.rules.proofs.Steps.TickLaws.{timed, leftOver, ticks-idle, ticks-counted, ticks-timeout}
+use Rattle.rules.proofs.Steps.TickLaws.{timed, left_over, ticks-idle, ticks-counted, ticks-timeout}
 use Rattle.rules.proofs.Steps.ActLaws.{valid-ready, flagged-ready, timer-flagged-ready, removed-sound, user-accepted}
 use Rattle.rules.proofs.Steps.StepLaws.{calls-group, act-sound, step-accepted, step-refused, schedule-still, schedule-takes, taken, given, schedule-switches, step-taken, step_given, taken-valid, step-law, step-valid, power-on-valid}
 use Rattle.rules.proofs.Steps.TurnLaws.{turn-same}
@@ -50,10 +50,10 @@ record AlikeStepped (s t : Stepped) : Type 0 where
 
 -- the running groups exchanged for such that are alike
 runner-group : {b c : Build} {n k : Node} → Sound b n → Sound c k → Alike n k → 1 ≤ n.running → (G H : Group) → AlikeGroup G H
-    → Alike (withGroup n.running G n) (withGroup k.running H k)
+    → Alike (with_group n.running G n) (with_group k.running H k)
 runner-group {n = n} {k} s t a low G H e =
     let high = s.running-bound in
-    subst (λ (r : ℕ). Alike (withGroup n.running G n) (withGroup r H k)) a.running
+    subst (λ (r : ℕ). Alike (with_group n.running G n) (with_group r H k)) a.running
     (alike-group a n.running low (within s n.running low high) (within t n.running low high) G H e)
 
 -- an upcall
@@ -62,7 +62,7 @@ unfolding upcall with_flags
 alike-upcall {n = n} {k} s t a = go (calls n) (calls k) refl (alike-calls a s.running-bound)
   where
     on : (x : Node) → Node
-    on x = withGroup x.running (with_flags true true (group_of x x.running)) x
+    on x = with_group x.running (with_flags true true (group_of x x.running)) x
 
     go : (u w : Bool) → calls n ≡ u → u ≡ w → Alike (cond u (on n) n) (cond w (on k) k)
     go true false e same = absurd (true≢false same)
@@ -114,16 +114,16 @@ alike-valued a x y e = record { node = a; value = e; trap = refl; moved = refl; 
 alike-queued : {n k : Node} → Alike n k → (m : Message) → Alike (queued m n) (queued m k)
 unfolding queued
 alike-queued {n} {k} a m =
-    subst (λ (q : List Message). Alike (withQueue (n.queue ++ (m ∷ [])) n) (withQueue q k)) (ap (λ (q : List Message). q ++ (m ∷ [])) a.queue)
+    subst (λ (q : List Message). Alike (with_queue (n.queue ++ (m ∷ [])) n) (with_queue q k)) (ap (λ (q : List Message). q ++ (m ∷ [])) a.queue)
     (alike-queue a (n.queue ++ (m ∷ [])))
 
 -- the running group's flags force and revoked
 alike-timer-flagged : {b c : Build} {n k : Node} → Sound b n → Sound c k → Alike n k → 1 ≤ n.running → (x y x' y' : Bool) → x ≡ x' → y ≡ y'
-    → Alike (timerFlagged x y n) (timerFlagged x' y' k)
-unfolding timerFlagged withTimerFlags
+    → Alike (timer_flagged x y n) (timer_flagged x' y' k)
+unfolding timer_flagged with_timer_flags
 alike-timer-flagged {n = n} {k} s t a low x y x' y' e f =
     let mine = runner-alike a low s.running-bound in
-    runner-group s t a low (withTimerFlags x y (group_of n n.running)) (withTimerFlags x' y' (group_of k k.running))
+    runner-group s t a low (with_timer_flags x y (group_of n n.running)) (with_timer_flags x' y' (group_of k k.running))
     (record {
       flags = record { atomic = mine.flags.atomic; pending = mine.flags.pending; force = e; revoked = f; descriptor = mine.flags.descriptor };
       used = mine.used;
@@ -134,25 +134,25 @@ alike-timer-flagged {n = n} {k} s t a low x y x' y' e f =
 -- T
 alike-ticks : {b c : Build} → SameButFrames b c → {n k : Node} → Valid b n → Valid c k → Alike n k → (i : ℕ)
     → AlikeEffect (ticks b i (valued 0 n)) (ticks c i (valued 0 k))
-unfolding valued timed timedOut revoke withTimer withQueue
-alike-ticks {b} {c} same {n} {k} v w a i = go (timerRuns n) refl (ltb (n.timer + i) b.timeout) refl
+unfolding valued timed timed_out revoke with_timer with_queue
+alike-ticks {b} {c} same {n} {k} v w a i = go (timer_runs n) refl (ltb (n.timer + i) b.timeout) refl
   where
-    runs : timerRuns n ≡ timerRuns k
+    runs : timer_runs n ≡ timer_runs k
     runs = alike_runs a v.running-bound
 
     drained : Alike (drain b n.queue n) (drain c k.queue k)
     drained =
-        let t : Sound c (withQueue n.queue k) = subst (λ (q : List Message). Sound c (withQueue q k)) (sym a.queue) (valid-sound w) in
+        let t : Sound c (with_queue n.queue k) = subst (λ (q : List Message). Sound c (with_queue q k)) (sym a.queue) (valid-sound w) in
         subst (λ (q : List Message). Alike (drain b n.queue n) (drain c q k)) a.queue (alike-drained n.queue (valid-sound v) t a)
 
-    late : leftOver b i n ≡ leftOver c i k
+    late : left_over b i n ≡ left_over c i k
     late =
-        unfold leftOver in
+        unfold left_over in
         ap (λ (t : Bool). cond t ((n.timer + i) % b.timeout) 0) (alike-forced a v.running-bound)
         ∙ ap (λ (t : ℕ). cond (forced k) ((t + i) % b.timeout) 0) a.timer
         ∙ ap (λ (t : ℕ). cond (forced k) ((k.timer + i) % t) 0) same.timeout
 
-    out : timerRuns n ≡ true → AlikeEffect (timed (leftOver b i n) (timedOut b (valued 0 n))) (timed (leftOver c i k) (timedOut c (valued 0 k)))
+    out : timer_runs n ≡ true → AlikeEffect (timed (left_over b i n) (timed_out b (valued 0 n))) (timed (left_over c i k) (timed_out c (valued 0 k)))
     out ticks =
         let x = drain b n.queue n in
         let low : 1 ≤ x.running = rw (drain-running b n.queue n) (timer-timed v ticks).runs in
@@ -161,20 +161,20 @@ alike-ticks {b} {c} same {n} {k} v w a i = go (timerRuns n) refl (ltb (n.timer +
         alike-timer-flagged s (drain-sound k.queue k (valid-sound w)) drained low _ true _ true
         (runner-alike drained low s.running-bound).flags.force refl in
         record {
-          node = subst (λ (t : ℕ). Alike (withTimer (leftOver b i n) (revoke x)) (withTimer t (revoke (drain c k.queue k)))) late
-              (alike-timer marked (leftOver b i n));
+          node = subst (λ (t : ℕ). Alike (with_timer (left_over b i n) (revoke x)) (with_timer t (revoke (drain c k.queue k)))) late
+              (alike-timer marked (left_over b i n));
           value = refl;
           trap = refl;
           moved = ap (λ (q : List Message). 0 + length q) a.queue;
           sent = refl;
         }
 
-    go : (t : Bool) → timerRuns n ≡ t → (u : Bool) → ltb (n.timer + i) b.timeout ≡ u → AlikeEffect (ticks b i (valued 0 n)) (ticks c i (valued 0 k))
+    go : (t : Bool) → timer_runs n ≡ t → (u : Bool) → ltb (n.timer + i) b.timeout ≡ u → AlikeEffect (ticks b i (valued 0 n)) (ticks c i (valued 0 k))
     go false e u f = rw (ticks-idle b i n e, ticks-idle c i k (sym runs ∙ e)) (alike-valued a 0 0 refl)
     go true e true f =
         let below = ltb-true _ _ f in
         rw (ticks-counted b i n e below, ticks-counted c i k (sym runs ∙ e) (omega (arith, a.timer, same.timeout)))
-        (alike-valued (subst (λ (t : ℕ). Alike (withTimer (n.timer + i) n) (withTimer (t + i) k)) a.timer (alike-timer a (n.timer + i))) 0 0 refl)
+        (alike-valued (subst (λ (t : ℕ). Alike (with_timer (n.timer + i) n) (with_timer (t + i) k)) a.timer (alike-timer a (n.timer + i))) 0 0 refl)
     go true e false f =
         let reached = ltb-false _ _ f in
         rw (
@@ -185,27 +185,27 @@ alike-ticks {b} {c} same {n} {k} v w a i = go (timerRuns n) refl (ltb (n.timer +
 
 -- what is left of a buffer's counts when its first message is removed
 removed-counts : (b : Build) (fs es : List ℕ) (u : Buffer)
-    → ((removeFirst b fs es u).buffer.used ≡ cond (eqb u.count 1 || eqb (u.used + 1) b.perFrame) 0 (u.used + 1))
-    × ((removeFirst b fs es u).buffer.count ≡ u.count - 1)
-unfolding removeFirst freeFirst useUp
-removed-counts b fs es u = go (eqb u.count 1 || eqb (u.used + 1) b.perFrame)
+    → ((remove_first b fs es u).buffer.used ≡ cond (eqb u.count 1 || eqb (u.used + 1) b.per_frame) 0 (u.used + 1))
+    × ((remove_first b fs es u).buffer.count ≡ u.count - 1)
+unfolding remove_first free_first use_up
+removed-counts b fs es u = go (eqb u.count 1 || eqb (u.used + 1) b.per_frame)
   where
-    go : (t : Bool) → ((cond t (freeFirst b fs es u) (useUp fs es u)).buffer.used ≡ cond t 0 (u.used + 1)) × ((cond t (freeFirst b fs es u) (useUp fs es u)).buffer.count ≡ u.count - 1)
+    go : (t : Bool) → ((cond t (free_first b fs es u) (use_up fs es u)).buffer.used ≡ cond t 0 (u.used + 1)) × ((cond t (free_first b fs es u) (use_up fs es u)).buffer.count ≡ u.count - 1)
     go true = (refl, refl)
     go false = (refl, refl)
 
 -- the first message of a buffer removed
-module _ {b c : Build} (same : SameButFrames b c) {n k : Node} (s : Sound b n) (t : Sound c k) (a : Alike n k) (g : ℕ) (low : 1 ≤ g) (high : g ≤ groupCount)
-    (e : bufferHolds n g ≡ true) (f : bufferHolds k g ≡ true) where
+module _ {b c : Build} (same : SameButFrames b c) {n k : Node} (s : Sound b n) (t : Sound c k) (a : Alike n k) (g : ℕ) (low : 1 ≤ g) (high : g ≤ group_count)
+    (e : buffer_holds n g ≡ true) (f : buffer_holds k g ≡ true) where
   abbrev left : Stock
-  left = removeFirst b n.free n.paging.entered (group_of n g).buffer
+  left = remove_first b n.free n.paging.entered (group_of n g).buffer
 
   abbrev right : Stock
-  right = removeFirst c k.free k.paging.entered (group_of k g).buffer
+  right = remove_first c k.free k.paging.entered (group_of k g).buffer
 
   -- its group
-  unbuffered-own : AlikeGroup (group_of (withStock g left n) g) (group_of (withStock g right k) g)
-  unfolding bufferHolds
+  unbuffered-own : AlikeGroup (group_of (with_stock g left n) g) (group_of (with_stock g right k) g)
+  unfolding buffer_holds
   unbuffered-own =
       let x = a.groups g low high in
       let v = (group_of n g).buffer in
@@ -216,8 +216,8 @@ module _ {b c : Build} (same : SameButFrames b c) {n k : Node} (s : Sound b n) (
       let counts' = removed-counts c k.free k.paging.entered w in
       let gone = removed-first (group-good s g low high).buffer (ltb-true 0 v.count e) n.free n.paging.entered in
       let gone' = removed-first (group-good t g low high).buffer (ltb-true 0 w.count f) k.free k.paging.entered in
-      let used : cond (eqb v.count 1 || eqb (v.used + 1) b.perFrame) 0 (v.used + 1)
-      ≡ cond (eqb w.count 1 || eqb (w.used + 1) c.perFrame) 0 (w.used + 1) = rw (x.count, x.used, same.perFrame) in
+      let used : cond (eqb v.count 1 || eqb (v.used + 1) b.per_frame) 0 (v.used + 1)
+      ≡ cond (eqb w.count 1 || eqb (w.used + 1) c.per_frame) 0 (w.used + 1) = rw (x.count, x.used, same.per_frame) in
       record {
         flags = flags-trans (restocked-flags g left n g) (flags-trans x.flags (flags-sym (restocked-flags g right k g)));
         used = ap (λ (u : Buffer). u.used) p ∙ counts.0 ∙ used ∙ sym (ap (λ (u : Buffer). u.used) q ∙ counts'.0);
@@ -226,7 +226,7 @@ module _ {b c : Build} (same : SameButFrames b c) {n k : Node} (s : Sound b n) (
       }
 
   -- and the others
-  unbuffered-other : (h : ℕ) → 1 ≤ h → h ≤ groupCount → h ≢ g → AlikeGroup (group_of (withStock g left n) h) (group_of (withStock g right k) h)
+  unbuffered-other : (h : ℕ) → 1 ≤ h → h ≤ group_count → h ≢ g → AlikeGroup (group_of (with_stock g left n) h) (group_of (with_stock g right k) h)
   unbuffered-other h low' high' other =
       let x = a.groups h low' high' in
       let p = stock-other g h left n low low' other in
@@ -238,12 +238,12 @@ module _ {b c : Build} (same : SameButFrames b c) {n k : Node} (s : Sound b n) (
         waits = ap waiting p ∙ x.waits ∙ sym (ap waiting q);
       }
 
-  alike-unbuffered : Alike (withStock g left n) (withStock g right k)
-  unfolding withStock withGroup withFree withPaging
+  alike-unbuffered : Alike (with_stock g left n) (with_stock g right k)
+  unfolding with_stock with_group with_free with_paging
   alike-unbuffered =
       record { running = a.running; timer = a.timer; queue = a.queue; groups = λ h low' high'. go h low' high' (ℕ_discrete h g) }
     where
-      go : (h : ℕ) → 1 ≤ h → h ≤ groupCount → Dec (h ≡ g) → AlikeGroup (group_of (withStock g left n) h) (group_of (withStock g right k) h)
+      go : (h : ℕ) → 1 ≤ h → h ≤ group_count → Dec (h ≡ g) → AlikeGroup (group_of (with_stock g left n) h) (group_of (with_stock g right k) h)
       go h low' high' (yes mine) = rw mine unbuffered-own
       go h low' high' (no other) = unbuffered-other h low' high' other
 
@@ -266,12 +266,12 @@ atomic-sound : {b : Build} {n : Node} → Valid b n → 1 ≤ n.running → Soun
 atomic-sound {b} {n} v low =
     (flagged-ready (valid-ready v) low true (group_of n n.running).pending (λ e. refl) (λ e. e) (λ e. refl) (λ e. refl)).sound
 
-unforced-sound : {b : Build} {n : Node} → Valid b n → 1 ≤ n.running → Sound b (timerFlagged false false n)
+unforced-sound : {b : Build} {n : Node} → Valid b n → 1 ≤ n.running → Sound b (timer_flagged false false n)
 unforced-sound v low = (timer-flagged-ready (valid-ready v) low false false (λ e. absurd (false≢true e)) (λ e. absurd (false≢true e))).sound
 
 -- M to L.
 module _ {b c : Build} (same : SameButFrames b c) {n k : Node} (v : Valid b n) (w : Valid c k) (a : Alike n k) (low : 1 ≤ n.running) where
-  high : n.running ≤ groupCount
+  high : n.running ≤ group_count
   high = v.running-bound
 
   mine : AlikeGroup (group_of n n.running) (group_of k k.running)
@@ -279,9 +279,9 @@ module _ {b c : Build} (same : SameButFrames b c) {n k : Node} (v : Valid b n) (
 
   -- the running group's descriptor
   alike-described : (d d' : List ℕ) → d ≡ d' → Alike (described d n) (described d' k)
-  unfolding described withDescriptor
+  unfolding described with_descriptor
   alike-described d d' e =
-      runner-group (valid-sound v) (valid-sound w) a low (withDescriptor d (group_of n n.running)) (withDescriptor d' (group_of k k.running))
+      runner-group (valid-sound v) (valid-sound w) a low (with_descriptor d (group_of n n.running)) (with_descriptor d' (group_of k k.running))
       (record {
         flags = record {
           atomic = mine.flags.atomic;
@@ -299,32 +299,32 @@ module _ {b c : Build} (same : SameButFrames b c) {n k : Node} (v : Valid b n) (
   alike-extending : (t : ℕ) {n' k' : Node} → Alike n' k' → AlikeEffect (extending t n n') (extending t k k')
   unfolding extending
   alike-extending t e =
-      record { node = e; value = refl; trap = ap (λ (u : Bool). cond u t noTrap) (runner-buffered a low high); moved = refl; sent = refl }
+      record { node = e; value = refl; trap = ap (λ (u : Bool). cond u t no_trap) (runner-buffered a low high); moved = refl; sent = refl }
 
   -- D
   alike-removed : Alike (removed b n) (removed c k)
   unfolding removed
-  alike-removed = go (bufferHolds n n.running) (bufferHolds k k.running) refl refl (runner-holds a low high)
+  alike-removed = go (buffer_holds n n.running) (buffer_holds k k.running) refl refl (runner-holds a low high)
     where
-      stocked : bufferHolds n n.running ≡ true → bufferHolds k k.running ≡ true
-          → Alike (withStock n.running (removeFirst b n.free n.paging.entered (group_of n n.running).buffer) n)
-          (withStock k.running (removeFirst c k.free k.paging.entered (group_of k k.running).buffer) k)
+      stocked : buffer_holds n n.running ≡ true → buffer_holds k k.running ≡ true
+          → Alike (with_stock n.running (remove_first b n.free n.paging.entered (group_of n n.running).buffer) n)
+          (with_stock k.running (remove_first c k.free k.paging.entered (group_of k k.running).buffer) k)
       stocked e f =
-          let f' : bufferHolds k n.running ≡ true = ap (bufferHolds k) a.running ∙ f in
+          let f' : buffer_holds k n.running ≡ true = ap (buffer_holds k) a.running ∙ f in
           subst
           (λ (r : ℕ).
-          Alike (withStock n.running (removeFirst b n.free n.paging.entered (group_of n n.running).buffer) n)
-          (withStock r (removeFirst c k.free k.paging.entered (group_of k r).buffer) k))
+          Alike (with_stock n.running (remove_first b n.free n.paging.entered (group_of n n.running).buffer) n)
+          (with_stock r (remove_first c k.free k.paging.entered (group_of k r).buffer) k))
           a.running (alike-unbuffered same (valid-sound v) (valid-sound w) a n.running low high e f')
 
-      unqueued : Alike (withQueue (withoutFirst n.running n.queue) n) (withQueue (withoutFirst k.running k.queue) k)
+      unqueued : Alike (with_queue (without_first n.running n.queue) n) (with_queue (without_first k.running k.queue) k)
       unqueued =
-          subst (λ (q : List Message). Alike (withQueue (withoutFirst n.running n.queue) n) (withQueue q k))
-          (ap (λ (r : ℕ). withoutFirst r n.queue) a.running ∙ ap (withoutFirst k.running) a.queue) (alike-queue a (withoutFirst n.running n.queue))
+          subst (λ (q : List Message). Alike (with_queue (without_first n.running n.queue) n) (with_queue q k))
+          (ap (λ (r : ℕ). without_first r n.queue) a.running ∙ ap (without_first k.running) a.queue) (alike-queue a (without_first n.running n.queue))
 
-      go : (u x : Bool) → bufferHolds n n.running ≡ u → bufferHolds k k.running ≡ x → bufferHolds n n.running ≡ bufferHolds k k.running
-          → Alike (cond u (withStock n.running (removeFirst b n.free n.paging.entered (group_of n n.running).buffer) n) (withQueue (withoutFirst n.running n.queue) n))
-          (cond x (withStock k.running (removeFirst c k.free k.paging.entered (group_of k k.running).buffer) k) (withQueue (withoutFirst k.running k.queue) k))
+      go : (u x : Bool) → buffer_holds n n.running ≡ u → buffer_holds k k.running ≡ x → buffer_holds n n.running ≡ buffer_holds k k.running
+          → Alike (cond u (with_stock n.running (remove_first b n.free n.paging.entered (group_of n n.running).buffer) n) (with_queue (without_first n.running n.queue) n))
+          (cond x (with_stock k.running (remove_first c k.free k.paging.entered (group_of k k.running).buffer) k) (with_queue (without_first k.running k.queue) k))
       go true true e f r = stocked e f
       go true false e f r = absurd (true≢false (sym e ∙ r ∙ f))
       go false true e f r = absurd (true≢false (sym f ∙ sym r ∙ e))
@@ -338,16 +338,16 @@ module _ {b c : Build} (same : SameButFrames b c) {n k : Node} (v : Valid b n) (
       alike-timer (alike-flagged (removed-sound v low) (removed-sound w low') alike-removed runs _ _ _ _ mine.flags.atomic refl) 0
 
   -- B
-  alike-begun : (force : Bool) → Alike (sectionBegun force n) (sectionBegun force k)
-  unfolding sectionBegun flagged withGroup
+  alike-begun : (force : Bool) → Alike (section_begun force n) (section_begun force k)
+  unfolding section_begun flagged with_group
   alike-begun force =
       alike-timer-flagged (atomic-sound v low) (atomic-sound w (omega (arith, a.running)))
       (alike-flagged (valid-sound v) (valid-sound w) a low true _ true _ refl mine.flags.pending) low _ _ _ _
       (ap (λ (t : Bool). force || t) mine.flags.force) mine.flags.revoked
 
   -- N
-  alike-ended : Alike (sectionEnded n) (sectionEnded k)
-  unfolding sectionEnded timerFlagged withGroup
+  alike-ended : Alike (section_ended n) (section_ended k)
+  unfolding section_ended timer_flagged with_group
   alike-ended =
       alike-flagged (unforced-sound v low) (unforced-sound w (omega (arith, a.running)))
       (alike-timer-flagged (valid-sound v) (valid-sound w) a low false false false false refl refl) low false _ false _ refl mine.flags.pending
@@ -355,11 +355,11 @@ module _ {b c : Build} (same : SameButFrames b c) {n k : Node} (v : Valid b n) (
   -- an accepted request
   alike-served : (r : Request) → AlikeEffect (serve b n r) (serve c k r)
   unfolding serve launched
-  alike-served poll = alike-valued a _ _ (ap firstLength (runner-line a low high))
+  alike-served poll = alike-valued a _ _ (ap first_length (runner-line a low high))
   alike-served (peek i) = alike-valued a _ _ (ap (λ (l : List Message). first_word l i) (runner-line a low high))
-  alike-served dispose = alike-extending disposeExtend alike-disposed
-  alike-served (beginAtomic force) = alike-valued (alike-begun force) 0 0 refl
-  alike-served endAtomic = alike-extending atomicityExtend alike-ended
+  alike-served dispose = alike-extending dispose_extend alike-disposed
+  alike-served (begin_atomic force) = alike-valued (alike-begun force) 0 0 refl
+  alike-served end_atomic = alike-extending atomicity_extend alike-ended
   alike-served (describe x) =
       let d = ap (λ (l : List ℕ). l ++ (x ∷ [])) mine.flags.descriptor in
       alike-valued (alike-described _ _ d) _ _ (ap length d)
@@ -374,41 +374,41 @@ module _ {b c : Build} (same : SameButFrames b c) {n k : Node} (v : Valid b n) (
       }
 
   -- and a refused one
-  alike-request : (r : Request) → refuseRequest n r ≡ refuseRequest k r
-  unfolding refuseRequest
+  alike-request : (r : Request) → refuse_request n r ≡ refuse_request k r
+  unfolding refuse_request
   alike-request poll = refl
-  alike-request (peek i) = ap (λ (l : List Message). refusePeek l i) (runner-line a low high)
-  alike-request dispose = ap refuseDispose (runner-line a low high)
-  alike-request (beginAtomic force) = refl
-  alike-request endAtomic = ap refuseEnd mine.flags.pending
-  alike-request (describe x) = ap refuseDescribe mine.flags.descriptor
-  alike-request (launch i) = ap (λ (l : List ℕ). refuseLaunch l i) mine.flags.descriptor
+  alike-request (peek i) = ap (λ (l : List Message). refuse_peek l i) (runner-line a low high)
+  alike-request dispose = ap refuse_dispose (runner-line a low high)
+  alike-request (begin_atomic force) = refl
+  alike-request end_atomic = ap refuse_end mine.flags.pending
+  alike-request (describe x) = ap refuse_describe mine.flags.descriptor
+  alike-request (launch i) = ap (λ (l : List ℕ). refuse_launch l i) mine.flags.descriptor
 
 -- Any step.
 module _ {b c : Build} (same : SameButFrames b c) {n k : Node} (v : Valid b n) (w : Valid c k) (a : Alike n k) where
   -- an operation is refused alike
   alike-refusal : (op : Operation) → refusal b n op ≡ refusal c k op
-  unfolding refusal refuseArrive
+  unfolding refusal refuse_arrive
   alike-refusal (arrive g ws) =
       let m : Message = record { group = g; words = ws } in
       let room : leb b.places (length n.queue) ≡ leb c.places (length k.queue) =
       ap (λ (p : ℕ). leb p (length n.queue)) same.places ∙ ap (λ (q : List Message). leb c.places (length q)) a.queue in
-      let fits : ltb (pageCount b) (pledges b (queued m n)) ≡ ltb (pageCount c) (pledges c (queued m k)) =
-      ap (λ (p : ℕ). ltb p (pledges b (queued m n))) same.pages ∙ ap (ltb (pageCount c)) (alike-pledges (alike-queued a m) same) in
-      ap (λ (t : Bool). cond (eqb g 0 || ltb groupCount g) badGroup (cond (is_empty ws || ltb wordLimit (length ws)) badWords (cond t queueFull (cond (ltb (pageCount b) (pledges b (queued m n))) noFrames accepted)))) room
-      ∙ ap (λ (t : Bool). cond (eqb g 0 || ltb groupCount g) badGroup (cond (is_empty ws || ltb wordLimit (length ws)) badWords (cond (leb c.places (length k.queue)) queueFull (cond t noFrames accepted)))) fits
+      let fits : ltb (page_count b) (pledges b (queued m n)) ≡ ltb (page_count c) (pledges c (queued m k)) =
+      ap (λ (p : ℕ). ltb p (pledges b (queued m n))) same.pages ∙ ap (ltb (page_count c)) (alike-pledges (alike-queued a m) same) in
+      ap (λ (t : Bool). cond (eqb g 0 || ltb group_count g) bad_group (cond (is_empty ws || ltb word_limit (length ws)) bad_words (cond t queue_full (cond (ltb (page_count b) (pledges b (queued m n))) no_frames accepted)))) room
+      ∙ ap (λ (t : Bool). cond (eqb g 0 || ltb group_count g) bad_group (cond (is_empty ws || ltb word_limit (length ws)) bad_words (cond (leb c.places (length k.queue)) queue_full (cond t no_frames accepted)))) fits
   alike-refusal preempt = refl
-  alike-refusal (dispatch g) = ap (λ (r : ℕ). refuseDispatch r g) a.running
+  alike-refusal (dispatch g) = ap (λ (r : ℕ). refuse_dispatch r g) a.running
   alike-refusal (schedule g) = refl
   alike-refusal (tick i) = refl
   alike-refusal turn = refl
   alike-refusal (user r) = go (ℕ_discrete n.running 0)
     where
-      go : Dec (n.running ≡ 0) → cond (eqb n.running 0) nobodyRuns (refuseRequest n r) ≡ cond (eqb k.running 0) nobodyRuns (refuseRequest k r)
+      go : Dec (n.running ≡ 0) → cond (eqb n.running 0) nobody_runs (refuse_request n r) ≡ cond (eqb k.running 0) nobody_runs (refuse_request k r)
       go (yes none) = rw (eq-eqb n.running 0 none, eq-eqb k.running 0 (sym a.running ∙ none))
       go (no some) =
-          ap (λ (x : ℕ). cond (eqb x 0) nobodyRuns (refuseRequest n r)) a.running
-          ∙ ap (λ (x : ℕ). cond (eqb k.running 0) nobodyRuns x) (alike-request same v w a (omega arith) r)
+          ap (λ (x : ℕ). cond (eqb x 0) nobody_runs (refuse_request n r)) a.running
+          ∙ ap (λ (x : ℕ). cond (eqb k.running 0) nobody_runs x) (alike-request same v w a (omega arith) r)
   alike-refusal unknown = refl
 
   -- or acts alike
@@ -424,8 +424,8 @@ module _ {b c : Build} (same : SameButFrames b c) {n k : Node} (v : Valid b n) (
   alike-act unknown e = alike-valued a 0 0 refl
 
 -- two steps in a row
-alike-row : {s s' t t' : Stepped} → AlikeStepped s s' → AlikeStepped t t' → AlikeStepped (inARow s t) (inARow s' t')
-unfolding inARow
+alike-row : {s s' t t' : Stepped} → AlikeStepped s s' → AlikeStepped t t' → AlikeStepped (in_arow s t) (in_arow s' t')
+unfolding in_arow
 alike-row x y =
     record {
       report = λ i.
@@ -476,8 +476,8 @@ alike-play {b} {c} same (i ∷ is) {n} {k} v w a =
     λ j. record { runner = a.running j; operation = asked i; report = s.report j } ∷ rest j
 
 -- and power-on makes such nodes
-alike-power-on : (b c : Build) → Alike (powerOn b) (powerOn c)
-unfolding powerOn group_of
+alike-power-on : (b c : Build) → Alike (power_on b) (power_on c)
+unfolding power_on group_of
 alike-power-on b c =
     record {
       running = refl;

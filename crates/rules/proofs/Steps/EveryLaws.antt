@@ -7,7 +7,7 @@ use mathlib.Core.List.{List, [], ◌∷◌, ◌++◌, map, Memᴰ}
 use native.Mathlib.Omega.{arith}
 use native.Mathlib.Nat.{le_of_suc-le-suc, not-suc-le-zero}
 use lib.ListN.{length, take, drop, get_or, set, replicate}
-use Rattle.rules.specs.Lists.{Every, concatMap, up_from}
+use Rattle.rules.specs.Lists.{Every, concat_map, up_from}
 
 module _ {A : Type 0} (P : A → Type 0) where
   -- what holds of each member holds of every element
@@ -32,9 +32,9 @@ module _ {A : Type 0} (P : A → Type 0) where
   every-unmap f (x ∷ xs) e = (e.0, every-unmap f xs e.1)
 
   -- of many lists joined
-  pub every-concat : {B : Type 0} (f : B → List A) (xs : List B) → Every P (concatMap f xs) ↔ Every (λ x. Every P (f x)) xs
+  pub every-concat : {B : Type 0} (f : B → List A) (xs : List B) → Every P (concat_map f xs) ↔ Every (λ x. Every P (f x)) xs
   every-concat f [] = Iff.rfl
-  every-concat f (x ∷ xs) = Iff.trans (every_append (f x) (concatMap f xs)) (Iff.and Iff.rfl (every-concat f xs))
+  every-concat f (x ∷ xs) = Iff.trans (every_append (f x) (concat_map f xs)) (Iff.and Iff.rfl (every-concat f xs))
 
   -- an element set
   pub every_set : (xs : List A) (i : ℕ) (y : A) → Every P xs → P y → Every P (set xs i y)
@@ -86,7 +86,7 @@ every-same y [] e = refl
 every-same y (x ∷ xs) e = let r = every-same y xs e.1 in let q = e.0 in cc
 
 -- k numbers from a on
-pub every-upFrom : (P : ℕ → Type 0) (a k : ℕ) → ((i : ℕ) → a ≤ i → i < a + k → P i) → Every P (up_from a k)
-every-upFrom P a zero f = tt
-every-upFrom P a (suc k) f =
-    (f a (omega arith) (omega arith), every-upFrom P (suc a) k (λ i l h. f i (omega arith) (omega arith)))
+pub every-up_from : (P : ℕ → Type 0) (a k : ℕ) → ((i : ℕ) → a ≤ i → i < a + k → P i) → Every P (up_from a k)
+every-up_from P a zero f = tt
+every-up_from P a (suc k) f =
+    (f a (omega arith) (omega arith), every-up_from P (suc a) k (λ i l h. f i (omega arith) (omega arith)))

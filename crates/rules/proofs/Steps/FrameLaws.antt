@@ -16,39 +16,39 @@ use lib.ListN.{length, take, drop, get_or, set, replicate, length-append, length
 use lib.Seq.{drop-drop, take-append-le, drop-append-le, take-set-le, drop-set-lt, take-suc-set}
 use borrow.Author.Tests.{ltb-true, ltb-false, eqb-true, eqb-false, eq-eqb, ne_eqb}
 use Rattle.rules.specs.Lists.{Every, count_of}
-use Rattle.rules.specs.Build.{Build, wordLimit}
-use Rattle.rules.specs.Node.{Message, Place, Buffer, emptyPlace, emptyPage, place_of, waiting, unused}
-use Rattle.rules.specs.Frames.{Stock, ceilDiv, extended, takeFrame, withRoom, appended, firstFrame, without, freeFirst, useUp, removeFirst}
+use Rattle.rules.specs.Build.{Build, word_limit}
+use Rattle.rules.specs.Node.{Message, Place, Buffer, empty_place, empty_page, place_of, waiting, unused}
+use Rattle.rules.specs.Frames.{Stock, ceil_div, extended, take_frame, with_room, appended, first_frame, without, free_first, use_up, remove_first}
 use Rattle.rules.specs.Valid.{GoodMessage, GoodPlace, GoodWaiting, Wiped, GoodBuffer, Zero}
 use Rattle.rules.proofs.Steps.EveryLaws.{every_append, every_set, every_drop, every-replicate, every-same}
 use Rattle.rules.proofs.Steps.ListLaws.{filter-pass, filter-fail, take-drop, weight, weight-append, length-pad, drop-pad}
 
 -- a frame count, rounded up, suffices
-pub ceil-enough : (a d : ℕ) → 1 ≤ d → a ≤ ceilDiv a d * d
-unfolding ceilDiv
+pub ceil-enough : (a d : ℕ) → 1 ≤ d → a ≤ ceil_div a d * d
+unfolding ceil_div
 ceil-enough a d some = omega (arith, lt-div-mul-add {a = a + (d - 1)} some)
 
 -- and is the least that does
-pub ceil-least : (a d : ℕ) → 1 ≤ d → ceilDiv a d * d < a + d
-unfolding ceilDiv
+pub ceil-least : (a d : ℕ) → 1 ≤ d → ceil_div a d * d < a + d
+unfolding ceil_div
 ceil-least a d some = omega (arith, div-mul-le_self (a + (d - 1)) d)
 
 -- nothing else is both
-pub ceil-unique : (a d c : ℕ) → a ≤ c * d → c * d < a + d → c ≡ ceilDiv a d
-unfolding ceilDiv
+pub ceil-unique : (a d c : ℕ) → a ≤ c * d → c * d < a + d → c ≡ ceil_div a d
+unfolding ceil_div
 ceil-unique a d c enough least = sym (div-eq_of_lt-le {k = c} d (omega arith) (omega arith))
 
 -- more messages want no fewer frames
-pub ceil-mono : (a a' d : ℕ) → 1 ≤ d → a ≤ a' → ceilDiv a d ≤ ceilDiv a' d
+pub ceil-mono : (a a' d : ℕ) → 1 ≤ d → a ≤ a' → ceil_div a d ≤ ceil_div a' d
 ceil-mono a a' d some le =
-    omega (arith, lt_of_mul-lt-mul_right d {m = ceilDiv a d} {n = ceilDiv a' d + 1} (omega (arith, ceil-least a d some, ceil-enough a' d some)))
+    omega (arith, lt_of_mul-lt-mul_right d {m = ceil_div a d} {n = ceil_div a' d + 1} (omega (arith, ceil-least a d some, ceil-enough a' d some)))
 
 -- no frames for no messages
-pub ceil-none : (d : ℕ) → 1 ≤ d → 0 ≡ ceilDiv 0 d
+pub ceil-none : (d : ℕ) → 1 ≤ d → 0 ≡ ceil_div 0 d
 ceil-none d some = ceil-unique 0 d 0 (omega arith) (omega arith)
 
 -- some messages want some frame
-ceil-some : (a d : ℕ) → 1 ≤ d → 1 ≤ a → 1 ≤ ceilDiv a d
+ceil-some : (a d : ℕ) → 1 ≤ d → 1 ≤ a → 1 ≤ ceil_div a d
 ceil-some a d some more = omega (arith, ceil-mono 1 a d some more, ceil-unique 1 d 1 (omega arith) (omega arith))
 
 -- the frames of a free line and of a buffer's list, together, weigh what they weighed, whatever each weighs: none is lost or doubled
@@ -62,7 +62,7 @@ pub record Traded (b : Build) (fs : List ℕ) (v : Buffer) (t : Stock) : Type 0 
 
 -- the waiting messages of a good buffer lie within its places
 pub fits : {b : Build} {v : Buffer} → GoodBuffer b v → v.used + v.count ≤ length v.places
-fits {b} {v} g = omega (arith, rw g.list_length at g.whole, ceil-enough (v.used + v.count) b.perFrame (omega arith))
+fits {b} {v} g = omega (arith, rw g.list_length at g.whole, ceil-enough (v.used + v.count) b.per_frame (omega arith))
 
 -- as waiting messages are read: the places up to the last of them, without the used-up ones
 waiting-front : (v : Buffer) → waiting v ≡ drop v.used (take (v.used + v.count) v.places)
@@ -78,43 +78,43 @@ waiting-appended m v room =
     rw (waiting-front (appended m v), waiting-front v, add-one, add-suc, take-suc-set, drop-append-le)
 
 -- a message as it is kept is a good place, and a good waiting one
-pub placeOf-good : (m : Message) → GoodPlace (place_of m)
+pub place_of-good : (m : Message) → GoodPlace (place_of m)
 unfolding place_of
-placeOf-good m = record { eight = length-pad wordLimit m.words }
+place_of-good m = record { eight = length-pad word_limit m.words }
 
-placeOf-waiting : (m : Message) → GoodMessage m → GoodWaiting (place_of m)
+place_of-waiting : (m : Message) → GoodMessage m → GoodWaiting (place_of m)
 unfolding place_of
-placeOf-waiting m g =
-    record { some_words = g.some_words; few_words = g.few_words; rest-zero = drop-pad Zero refl wordLimit m.words }
+place_of-waiting m g =
+    record { some_words = g.some_words; few_words = g.few_words; rest-zero = drop-pad Zero refl word_limit m.words }
 
 -- an empty place is one, and is wiped
-pub place-good : GoodPlace emptyPlace
+pub place-good : GoodPlace empty_place
 place-good = record { eight = refl }
 
-pub place-wiped : Wiped emptyPlace
-place-wiped = record { len-zero = refl; words-zero = every-replicate Zero wordLimit 0 refl }
+pub place-wiped : Wiped empty_place
+place-wiped = record { len-zero = refl; words-zero = every-replicate Zero word_limit 0 refl }
 
 -- and so is every place of an empty page
-pub length-page : (b : Build) → length (emptyPage b) ≡ b.perFrame
-unfolding emptyPage
-length-page b = length-replicate b.perFrame emptyPlace
+pub length-page : (b : Build) → length (empty_page b) ≡ b.per_frame
+unfolding empty_page
+length-page b = length-replicate b.per_frame empty_place
 
-pub page-good : (b : Build) → Every GoodPlace (emptyPage b)
-unfolding emptyPage
-page-good b = every-replicate GoodPlace b.perFrame emptyPlace place-good
+pub page-good : (b : Build) → Every GoodPlace (empty_page b)
+unfolding empty_page
+page-good b = every-replicate GoodPlace b.per_frame empty_place place-good
 
-page-wiped : (b : Build) → Every Wiped (emptyPage b)
-unfolding emptyPage
-page-wiped b = every-replicate Wiped b.perFrame emptyPlace place-wiped
+page-wiped : (b : Build) → Every Wiped (empty_page b)
+unfolding empty_page
+page-wiped b = every-replicate Wiped b.per_frame empty_place place-wiped
 
 -- a place that is wiped is the empty one
-pub wiped-place : (p : Place) → GoodPlace p → Wiped p → p ≡ emptyPlace
+pub wiped-place : (p : Place) → GoodPlace p → Wiped p → p ≡ empty_place
 wiped-place p good wiped =
-    let words : p.words ≡ replicate wordLimit 0 = rw good.eight at (every-same 0 p.words wiped.words-zero) in
+    let words : p.words ≡ replicate word_limit 0 = rw good.eight at (every-same 0 p.words wiped.words-zero) in
     λ i. record { len = wiped.len-zero i; words = words i }
 
 -- so are places that all are
-pub wiped-places : (ps : List Place) → Every GoodPlace ps → Every Wiped ps → ps ≡ replicate (length ps) emptyPlace
+pub wiped-places : (ps : List Place) → Every GoodPlace ps → Every Wiped ps → ps ≡ replicate (length ps) empty_place
 wiped-places [] good wiped = refl
 wiped-places (p ∷ ps) good wiped =
     let first = wiped-place p good.0 wiped.0 in
@@ -142,8 +142,8 @@ record Roomy (b : Build) (fs es : List ℕ) (v : Buffer) (s : Stock) : Type 0 wh
   used : s.buffer.used ≡ v.used
   count : s.buffer.count ≡ v.count
   room : v.used + v.count < length s.buffer.places
-  list_length : length s.buffer.frames ≡ ceilDiv (v.used + v.count + 1) b.perFrame
-  whole : length s.buffer.places ≡ length s.buffer.frames * b.perFrame
+  list_length : length s.buffer.frames ≡ ceil_div (v.used + v.count + 1) b.per_frame
+  whole : length s.buffer.places ≡ length s.buffer.frames * b.per_frame
   places : Every GoodPlace s.buffer.places
   waits : waiting s.buffer ≡ waiting v
   wiped : Every Wiped (unused s.buffer)
@@ -172,22 +172,22 @@ module _ {b : Build} {v : Buffer} (good : GoodBuffer b v) where
   wiped-extended : (f : ℕ) → Every Wiped (unused (extended b f v))
   unfolding extended unused
   wiped-extended f =
-      let front = take-append-le v.used v.places (emptyPage b) (omega (arith, fits good)) in
-      let behind = drop-append-le (v.used + v.count) v.places (emptyPage b) (fits good) in
-      let end = (every_append Wiped (drop (v.used + v.count) v.places) (emptyPage b)).1 (both-wiped.1, page-wiped b) in
-      rw (front, behind) ((every_append Wiped (take v.used v.places) (drop (v.used + v.count) v.places ++ emptyPage b)).1 (both-wiped.0, end))
+      let front = take-append-le v.used v.places (empty_page b) (omega (arith, fits good)) in
+      let behind = drop-append-le (v.used + v.count) v.places (empty_page b) (fits good) in
+      let end = (every_append Wiped (drop (v.used + v.count) v.places) (empty_page b)).1 (both-wiped.1, page-wiped b) in
+      rw (front, behind) ((every_append Wiped (take v.used v.places) (drop (v.used + v.count) v.places ++ empty_page b)).1 (both-wiped.0, end))
 
   -- there is room already
   roomy-already : (fs es : List ℕ) → v.used + v.count < length v.places
       → Roomy b fs es v (record { free = fs; entered = es; buffer = v })
   roomy-already fs es room =
-      let ends : length v.frames * b.perFrame < v.used + v.count + 1 + b.perFrame =
-      omega (arith, ceil-least (v.used + v.count) b.perFrame (omega arith), ap (λ (k : ℕ). k * b.perFrame) good.list_length) in
+      let ends : length v.frames * b.per_frame < v.used + v.count + 1 + b.per_frame =
+      omega (arith, ceil-least (v.used + v.count) b.per_frame (omega arith), ap (λ (k : ℕ). k * b.per_frame) good.list_length) in
       record {
         used = refl;
         count = refl;
         room = room;
-        list_length = ceil-unique (v.used + v.count + 1) b.perFrame (length v.frames) (omega (arith, good.whole)) ends;
+        list_length = ceil-unique (v.used + v.count + 1) b.per_frame (length v.frames) (omega (arith, good.whole)) ends;
         whole = good.whole;
         places = good.places;
         waits = refl;
@@ -198,23 +198,23 @@ module _ {b : Build} {v : Buffer} (good : GoodBuffer b v) where
 
   -- a frame is taken
   roomy-taken : (f : ℕ) (fs es : List ℕ) → length v.places ≤ v.used + v.count
-      → Roomy b (f ∷ fs) es v (takeFrame b (f ∷ fs) es v)
-  unfolding takeFrame extended
+      → Roomy b (f ∷ fs) es v (take_frame b (f ∷ fs) es v)
+  unfolding take_frame extended
   roomy-taken f fs es full =
-      let joined = length-append v.places (emptyPage b) in
+      let joined = length-append v.places (empty_page b) in
       let page = length-page b in
       let longer : length (v.frames ++ (f ∷ [])) ≡ length v.frames + 1 = length-append v.frames (f ∷ []) in
-      let exact : length v.frames * b.perFrame ≡ v.used + v.count = omega (arith, good.whole, fits good) in
+      let exact : length v.frames * b.per_frame ≡ v.used + v.count = omega (arith, good.whole, fits good) in
       record {
         used = refl;
         count = refl;
         room = omega (arith, fits good);
         list_length =
-            longer ∙ ceil-unique (v.used + v.count + 1) b.perFrame (length v.frames + 1) (omega arith) (omega arith);
+            longer ∙ ceil-unique (v.used + v.count + 1) b.per_frame (length v.frames + 1) (omega arith) (omega arith);
         whole = rw longer (omega (arith, good.whole));
-        places = (every_append GoodPlace v.places (emptyPage b)).1 (good.places, page-good b);
+        places = (every_append GoodPlace v.places (empty_page b)).1 (good.places, page-good b);
         waits =
-            rw (waiting-front (extended b f v), waiting-front v, take-append-le (v.used + v.count) v.places (emptyPage b) (fits good));
+            rw (waiting-front (extended b f v), waiting-front v, take-append-le (v.used + v.count) v.places (empty_page b) (fits good));
         wiped = wiped-extended f;
         weights = λ w. omega (arith, weight-append w v.frames (f ∷ []));
         order = λ w. omega (arith, weight-append w es (f ∷ []));
@@ -222,25 +222,25 @@ module _ {b : Build} {v : Buffer} (good : GoodBuffer b v) where
 
   -- either way there is room, if a full buffer meets a free frame
   with-room : (fs es : List ℕ) → (length v.places ≤ v.used + v.count → 1 ≤ length fs)
-      → Roomy b fs es v (withRoom b fs es v)
-  unfolding withRoom
+      → Roomy b fs es v (with_room b fs es v)
+  unfolding with_room
   with-room fs es frame = go (ltb (v.used + v.count) (length v.places)) refl
     where
-      taken : (fs : List ℕ) → length v.places ≤ v.used + v.count → 1 ≤ length fs → Roomy b fs es v (takeFrame b fs es v)
+      taken : (fs : List ℕ) → length v.places ≤ v.used + v.count → 1 ≤ length fs → Roomy b fs es v (take_frame b fs es v)
       taken [] full some = absurd (not-suc-le-zero some)
       taken (f ∷ fs) full some = roomy-taken f fs es full
 
       go : (t : Bool) → ltb (v.used + v.count) (length v.places) ≡ t
-          → Roomy b fs es v (cond t (record { free = fs; entered = es; buffer = v }) (takeFrame b fs es v))
+          → Roomy b fs es v (cond t (record { free = fs; entered = es; buffer = v }) (take_frame b fs es v))
       go true e = roomy-already fs es (ltb-true _ _ e)
       go false e = taken fs (ltb-false _ _ e) (frame (ltb-false _ _ e))
 
   -- a message is stored, if a full buffer meets a free frame
   pub stored : (m : Message) → GoodMessage m → (fs es : List ℕ)
-      → (length v.places ≤ v.used + v.count → 1 ≤ length fs) → Stored b m fs es v (stocked m (withRoom b fs es v))
+      → (length v.places ≤ v.used + v.count → 1 ≤ length fs) → Stored b m fs es v (stocked m (with_room b fs es v))
   unfolding appended
   stored m message fs es frame =
-      let s = withRoom b fs es v in
+      let s = with_room b fs es v in
       let r = with-room fs es frame in
       let at : s.buffer.used + s.buffer.count ≡ v.used + v.count = cc in
       let ends = waiting-appended m s.buffer (rw at r.room) in
@@ -249,12 +249,12 @@ module _ {b : Build} {v : Buffer} (good : GoodBuffer b v) where
           good = record {
             used-bound = rw r.used good.used-bound;
             used-empty = λ none. omega arith;
-            list_length = r.list_length ∙ ap (λ (k : ℕ). ceilDiv k b.perFrame) (omega arith);
+            list_length = r.list_length ∙ ap (λ (k : ℕ). ceil_div k b.per_frame) (omega arith);
             whole = length-set s.buffer.places (s.buffer.used + s.buffer.count) (place_of m) ∙ r.whole;
-            places = every_set GoodPlace s.buffer.places (s.buffer.used + s.buffer.count) (place_of m) r.places (placeOf-good m);
+            places = every_set GoodPlace s.buffer.places (s.buffer.used + s.buffer.count) (place_of m) r.places (place_of-good m);
             waiting-good =
                 rw (ends, r.waits)
-                ((every_append GoodWaiting (waiting v) (place_of m ∷ [])).1 (good.waiting-good, (placeOf-waiting m message, tt)));
+                ((every_append GoodWaiting (waiting v) (place_of m ∷ [])).1 (good.waiting-good, (place_of-waiting m message, tt)));
             unused-wiped = wiped-appended m s.buffer r.wiped;
           };
           weights = r.weights;
@@ -286,43 +286,43 @@ module _ {b : Build} {v : Buffer} (good : GoodBuffer b v) (some : 1 ≤ v.count)
 
   -- the buffer has a frame, and the others are one less
   pub held : 1 ≤ length v.frames
-  held = rw good.list_length (ceil-some (v.used + v.count) b.perFrame (omega arith) (omega arith))
+  held = rw good.list_length (ceil-some (v.used + v.count) b.per_frame (omega arith) (omega arith))
 
   fewer : length v.frames ≡ length (drop 1 v.frames) + 1
   fewer = omega (arith, held, length-drop 1 v.frames)
 
   -- the places are wiped but those that wait still, where the first place is used up
-  wiped-used : Every Wiped (take (v.used + 1) (set v.places v.used emptyPlace) ++ drop (v.used + 1 + (v.count - 1)) (set v.places v.used emptyPlace))
+  wiped-used : Every Wiped (take (v.used + 1) (set v.places v.used empty_place) ++ drop (v.used + 1 + (v.count - 1)) (set v.places v.used empty_place))
   wiped-used =
       let inside : v.used < length v.places = omega (arith, fits good) in
-      let front : take (v.used + 1) (set v.places v.used emptyPlace) ≡ take v.used v.places ++ (emptyPlace ∷ []) =
-      rw add-one (take-suc-set v.places v.used emptyPlace inside) in
-      let behind = drop-set-lt (v.used + 1 + (v.count - 1)) v.places v.used emptyPlace (omega arith) in
-      let up = (every_append Wiped (take v.used v.places) (emptyPlace ∷ [])).1 ((both-wiped good).0, (place-wiped, tt)) in
+      let front : take (v.used + 1) (set v.places v.used empty_place) ≡ take v.used v.places ++ (empty_place ∷ []) =
+      rw add-one (take-suc-set v.places v.used empty_place inside) in
+      let behind = drop-set-lt (v.used + 1 + (v.count - 1)) v.places v.used empty_place (omega arith) in
+      let up = (every_append Wiped (take v.used v.places) (empty_place ∷ [])).1 ((both-wiped good).0, (place-wiped, tt)) in
       let later = every-later Wiped (v.used + v.count) (v.used + 1 + (v.count - 1)) v.places (omega arith) (both-wiped good).1 in
       rw (front, behind)
-      ((every_append Wiped (take v.used v.places ++ (emptyPlace ∷ [])) (drop (v.used + 1 + (v.count - 1)) v.places)).1 (up, later))
+      ((every_append Wiped (take v.used v.places ++ (empty_place ∷ [])) (drop (v.used + 1 + (v.count - 1)) v.places)).1 (up, later))
 
   -- and where the first frame is freed
-  wiped-freed : Every Wiped (drop (0 + (v.count - 1)) (drop b.perFrame v.places))
+  wiped-freed : Every Wiped (drop (0 + (v.count - 1)) (drop b.per_frame v.places))
   wiped-freed =
       rw drop-drop
-      (every-later Wiped (v.used + v.count) (b.perFrame + (0 + (v.count - 1))) v.places (omega (arith, good.used-bound)) (both-wiped good).1)
+      (every-later Wiped (v.used + v.count) (b.per_frame + (0 + (v.count - 1))) v.places (omega (arith, good.used-bound)) (both-wiped good).1)
 
   -- the first place is used up, and its frame stays
-  removed-used : (fs es : List ℕ) → v.count ≢ 1 → v.used + 1 ≢ b.perFrame → Removed b fs v (useUp fs es v)
-  unfolding useUp waiting unused
+  removed-used : (fs es : List ℕ) → v.count ≢ 1 → v.used + 1 ≢ b.per_frame → Removed b fs v (use_up fs es v)
+  unfolding use_up waiting unused
   removed-used fs es more inside =
-      let behind : drop (v.used + 1) (set v.places v.used emptyPlace) ≡ drop (v.used + 1) v.places =
-      drop-set-lt (v.used + 1) v.places v.used emptyPlace (omega arith) in
+      let behind : drop (v.used + 1) (set v.places v.used empty_place) ≡ drop (v.used + 1) v.places =
+      drop-set-lt (v.used + 1) v.places v.used empty_place (omega arith) in
       record {
         traded = record {
           good = record {
             used-bound = omega arith;
             used-empty = λ none. omega arith;
-            list_length = good.list_length ∙ ap (λ (k : ℕ). ceilDiv k b.perFrame) (omega arith);
-            whole = length-set v.places v.used emptyPlace ∙ good.whole;
-            places = every_set GoodPlace v.places v.used emptyPlace good.places place-good;
+            list_length = good.list_length ∙ ap (λ (k : ℕ). ceil_div k b.per_frame) (omega arith);
+            whole = length-set v.places v.used empty_place ∙ good.whole;
+            places = every_set GoodPlace v.places v.used empty_place good.places place-good;
             waiting-good = rw (behind, waiting-rest) (every_drop GoodWaiting 1 (waiting v) good.waiting-good);
             unused-wiped = wiped-used;
           };
@@ -333,21 +333,21 @@ module _ {b : Build} {v : Buffer} (good : GoodBuffer b v) (some : 1 ≤ v.count)
       }
 
   -- the first frame is freed
-  removed-freed : (fs es : List ℕ) → length (drop 1 v.frames) ≡ ceilDiv (0 + (v.count - 1)) b.perFrame
-      → take (v.count - 1) (drop b.perFrame v.places) ≡ take (v.count - 1) (drop (v.used + 1) v.places)
-      → Removed b fs v (freeFirst b fs es v)
-  unfolding freeFirst firstFrame waiting unused
+  removed-freed : (fs es : List ℕ) → length (drop 1 v.frames) ≡ ceil_div (0 + (v.count - 1)) b.per_frame
+      → take (v.count - 1) (drop b.per_frame v.places) ≡ take (v.count - 1) (drop (v.used + 1) v.places)
+      → Removed b fs v (free_first b fs es v)
+  unfolding free_first first_frame waiting unused
   removed-freed fs es lists front =
-      let places : length v.places ≡ length (drop 1 v.frames) * b.perFrame + b.perFrame =
-      omega (arith, good.whole, ap (λ (k : ℕ). k * b.perFrame) fewer) in
+      let places : length v.places ≡ length (drop 1 v.frames) * b.per_frame + b.per_frame =
+      omega (arith, good.whole, ap (λ (k : ℕ). k * b.per_frame) fewer) in
       record {
         traded = record {
           good = record {
             used-bound = omega arith;
             used-empty = λ none. refl;
             list_length = lists;
-            whole = omega (arith, length-drop b.perFrame v.places);
-            places = every_drop GoodPlace b.perFrame v.places good.places;
+            whole = omega (arith, length-drop b.per_frame v.places);
+            places = every_drop GoodPlace b.per_frame v.places good.places;
             waiting-good = rw (front, waiting-rest) (every_drop GoodWaiting 1 (waiting v) good.waiting-good);
             unused-wiped = wiped-freed;
           };
@@ -359,29 +359,29 @@ module _ {b : Build} {v : Buffer} (good : GoodBuffer b v) (some : 1 ≤ v.count)
       }
 
   -- where the last message goes, its frame is the only one
-  removed-last : (fs es : List ℕ) → v.count ≡ 1 → Removed b fs v (freeFirst b fs es v)
+  removed-last : (fs es : List ℕ) → v.count ≡ 1 → Removed b fs v (free_first b fs es v)
   removed-last fs es last =
-      let only : 1 ≡ ceilDiv (v.used + v.count) b.perFrame = ceil-unique (v.used + v.count) b.perFrame 1 (omega arith) (omega arith) in
+      let only : 1 ≡ ceil_div (v.used + v.count) b.per_frame = ceil-unique (v.used + v.count) b.per_frame 1 (omega arith) (omega arith) in
       let lists : length (drop 1 v.frames) ≡ 0 = omega (arith, good.list_length, fewer) in
       let none : v.count - 1 ≡ 0 = omega arith in
-      removed-freed fs es (lists ∙ ceil-unique (0 + (v.count - 1)) b.perFrame 0 (omega arith) (omega arith)) (rw none)
+      removed-freed fs es (lists ∙ ceil-unique (0 + (v.count - 1)) b.per_frame 0 (omega arith) (omega arith)) (rw none)
 
   -- where the first frame is used up, the others hold the rest
-  removed-frame : (fs es : List ℕ) → v.used + 1 ≡ b.perFrame → Removed b fs v (freeFirst b fs es v)
+  removed-frame : (fs es : List ℕ) → v.used + 1 ≡ b.per_frame → Removed b fs v (free_first b fs es v)
   removed-frame fs es whole =
-      let spread = ap (λ (k : ℕ). k * b.perFrame) (sym good.list_length ∙ fewer) in
-      let enough = ceil-enough (v.used + v.count) b.perFrame (omega arith) in
-      let least = ceil-least (v.used + v.count) b.perFrame (omega arith) in
-      let lists = ceil-unique (0 + (v.count - 1)) b.perFrame (length (drop 1 v.frames)) (omega arith) (omega arith) in
+      let spread = ap (λ (k : ℕ). k * b.per_frame) (sym good.list_length ∙ fewer) in
+      let enough = ceil-enough (v.used + v.count) b.per_frame (omega arith) in
+      let least = ceil-least (v.used + v.count) b.per_frame (omega arith) in
+      let lists = ceil-unique (0 + (v.count - 1)) b.per_frame (length (drop 1 v.frames)) (omega arith) (omega arith) in
       removed-freed fs es lists (rw whole)
 
   -- the first message is removed
-  pub removed-first : (fs es : List ℕ) → Removed b fs v (removeFirst b fs es v)
-  unfolding removeFirst
-  removed-first fs es = go (eqb v.count 1) refl (eqb (v.used + 1) b.perFrame) refl
+  pub removed-first : (fs es : List ℕ) → Removed b fs v (remove_first b fs es v)
+  unfolding remove_first
+  removed-first fs es = go (eqb v.count 1) refl (eqb (v.used + 1) b.per_frame) refl
     where
-      go : (t : Bool) → eqb v.count 1 ≡ t → (u : Bool) → eqb (v.used + 1) b.perFrame ≡ u
-          → Removed b fs v (cond (t || u) (freeFirst b fs es v) (useUp fs es v))
+      go : (t : Bool) → eqb v.count 1 ≡ t → (u : Bool) → eqb (v.used + 1) b.per_frame ≡ u
+          → Removed b fs v (cond (t || u) (free_first b fs es v) (use_up fs es v))
       go true e u f = removed-last fs es (eqb-true _ _ e)
       go false e true f = removed-frame fs es (eqb-true _ _ f)
       go false e false f = removed-used fs es (eqb-false _ _ e) (eqb-false _ _ f)
@@ -412,11 +412,11 @@ weight-left w f xs once = let r = rw once at (weight-without w f xs) in omega ar
 
 -- a frame that is freed, if its number stands once in the order of entry, goes from there to the free line
 pub removed-order : (b : Build) (fs es : List ℕ) (v : Buffer) → count_of (get_or v.frames 0 0) es ≡ 1
-    → SameFrames (removeFirst b fs es v).free (removeFirst b fs es v).entered fs es
-unfolding removeFirst freeFirst firstFrame useUp
-removed-order b fs es v once w = go (eqb v.count 1 || eqb (v.used + 1) b.perFrame)
+    → SameFrames (remove_first b fs es v).free (remove_first b fs es v).entered fs es
+unfolding remove_first free_first first_frame use_up
+removed-order b fs es v once w = go (eqb v.count 1 || eqb (v.used + 1) b.per_frame)
   where
-    go : (t : Bool) → weight w (cond t (freeFirst b fs es v) (useUp fs es v)).free + weight w (cond t (freeFirst b fs es v) (useUp fs es v)).entered
+    go : (t : Bool) → weight w (cond t (free_first b fs es v) (use_up fs es v)).free + weight w (cond t (free_first b fs es v) (use_up fs es v)).entered
         ≡ weight w fs + weight w es
     go true =
         let f = get_or v.frames 0 0 in

@@ -13,7 +13,7 @@ use lib.Dec.{ltb, eqb}
 use borrow.Author.Tests.{ltb-true, ltb-false, lt-ltb, le-ltb, eqb-true, eqb-false, eq-eqb, ne_eqb}
 use lib.Seq.{take-nil, drop-nil, get_or-append-add}
 use lib.ListN.{length, take, drop, get_or, set, replicate, length-append, get_or-append}
-use Rattle.rules.specs.Lists.{filter, is_empty, Every, concatMap, sum, count_of, up_from, pad}
+use Rattle.rules.specs.Lists.{filter, is_empty, Every, concat_map, sum, count_of, up_from, pad}
 use Rattle.rules.proofs.Steps.EveryLaws.{every-getD}
 
 -- an element that passes is kept, one that fails is not
@@ -108,15 +108,15 @@ module _ {A : Type 0} (w : A → ℕ) where
 
   -- joined lists of which one is exchanged
   pub weight-exchange : {B : Type 0} (f : B → List A) (xs : List B) (i : ℕ) (y d : B) → i < length xs
-      → weight w (concatMap f (set xs i y)) + weight w (f (get_or xs i d)) ≡ weight w (concatMap f xs) + weight w (f y)
+      → weight w (concat_map f (set xs i y)) + weight w (f (get_or xs i d)) ≡ weight w (concat_map f xs) + weight w (f y)
   weight-exchange f [] i y d h = absurd (not-suc-le-zero h)
   weight-exchange f (x ∷ xs) zero y d h =
-      omega (arith, weight-append (f y) (concatMap f xs), weight-append (f x) (concatMap f xs))
+      omega (arith, weight-append (f y) (concat_map f xs), weight-append (f x) (concat_map f xs))
   weight-exchange f (x ∷ xs) (suc i) y d h =
       omega (
         arith,
-        weight-append (f x) (concatMap f (set xs i y)),
-        weight-append (f x) (concatMap f xs),
+        weight-append (f x) (concat_map f (set xs i y)),
+        weight-append (f x) (concat_map f xs),
         weight-exchange f xs i y d (le_of_suc-le-suc h),
       )
 
@@ -141,20 +141,20 @@ count_at k (x ∷ xs) (suc i) h e = let r = count_at k xs i (omega arith) e in o
 
 -- and in one of the lists, in all of them joined
 pub count-part : {A : Type 0} (k : ℕ) (f : A → List ℕ) (d : A) (xs : List A) (i : ℕ) → i < length xs
-    → count_of k (f (get_or xs i d)) ≤ count_of k (concatMap f xs)
+    → count_of k (f (get_or xs i d)) ≤ count_of k (concat_map f xs)
 count-part k f d [] i h = absurd (omega arith)
-count-part k f d (x ∷ xs) zero h = omega (arith, count-append k (f x) (concatMap f xs))
-count-part k f d (x ∷ xs) (suc i) h = omega (arith, count-append k (f x) (concatMap f xs), count-part k f d xs i (omega arith))
+count-part k f d (x ∷ xs) zero h = omega (arith, count-append k (f x) (concat_map f xs))
+count-part k f d (x ∷ xs) (suc i) h = omega (arith, count-append k (f x) (concat_map f xs), count-part k f d xs i (omega arith))
 
 -- a number counted in two of the parts
 pub count-two : {A : Type 0} (k : ℕ) (f : A → List ℕ) (d : A) (xs : List A) (i j : ℕ) → i < length xs → j < length xs → i ≢ j
-    → count_of k (f (get_or xs i d)) + count_of k (f (get_or xs j d)) ≤ count_of k (concatMap f xs)
+    → count_of k (f (get_or xs i d)) + count_of k (f (get_or xs j d)) ≤ count_of k (concat_map f xs)
 count-two k f d [] i j low high other = absurd (omega arith)
 count-two k f d (x ∷ xs) zero zero low high other = absurd (other refl)
-count-two k f d (x ∷ xs) zero (suc j) low high other = omega (arith, count-append k (f x) (concatMap f xs), count-part k f d xs j (omega arith))
-count-two k f d (x ∷ xs) (suc i) zero low high other = omega (arith, count-append k (f x) (concatMap f xs), count-part k f d xs i (omega arith))
+count-two k f d (x ∷ xs) zero (suc j) low high other = omega (arith, count-append k (f x) (concat_map f xs), count-part k f d xs j (omega arith))
+count-two k f d (x ∷ xs) (suc i) zero low high other = omega (arith, count-append k (f x) (concat_map f xs), count-part k f d xs i (omega arith))
 count-two k f d (x ∷ xs) (suc i) (suc j) low high other =
-    omega (arith, count-append k (f x) (concatMap f xs), count-two k f d xs i j (omega arith) (omega arith) (λ e. other (ap suc e)))
+    omega (arith, count-append k (f x) (concat_map f xs), count-two k f d xs i j (omega arith) (omega arith) (λ e. other (ap suc e)))
 
 -- and back: a number that is counted stands at an index
 pub count_index : (k : ℕ) (xs : List ℕ) → 1 ≤ count_of k xs → (i : ℕ) × ((i < length xs) × (get_or xs i 0 ≡ k))
@@ -171,16 +171,16 @@ count_index k (x ∷ xs) h = go (eqb x k) refl (count_index k xs)
         (suc t.0, (omega arith, t.1.1))
 
 -- and one that is counted in joined lists is in one of them
-pub count-whose : {A : Type 0} (k : ℕ) (f : A → List ℕ) (d : A) (xs : List A) → 1 ≤ count_of k (concatMap f xs)
+pub count-whose : {A : Type 0} (k : ℕ) (f : A → List ℕ) (d : A) (xs : List A) → 1 ≤ count_of k (concat_map f xs)
     → (i : ℕ) × ((i < length xs) × (1 ≤ count_of k (f (get_or xs i d))))
 count-whose k f d [] h = absurd (omega arith)
 count-whose {A} k f d (x ∷ xs) h = go (dec_lt 0 (count_of k (f x))) (count-whose k f d xs)
   where
-    go : Dec (0 < count_of k (f x)) → (1 ≤ count_of k (concatMap f xs) → (i : ℕ) × ((i < length xs) × (1 ≤ count_of k (f (get_or xs i d)))))
+    go : Dec (0 < count_of k (f x)) → (1 ≤ count_of k (concat_map f xs) → (i : ℕ) × ((i < length xs) × (1 ≤ count_of k (f (get_or xs i d)))))
         → (i : ℕ) × ((i < length (x ∷ xs)) × (1 ≤ count_of k (f (get_or (x ∷ xs) i d))))
     go (yes here) r = (0, (omega arith, here))
     go (no not) r =
-        let t = r (omega (arith, count-append k (f x) (concatMap f xs))) in
+        let t = r (omega (arith, count-append k (f x) (concat_map f xs))) in
         let inside = t.1.0 in
         (suc t.0, (omega arith, t.1.1))
 
@@ -204,17 +204,17 @@ length-weight [] = refl
 length-weight (x ∷ xs) = omega (arith, length-weight xs)
 
 -- the length of joined lists
-pub length-concatMap : {A B : Type 0} (f : A → List B) (xs : List A) → length (concatMap f xs) ≡ sum (map (λ x. length (f x)) xs)
-length-concatMap f [] = refl
-length-concatMap f (x ∷ xs) = omega (arith, length-append (f x) (concatMap f xs), length-concatMap f xs)
+pub length-concat_map : {A B : Type 0} (f : A → List B) (xs : List A) → length (concat_map f xs) ≡ sum (map (λ x. length (f x)) xs)
+length-concat_map f [] = refl
+length-concat_map f (x ∷ xs) = omega (arith, length-append (f x) (concat_map f xs), length-concat_map f xs)
 
 -- a function that reads a list by numbers upward from a gives the list
-pub map-upFrom : {A : Type 0} (f : ℕ → A) (xs : List A) (a : ℕ) (d : A) → ((i : ℕ) → i < length xs → f (a + i) ≡ get_or xs i d)
+pub map-up_from : {A : Type 0} (f : ℕ → A) (xs : List A) (a : ℕ) (d : A) → ((i : ℕ) → i < length xs → f (a + i) ≡ get_or xs i d)
     → map f (up_from a (length xs)) ≡ xs
-map-upFrom f [] a d h = refl
-map-upFrom {A} f (x ∷ xs) a d h =
+map-up_from f [] a d h = refl
+map-up_from {A} f (x ∷ xs) a d h =
     let first : f a ≡ x = ap f (sym (add-zero a)) ∙ h 0 (omega arith) in
-    let rest : map f (up_from (suc a) (length xs)) ≡ xs = map-upFrom f xs (suc a) d (λ i below. ap f (omega arith) ∙ h (suc i) (omega arith)) in
+    let rest : map f (up_from (suc a) (length xs)) ≡ xs = map-up_from f xs (suc a) d (λ i below. ap f (omega arith) ∙ h (suc i) (omega arith)) in
     cc
 
 -- a number below a range does not stand in it
@@ -232,15 +232,15 @@ count-within f a (suc n) low high = go (ℕ_discrete a f) (λ later. count-withi
     go (no other) later = rw (ne_eqb a f other) (omega (arith, later (omega arith)))
 
 -- a range has the length asked for
-pub length-upFrom : (a n : ℕ) → length (up_from a n) ≡ n
-length-upFrom a zero = refl
-length-upFrom a (suc n) = ap suc (length-upFrom (suc a) n)
+pub length-up_from : (a n : ℕ) → length (up_from a n) ≡ n
+length-up_from a zero = refl
+length-up_from a (suc n) = ap suc (length-up_from (suc a) n)
 
 -- two ranges side by side are one
-pub upFrom-append : (a n k : ℕ) → up_from a (n + k) ≡ up_from a n ++ up_from (a + n) k
-upFrom-append a zero k = simp (zero-add, add-zero)
-upFrom-append a (suc n) k =
-    rw suc-add (ap (λ (r : List ℕ). a ∷ r) (upFrom-append (suc a) n k ∙ ap (λ (c : ℕ). up_from (suc a) n ++ up_from c k) (omega arith)))
+pub up_from-append : (a n k : ℕ) → up_from a (n + k) ≡ up_from a n ++ up_from (a + n) k
+up_from-append a zero k = simp (zero-add, add-zero)
+up_from-append a (suc n) k =
+    rw suc-add (ap (λ (r : List ℕ). a ∷ r) (up_from-append (suc a) n k ∙ ap (λ (c : ℕ). up_from (suc a) n ++ up_from c k) (omega arith)))
 
 -- sums over one range, compared term by term
 pub sum-le : (f g : ℕ → ℕ) (a n : ℕ) → ((i : ℕ) → a ≤ i → i < a + n → f i ≤ g i) → sum (map f (up_from a n)) ≤ sum (map g (up_from a n))
@@ -287,7 +287,7 @@ drop-pad P z (suc n) (x ∷ xs) = drop-pad P z n xs
 
 module _ {A B : Type 0} (f : A → List B) where
   -- lists of s elements each
-  pub length-parts : (s : ℕ) (xs : List A) → Every (λ x. length (f x) ≡ s) xs → length (concatMap f xs) ≡ s * length xs
+  pub length-parts : (s : ℕ) (xs : List A) → Every (λ x. length (f x) ≡ s) xs → length (concat_map f xs) ≡ s * length xs
   length-parts s [] e = sym (mul-zero s)
   length-parts s (x ∷ xs) e =
       let r = length-parts s xs e.1 in
@@ -295,20 +295,20 @@ module _ {A B : Type 0} (f : A → List B) where
       simp (length-append, mul-suc) (omega arith)
 
   -- one of the lists is no longer than all
-  pub part-short : {x : A} {xs : List A} → Memᴰ x xs → length (f x) ≤ length (concatMap f xs)
+  pub part-short : {x : A} {xs : List A} → Memᴰ x xs → length (f x) ≤ length (concat_map f xs)
   part-short {x} (Memᴰ.head {x = y} {xs = ys} q) = simp length-append (rw q (omega arith))
   part-short {x} (Memᴰ.tail {x = y} {xs = ys} h) = let r = part-short h in simp length-append (omega arith)
 
   -- element i of the j-th, where each has s
   pub getD-parts : (s : ℕ) → ((x : A) → length (f x) ≡ s) → (xs : List A) (j i : ℕ) (c : A) (d : B) → j < length xs → i < s
-      → get_or (concatMap f xs) (s * j + i) d ≡ get_or (f (get_or xs j c)) i d
+      → get_or (concat_map f xs) (s * j + i) d ≡ get_or (f (get_or xs j c)) i d
   getD-parts s sized [] j i c d h l = absurd (omega arith)
   getD-parts s sized (x ∷ xs) zero i c d h l =
       let z : s * 0 + i ≡ i = omega arith in
-      rw z (get_or-append (f x) (concatMap f xs) d i (rw (sized x) l))
+      rw z (get_or-append (f x) (concat_map f xs) d i (rw (sized x) l))
   getD-parts s sized (x ∷ xs) (suc j) i c d h l =
       let z : s * suc j + i ≡ length (f x) + (s * j + i) = omega (arith, sized x, mul-suc s j) in
-      rw z (get_or-append-add (f x) (concatMap f xs) (s * j + i) d ∙ getD-parts s sized xs j i c d (omega arith) l)
+      rw z (get_or-append-add (f x) (concat_map f xs) (s * j + i) d ∙ getD-parts s sized xs j i c d (omega arith) l)
 
 -- A list padded with 0.
 

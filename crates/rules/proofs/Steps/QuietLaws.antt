@@ -11,10 +11,10 @@ use lib.ListN.{length, length-set}
 use borrow.Author.Tests.{eqb-false}
 use Rattle.rules.specs.Build.{Build}
 use Rattle.rules.specs.Lists.{is_empty}
-use Rattle.rules.specs.Node.{Group, Message, Node, bufferHolds, buffered, forced, group_of, inBuffer, inQueue, line, timerRuns, withDescriptor, with_flags, withGroup, withQueue, withTimer, withTimerFlags}
+use Rattle.rules.specs.Node.{Group, Message, Node, buffer_holds, buffered, forced, group_of, in_buffer, in_queue, line, timer_runs, with_descriptor, with_flags, with_group, with_queue, with_timer, with_timer_flags}
 use Rattle.rules.specs.Operation.{accepted}
-use Rattle.rules.specs.Settling.{Moved, calls, mayStay, pass, restTimer, settle, upcall, upcallGroup}
-use Rattle.rules.specs.Step.{Effect, sectionBegun, described, finish, flagged, timerFlagged}
+use Rattle.rules.specs.Settling.{Moved, calls, may_stay, pass, rest_timer, settle, upcall, upcall_group}
+use Rattle.rules.specs.Step.{Effect, section_begun, described, finish, flagged, timer_flagged}
 use Rattle.rules.specs.Valid.{FirstInFrame, Valid}
 use Rattle.rules.proofs.Steps.LineLaws.{neither, timer-rests}
 use Rattle.rules.proofs.Steps.NodeLaws.{group-same, kept, reflagged-line}
@@ -22,32 +22,32 @@ use Rattle.rules.proofs.Steps.PagingLaws.{runner-quiet}
 
 -- nothing to settle, no page to bring in, and no upcall due
 pub record Quiet (b : Build) (n : Node) : Type 0 where
-  pub head : (x : Message) (q : List Message) → n.queue ≡ x ∷ q → mayStay n x ≡ true
-  pub idle : timerRuns n ≡ false → n.timer ≡ 0
+  pub head : (x : Message) (q : List Message) → n.queue ≡ x ∷ q → may_stay n x ≡ true
+  pub idle : timer_runs n ≡ false → n.timer ≡ 0
   pub resident : 1 ≤ n.running → FirstInFrame b (group_of n n.running).buffer.frames
   pub uncalled : calls n ≡ false
 
 -- a pass ends at once where the head may stay
-pass-ends : (b : Build) (n : Node) (q : List Message) → ((x : Message) (r : List Message) → q ≡ x ∷ r → mayStay n x ≡ true)
-    → pass b q n ≡ record { node = withQueue q n; moved = 0 }
+pass-ends : (b : Build) (n : Node) (q : List Message) → ((x : Message) (r : List Message) → q ≡ x ∷ r → may_stay n x ≡ true)
+    → pass b q n ≡ record { node = with_queue q n; moved = 0 }
 unfolding pass
 pass-ends b n [] stays = refl
 pass-ends b n (x ∷ q) stays = rw (pass, stays x q refl)
 
 -- a timer at rest is left
-pub rest-left : (n : Node) → (timerRuns n ≡ false → n.timer ≡ 0) → restTimer n ≡ n
-unfolding restTimer withTimer
-rest-left n idle = go (timerRuns n) refl
+pub rest-left : (n : Node) → (timer_runs n ≡ false → n.timer ≡ 0) → rest_timer n ≡ n
+unfolding rest_timer with_timer
+rest-left n idle = go (timer_runs n) refl
   where
-    go : (t : Bool) → timerRuns n ≡ t → cond t n (withTimer 0 n) ≡ n
+    go : (t : Bool) → timer_runs n ≡ t → cond t n (with_timer 0 n) ≡ n
     go true e = refl
     go false e = λ i. record { running = n.running; timer = sym (idle e) i; queue = n.queue; free = n.free; paging = n.paging; groups = n.groups }
 
 -- where the head may stay settling does nothing but put the timer to rest
-pub staying-settle : (b : Build) (n : Node) → ((x : Message) (q : List Message) → n.queue ≡ x ∷ q → mayStay n x ≡ true)
-    → settle b n ≡ record { node = restTimer n; moved = 0 }
-unfolding settle withQueue
-staying-settle b n stays = ap (λ (s : Moved). record { node = restTimer s.node; moved = s.moved }) (pass-ends b n n.queue stays)
+pub staying-settle : (b : Build) (n : Node) → ((x : Message) (q : List Message) → n.queue ≡ x ∷ q → may_stay n x ≡ true)
+    → settle b n ≡ record { node = rest_timer n; moved = 0 }
+unfolding settle with_queue
+staying-settle b n stays = ap (λ (s : Moved). record { node = rest_timer s.node; moved = s.moved }) (pass-ends b n n.queue stays)
 
 -- settling leaves such a node
 pub quiet-settle : {b : Build} {n : Node} → Quiet b n → settle b n ≡ record { node = n; moved = 0 }
@@ -60,7 +60,7 @@ pub quiet-finish : {b : Build} (e : Effect) → Quiet b e.node
       report = record { answer = accepted; value = e.value; trap = e.trap; upcall = 0; moved = e.moved; sent = e.sent };
       node = e.node;
     }
-unfolding finish upcall upcallGroup
+unfolding finish upcall upcall_group
 quiet-finish {b} e q = rw (quiet-settle q, runner-quiet b e.node q.resident, q.uncalled, add-zero e.moved)
 
 -- an upcall is due where a group runs, isn't atomic and has a line
@@ -82,8 +82,8 @@ pub valid-quiet : {b : Build} {n : Node} → Valid b n → Quiet b n
 valid-quiet {b} {n} v = record { head = v.head-stays; idle = timer-rests v; resident = v.runner-resident; uncalled = none-due n v.running-atomic }
 
 -- and a timer that goes on makes nothing due
-pub counted-quiet : {b : Build} {n : Node} → Valid b n → timerRuns n ≡ true → (t : ℕ) → Quiet b (withTimer t n)
-unfolding withTimer mayStay buffered bufferHolds group_of calls line inBuffer inQueue timerRuns forced
+pub counted-quiet : {b : Build} {n : Node} → Valid b n → timer_runs n ≡ true → (t : ℕ) → Quiet b (with_timer t n)
+unfolding with_timer may_stay buffered buffer_holds group_of calls line in_buffer in_queue timer_runs forced
 counted-quiet v runs t =
     record {
       head = v.head-stays;
@@ -112,11 +112,11 @@ forced-still false true true f' a' more mores e = sym (rw (more refl, mores refl
 -- it stays quiet when its running group is exchanged for one with the same buffer, revoked if it was, and atomic and with force on where it was so
 exchanged-quiet : {b : Build} {n : Node} → Quiet b n → pred n.running < length n.groups → (G : Group) → G.buffer ≡ (group_of n n.running).buffer
     → G.revoked ≡ (group_of n n.running).revoked → ((group_of n n.running).force ≡ true → G.force ≡ true)
-    → ((group_of n n.running).atomic ≡ true → G.atomic ≡ true) → Quiet b (withGroup n.running G n)
-unfolding mayStay buffered bufferHolds withGroup timerRuns forced calls
+    → ((group_of n n.running).atomic ≡ true → G.atomic ≡ true) → Quiet b (with_group n.running G n)
+unfolding may_stay buffered buffer_holds with_group timer_runs forced calls
 exchanged-quiet {b} {n} q inside G same marked force atomic =
     let g = n.running in
-    let k = withGroup g G n in
+    let k = with_group g G n in
     let own : group_of k g ≡ G = group-same n g G inside in
     let line_kept : line k g ≡ line n g = reflagged-line n g G same g in
     record {
@@ -142,13 +142,13 @@ runner-within {b} {n} v = omega (arith, v.group-count, v.running-bound)
 
 -- so with another descriptor
 pub described-quiet : {b : Build} {n : Node} → Valid b n → (d : List ℕ) → Quiet b (described d n)
-unfolding described withDescriptor
+unfolding described with_descriptor
 described-quiet {b} {n} v d =
-    exchanged-quiet (valid-quiet v) (runner-within v) (withDescriptor d (group_of n n.running)) refl refl (λ e. e) (λ e. e)
+    exchanged-quiet (valid-quiet v) (runner-within v) (with_descriptor d (group_of n n.running)) refl refl (λ e. e) (λ e. e)
 
 -- and in an atomic section
-pub begun-quiet : {b : Build} {n : Node} → Valid b n → (force : Bool) → Quiet b (sectionBegun force n)
-unfolding sectionBegun flagged timerFlagged withGroup with_flags withTimerFlags
+pub begun-quiet : {b : Build} {n : Node} → Valid b n → (force : Bool) → Quiet b (section_begun force n)
+unfolding section_begun flagged timer_flagged with_group with_flags with_timer_flags
 begun-quiet {b} {n} v force =
     let r = n.running in
     let G = group_of n r in
@@ -156,5 +156,5 @@ begun-quiet {b} {n} v force =
     let own : group_of k r ≡ with_flags true G.pending G = group-same n r (with_flags true G.pending G) (runner-within v) in
     let once = exchanged-quiet (valid-quiet v) (runner-within v) (with_flags true G.pending G) refl refl (λ e. e) (λ e. refl) in
     exchanged-quiet {n = k} once (rw (length-set n.groups (pred r) (with_flags true G.pending G)) (runner-within v))
-    (withTimerFlags (force || G.force) G.revoked (group_of k r)) refl (sym (ap (λ (K : Group). K.revoked) own))
+    (with_timer_flags (force || G.force) G.revoked (group_of k r)) refl (sym (ap (λ (K : Group). K.revoked) own))
     (λ e. ap (λ (t : Bool). force || t) (sym (ap (λ (K : Group). K.force) own) ∙ e) ∙ or-true force) (λ e. e)

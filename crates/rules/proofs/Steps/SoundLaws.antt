@@ -4,10 +4,10 @@ use mathlib.Core.Path.{◌≡◌, refl, ◌∙◌}
 use mathlib.Core.Bool.{true, false}
 use native.Mathlib.Omega.{arith}
 use lib.ListN.{length, length-append}
-use Rattle.rules.specs.Lists.{is_empty, concatMap}
-use Rattle.rules.specs.Build.{Build, Sensible, paper01, groupCount}
+use Rattle.rules.specs.Lists.{is_empty, concat_map}
+use Rattle.rules.specs.Build.{Build, Sensible, paper01, group_count}
 use Rattle.rules.specs.Node.{Group, Node, group_of, line}
-use Rattle.rules.specs.Valid.{GoodGroup, Valid, frameList, idle, frameNumbers, frameOrder}
+use Rattle.rules.specs.Valid.{GoodGroup, Valid, frame_list, idle, frame_numbers, frame_order}
 use Rattle.rules.specs.Sound.{Sound, WholeGroup, Mapped}
 use Rattle.rules.proofs.Steps.EveryLaws.{every-mono}
 use Rattle.rules.proofs.Steps.ListLaws.{below-once, below_length, below-append, below_none}
@@ -15,11 +15,11 @@ use Rattle.rules.proofs.Steps.ListLaws.{below-once, below_length, below-append, 
 -- paper 01's build makes sense
 pub paper-sensible : Sensible paper01
 paper-sensible =
-    record { frames = omega arith; perFrame = omega arith; places = omega arith; timeout = omega arith }
+    record { frames = omega arith; per_frame = omega arith; places = omega arith; timeout = omega arith }
 
 -- "pending only with [...] a line not empty"
 abbrev pub PendingLines : Node → Type 0
-PendingLines n = (g : ℕ) → 1 ≤ g → g ≤ groupCount → (group_of n g).pending ≡ true → is_empty (line n g) ≡ false
+PendingLines n = (g : ℕ) → 1 ≤ g → g ≤ group_count → (group_of n g).pending ≡ true → is_empty (line n g) ≡ false
 
 -- two groups with the same flags and descriptor
 pub record SameFlags (G H : Group) : Type 0 where
@@ -65,7 +65,7 @@ valid-sound v =
 module _ {b : Build} {n : Node} (s : Sound b n) where
   -- the free frames and those in the order of entry are as many as the build has
   pub line-lengths : length n.free + length n.paging.entered ≡ b.frames
-  unfolding frameOrder
+  unfolding frame_order
   line-lengths =
       let all = s.entered_all in
       let e = length-append n.free n.paging.entered in
@@ -74,10 +74,10 @@ module _ {b : Build} {n : Node} (s : Sound b n) where
   -- no more swap pages are free than there are: the numbers below `frames` are as many as that and none of them is in the swap line, so the
   -- free line and the lists have that many at least
   pub swap-short : length n.paging.swap ≤ b.swap
-  unfolding idle frameNumbers
+  unfolding idle frame_numbers
   swap-short =
-      let lists = concatMap frameList n.groups in
-      let once = below-once b.frames (frameNumbers n) (λ f l. s.frames-once f (omega arith)) in
+      let lists = concat_map frame_list n.groups in
+      let once = below-once b.frames (frame_numbers n) (λ f l. s.frames-once f (omega arith)) in
       let parts = simp below-append at once in
       let none = below_none b.frames n.paging.swap s.swap-numbers in
       let sizes = simp length-append at s.frames-all in

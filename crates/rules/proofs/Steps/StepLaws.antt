@@ -12,19 +12,19 @@ use native.Mathlib.Nat.{zero-add, zero-mul, not-suc-le-zero}
 use lib.Dec.{ltb, eqb}
 use lib.ListN.{length, get_or, replicate, length-replicate}
 use borrow.Author.Tests.{eq-eqb, eqb-false, ne_eqb, ltb-false, le-ltb, not-true, not-false}
-use Rattle.rules.specs.Lists.{Every, is_empty, concatMap, count_of, up_from}
-use Rattle.rules.specs.Build.{Build, Sensible, pageCount, groupCount}
-use Rattle.rules.specs.Node.{Message, Buffer, Group, Node, group_of, withRunning, withTimer, withGroup, with_flags, bufferHolds, buffered, forced, timerRuns, line, emptyGroup, emptyPaging, powerOn, waiting, unused, inQueue}
+use Rattle.rules.specs.Lists.{Every, is_empty, concat_map, count_of, up_from}
+use Rattle.rules.specs.Build.{Build, Sensible, page_count, group_count}
+use Rattle.rules.specs.Node.{Message, Buffer, Group, Node, group_of, with_running, with_timer, with_group, with_flags, buffer_holds, buffered, forced, timer_runs, line, empty_group, empty_paging, power_on, waiting, unused, in_queue}
 use Rattle.rules.specs.Frames.{pledge, pledges}
-use Rattle.rules.specs.Operation.{Operation, arrive, schedule, preempt, dispatch, tick, turn, user, unknown, accepted, refused, allZero}
-use Rattle.rules.specs.Paging.{runnerResident}
-use Rattle.rules.specs.Refusal.{refuseSchedule, refuseDispatch, refusal}
-use Rattle.rules.specs.Settling.{mayStay, settle, calls, upcall}
-use Rattle.rules.specs.Step.{Effect, Stepped, valued, preempted, act, finish, inARow, switched, performed, step}
-use Rattle.rules.specs.Valid.{GoodGroup, Valid, IsSwap, FirstInFrame, frameList, idle, frameNumbers, frameOrder}
+use Rattle.rules.specs.Operation.{Operation, arrive, schedule, preempt, dispatch, tick, turn, user, unknown, accepted, refused, all_zero}
+use Rattle.rules.specs.Paging.{runner_resident}
+use Rattle.rules.specs.Refusal.{refuse_schedule, refuse_dispatch, refusal}
+use Rattle.rules.specs.Settling.{may_stay, settle, calls, upcall}
+use Rattle.rules.specs.Step.{Effect, Stepped, valued, preempted, act, finish, in_arow, switched, performed, step}
+use Rattle.rules.specs.Valid.{GoodGroup, Valid, IsSwap, FirstInFrame, frame_list, idle, frame_numbers, frame_order}
 use Rattle.rules.specs.Sound.{Sound}
-use Rattle.rules.proofs.Steps.EveryLaws.{every-replicate, every-upFrom}
-use Rattle.rules.proofs.Steps.ListLaws.{no_length, sum-le, count-within, length-upFrom, upFrom-append}
+use Rattle.rules.proofs.Steps.EveryLaws.{every-replicate, every-up_from}
+use Rattle.rules.proofs.Steps.ListLaws.{no_length, sum-le, count-within, length-up_from, up_from-append}
 use Rattle.rules.proofs.Steps.FrameLaws.{ceil-none}
 use Rattle.rules.proofs.Steps.NodeLaws.{group-same, kept, within, group-good, reflagged}
 use Rattle.rules.proofs.Steps.SettlingLaws.{runs-empty, forced-same, upcall-cases, upcall-kept, settle-sound, settle-running, settle-moved, settle-line, settle-flags, settle-head, settle-timer}
@@ -35,8 +35,8 @@ use Rattle.rules.proofs.Steps.ActLaws.{failed, Ready, reflagged-pending, act-rea
 -- a node after settling: ready, its head stays, and its timer is 0 where it does not run
 record Settled (b : Build) (n : Node) : Type 0 where
   ready : Ready b n
-  head-stays : (m : Message) (q : List Message) → n.queue ≡ m ∷ q → mayStay n m ≡ true
-  timer-idle : timerRuns n ≡ false → n.timer ≡ 0
+  head-stays : (m : Message) (q : List Message) → n.queue ≡ m ∷ q → may_stay n m ≡ true
+  timer-idle : timer_runs n ≡ false → n.timer ≡ 0
 
 -- settling settles
 settled : {b : Build} {n : Node} → Ready b n → Settled b (settle b n).node
@@ -51,21 +51,21 @@ settled {b} {n} y =
     }
 
 -- whether a head may stay does not hang on where pages are
-pub repaged-stays : {n' n : Node} → Repaged n' n → (m : Message) → mayStay n' m ≡ mayStay n m
-unfolding mayStay
+pub repaged-stays : {n' n : Node} → Repaged n' n → (m : Message) → may_stay n' m ≡ may_stay n m
+unfolding may_stay
 repaged-stays {n'} {n} r m =
     ap (λ (g : ℕ). eqb m.group g && not (buffered n' m.group)) r.running
     ∙ ap (λ (t : Bool). eqb m.group n.running && not t) (repaged-buffered r m.group)
 
 -- nor does whether the timer runs
-pub repaged-runs : {n' n : Node} → Repaged n' n → timerRuns n' ≡ timerRuns n
-unfolding timerRuns
+pub repaged-runs : {n' n : Node} → Repaged n' n → timer_runs n' ≡ timer_runs n
+unfolding timer_runs
 repaged-runs {n'} {n} r =
     ap (λ (q : List Message). not (is_empty q) || forced n') r.queue
     ∙ ap (λ (t : Bool). not (is_empty n.queue) || t) (forced-same n' n r.running (λ g. (r.groups g).flags))
 
 -- the running group's first page brought in leaves it settled
-paged : {b : Build} {n : Node} → Settled b n → Settled b (runnerResident b n)
+paged : {b : Build} {n : Node} → Settled b n → Settled b (runner_resident b n)
 paged {b} {n} d =
     let r = runner-repaged b n in
     record {
@@ -112,11 +112,11 @@ between false false false e first last = absurd (true≢false e)
 
 -- of the flags only revoked bears on whether a head may stay
 reflagged-stays : (n : Node) (g : ℕ) (G : Group) → G.buffer ≡ (group_of n g).buffer → G.revoked ≡ (group_of n g).revoked → (m : Message)
-    → mayStay (withGroup g G n) m ≡ mayStay n m
-unfolding mayStay buffered bufferHolds withGroup
+    → may_stay (with_group g G n) m ≡ may_stay n m
+unfolding may_stay buffered buffer_holds with_group
 reflagged-stays n g G same marked m =
     let h = m.group in
-    ap (λ (v : Buffer). eqb h n.running && not (ltb 0 v.count || (group_of (withGroup g G n) h).revoked)) (kept (λ K. K.buffer) n g G same h)
+    ap (λ (v : Buffer). eqb h n.running && not (ltb 0 v.count || (group_of (with_group g G n) h).revoked)) (kept (λ K. K.buffer) n g G same h)
     ∙ ap (λ (t : Bool). eqb h n.running && not (ltb 0 (group_of n h).buffer.count || t)) (kept (λ K. K.revoked) n g G marked h)
 
 -- an upcall is due to a group that is not atomic and whose line is not empty
@@ -135,8 +135,8 @@ due n e =
     record { group = omega arith; interruptible = not-true (group_of n r).atomic waits.0; line-waits = not-true (is_empty (line n r)) waits.1 }
 
 -- its timer runs only where a message is queued
-due-rests : (n : Node) → Due n → is_empty n.queue ≡ true → timerRuns n ≡ false
-unfolding timerRuns forced
+due-rests : (n : Node) → Due n → is_empty n.queue ≡ true → timer_runs n ≡ false
+unfolding timer_runs forced
 due-rests n d none = rw (none, d.interruptible, and-false, and-false)
 
 -- only a group is called up
@@ -144,8 +144,8 @@ pub calls-group : (n : Node) → calls n ≡ true → 1 ≤ n.running
 calls-group n e = (due n e).group
 
 -- a group called up
-called : {b : Build} {n : Node} → Settled b n → (1 ≤ n.running → FirstInFrame b (group_of n n.running).buffer.frames) → calls n ≡ true → Valid b (withGroup n.running (with_flags true true (group_of n n.running)) n)
-unfolding with_flags withGroup timerRuns
+called : {b : Build} {n : Node} → Settled b n → (1 ≤ n.running → FirstInFrame b (group_of n n.running).buffer.frames) → calls n ≡ true → Valid b (with_group n.running (with_flags true true (group_of n n.running)) n)
+unfolding with_flags with_group timer_runs
 called {b} {n} d first e =
     let s = d.ready.sound in
     let r = n.running in
@@ -155,8 +155,8 @@ called {b} {n} d first e =
     let old = group-good s r low high in
     let good : GoodGroup b G =
     record { buffer = old.buffer; descriptor = old.descriptor; pending-atomic = λ p. refl; force-atomic = λ p. refl; revoked-atomic = λ p. refl } in
-    let rests : timerRuns (withGroup r G n) ≡ false → timerRuns n ≡ false =
-    λ t. due-rests n (due n e) (not-false (is_empty n.queue) (neither (not (is_empty n.queue)) (forced (withGroup r G n)) t).0) in
+    let rests : timer_runs (with_group r G n) ≡ false → timer_runs n ≡ false =
+    λ t. due-rests n (due n e) (not-false (is_empty n.queue) (neither (not (is_empty n.queue)) (forced (with_group r G n)) t).0) in
     settled-valid
     (record {
       ready = record {
@@ -187,20 +187,20 @@ finish-valid {b} e y =
     let d = settled y in
     let r = (runner-repaged b k).running in
     upcall-valid (paged d)
-    (λ low. subst (λ (g : ℕ). FirstInFrame b (group_of (runnerResident b k) g).buffer.frames) (sym r) (runner-first d.ready.sound (omega arith)))
+    (λ low. subst (λ (g : ℕ). FirstInFrame b (group_of (runner_resident b k) g).buffer.frames) (sym r) (runner-first d.ready.sound (omega arith)))
 
 -- the rest of a step does to queue and timer what settling does
 pub finish-queue : (b : Build) (e : Effect) → (finish b e).node.queue ≡ (settle b e.node).node.queue
-unfolding finish withGroup
+unfolding finish with_group
 finish-queue b e =
     let k = (settle b e.node).node in
-    upcall-kept (λ m. m.queue) (runnerResident b k) (λ G. refl) ∙ (runner-repaged b k).queue
+    upcall-kept (λ m. m.queue) (runner_resident b k) (λ G. refl) ∙ (runner-repaged b k).queue
 
 pub finish-timer : (b : Build) (e : Effect) → (finish b e).node.timer ≡ (settle b e.node).node.timer
-unfolding finish withGroup
+unfolding finish with_group
 finish-timer b e =
     let k = (settle b e.node).node in
-    upcall-kept (λ m. m.timer) (runnerResident b k) (λ G. refl) ∙ (runner-repaged b k).timer
+    upcall-kept (λ m. m.timer) (runner_resident b k) (λ G. refl) ∙ (runner-repaged b k).timer
 
 -- what an accepted operation leaves is sound
 pub act-sound : {b : Build} {n : Node} → Valid b n → (op : Operation) → refusal b n op ≡ 0 → Sound b (act b n op).node
@@ -208,10 +208,10 @@ act-sound v op e = (act-ready v op e).sound
 
 -- and it leaves the processor with whom the operation left it
 pub finish-running : (b : Build) (e : Effect) → (finish b e).node.running ≡ e.node.running
-unfolding finish withGroup
+unfolding finish with_group
 finish-running b e =
     let k = (settle b e.node).node in
-    upcall-kept (λ m. m.running) (runnerResident b k) (λ G. refl) ∙ (runner-repaged b k).running ∙ settle-running b e.node
+    upcall-kept (λ m. m.running) (runner_resident b k) (λ G. refl) ∙ (runner-repaged b k).running ∙ settle-running b e.node
 
 -- an operation of one act: each but S
 abbrev pub OneAct : Operation → Type 0
@@ -259,7 +259,7 @@ step-cases b n op P performs refuses = go (refusal b n op) refl
 
 -- an operation performed is accepted
 pub performed-answer : (b : Build) (n : Node) (op : Operation) → (performed b n op).report.answer ≡ accepted
-unfolding performed finish switched inARow
+unfolding performed finish switched in_arow
 performed-answer b n (arrive g ws) = refl
 performed-answer b n preempt = refl
 performed-answer b n (dispatch g) = refl
@@ -267,11 +267,11 @@ performed-answer b n (schedule g) = go (eqb g n.running) (eqb g 0)
   where
     go : (t u : Bool)
         → (elim t as (λ t. Stepped) [
-          | true ↦ record { report = allZero; node = n }
+          | true ↦ record { report = all_zero; node = n }
           | false ↦
               elim u as (λ u. Stepped) [
                 | true ↦ finish b (act b n preempt)
-                | false ↦ inARow (finish b (act b n preempt)) (finish b (act b (finish b (act b n preempt)).node (dispatch g)))
+                | false ↦ in_arow (finish b (act b n preempt)) (finish b (act b (finish b (act b n preempt)).node (dispatch g)))
               ]
         ]).report.answer ≡ accepted
     go true u = refl
@@ -288,15 +288,15 @@ step-answer b n op =
     step-cases b n op (λ s. s.report.answer ≡ refusal b n op) (λ e. performed-answer b n op ∙ sym e) (λ r e. sym e)
 
 -- S, by the paper's sentence. To the one running, or to nobody where nobody runs, it is nothing.
-pub schedule-still : {b : Build} {n : Node} → Valid b n → step b n (schedule n.running) ≡ record { report = allZero; node = n }
-unfolding performed switched refusal refuseSchedule
+pub schedule-still : {b : Build} {n : Node} → Valid b n → step b n (schedule n.running) ≡ record { report = all_zero; node = n }
+unfolding performed switched refusal refuse_schedule
 schedule-still {b} {n} v =
-    let nothing : switched b n n.running ≡ record { report = allZero; node = n } = rw (eq-eqb n.running n.running refl, switched) in
-    step-performed b n (schedule n.running) (rw (le-ltb groupCount n.running v.running-bound)) ∙ nothing
+    let nothing : switched b n n.running ≡ record { report = all_zero; node = n } = rw (eq-eqb n.running n.running refl, switched) in
+    step-performed b n (schedule n.running) (rw (le-ltb group_count n.running v.running-bound)) ∙ nothing
 
 -- to nobody it is O
 pub schedule-takes : (b : Build) (n : Node) → n.running ≢ 0 → step b n (schedule 0) ≡ finish b (act b n preempt)
-unfolding performed switched refusal refuseSchedule
+unfolding performed switched refusal refuse_schedule
 schedule-takes b n runs =
     let one : switched b n 0 ≡ finish b (act b n preempt) = rw (ne_eqb 0 n.running (λ e. runs (sym e)), switched) in
     step-performed b n (schedule 0) refl ∙ one
@@ -308,11 +308,11 @@ taken b n = finish b (act b n preempt)
 abbrev pub given : Build → Node → ℕ → Stepped
 given b n g = finish b (act b (taken b n).node (dispatch g))
 
-pub schedule-switches : (b : Build) (n : Node) (g : ℕ) → g ≢ n.running → g ≢ 0 → g ≤ groupCount → step b n (schedule g) ≡ inARow (taken b n) (given b n g)
-unfolding performed switched refusal refuseSchedule
+pub schedule-switches : (b : Build) (n : Node) (g : ℕ) → g ≢ n.running → g ≢ 0 → g ≤ group_count → step b n (schedule g) ≡ in_arow (taken b n) (given b n g)
+unfolding performed switched refusal refuse_schedule
 schedule-switches b n g other some high =
-    let two : switched b n g ≡ inARow (taken b n) (given b n g) = rw (ne_eqb g n.running other, ne_eqb g 0 some, switched) in
-    step-performed b n (schedule g) (rw (le-ltb groupCount g high)) ∙ two
+    let two : switched b n g ≡ in_arow (taken b n) (given b n g) = rw (ne_eqb g n.running other, ne_eqb g 0 some, switched) in
+    step-performed b n (schedule g) (rw (le-ltb group_count g high)) ∙ two
 
 -- these are the steps of O, and of I after it
 pub step-taken : (b : Build) (n : Node) → step b n preempt ≡ taken b n
@@ -320,14 +320,14 @@ unfolding refusal
 step-taken b n = step-accepted b n preempt tt refl
 
 taken-nobody : (b : Build) (n : Node) → (taken b n).node.running ≡ 0
-unfolding act valued preempted withTimer withRunning
+unfolding act valued preempted with_timer with_running
 taken-nobody b n = finish-running b (act b n preempt)
 
-given-accepted : (b : Build) (n : Node) (g : ℕ) → g ≢ 0 → g ≤ groupCount → refusal b (taken b n).node (dispatch g) ≡ 0
-unfolding refusal refuseDispatch
-given-accepted b n g some high = rw (ne_eqb g 0 some, le-ltb groupCount g high, taken-nobody b n)
+given-accepted : (b : Build) (n : Node) (g : ℕ) → g ≢ 0 → g ≤ group_count → refusal b (taken b n).node (dispatch g) ≡ 0
+unfolding refusal refuse_dispatch
+given-accepted b n g some high = rw (ne_eqb g 0 some, le-ltb group_count g high, taken-nobody b n)
 
-pub step_given : (b : Build) (n : Node) (g : ℕ) → g ≢ 0 → g ≤ groupCount → step b (taken b n).node (dispatch g) ≡ given b n g
+pub step_given : (b : Build) (n : Node) (g : ℕ) → g ≢ 0 → g ≤ group_count → step b (taken b n).node (dispatch g) ≡ given b n g
 step_given b n g some high = step-accepted b (taken b n).node (dispatch g) tt (given-accepted b n g some high)
 
 -- O leaves a node
@@ -340,7 +340,7 @@ pub taken-empty : {b : Build} {n : Node} → Valid b n → (taken b n).node.queu
 taken-empty {b} {n} v = nobody-empty (taken-valid v) (taken-nobody b n)
 
 pub given-empty : {b : Build} {n : Node} → Valid b n → (g : ℕ) → (given b n g).node.queue ≡ []
-unfolding act valued withRunning
+unfolding act valued with_running
 given-empty {b} {n} v g =
     let k = (act b (taken b n).node (dispatch g)).node in
     finish-queue b (act b (taken b n).node (dispatch g)) ∙ no_length (settle b k).node.queue (omega (arith, settle-moved b k, ap length (taken-empty v)))
@@ -349,10 +349,10 @@ given-empty {b} {n} v g =
 pub record Law (b : Build) (P : Node → Operation → Stepped → Type 0) : Type 0 where
   pub refuses : (n : Node) → Valid b n → (op : Operation) (r : ℕ) → refusal b n op ≡ suc r → P n op (record { report = refused (suc r); node = n })
   pub acts : (n : Node) → Valid b n → (op : Operation) → OneAct op → refusal b n op ≡ 0 → P n op (finish b (act b n op))
-  pub still : (n : Node) → Valid b n → P n (schedule n.running) (record { report = allZero; node = n })
+  pub still : (n : Node) → Valid b n → P n (schedule n.running) (record { report = all_zero; node = n })
   pub takes : (n : Node) → Valid b n → n.running ≢ 0 → P n preempt (taken b n) → P n (schedule 0) (taken b n)
-  pub switches : (n : Node) → Valid b n → (g : ℕ) → g ≢ n.running → g ≢ 0 → g ≤ groupCount
-      → P n preempt (taken b n) → P (taken b n).node (dispatch g) (given b n g) → P n (schedule g) (inARow (taken b n) (given b n g))
+  pub switches : (n : Node) → Valid b n → (g : ℕ) → g ≢ n.running → g ≢ 0 → g ≤ group_count
+      → P n preempt (taken b n) → P (taken b n).node (dispatch g) (given b n g) → P n (schedule g) (in_arow (taken b n) (given b n g))
 
 module _ {b : Build} (P : Node → Operation → Stepped → Type 0) (l : Law b P) {n : Node} (v : Valid b n) where
   -- of one act
@@ -360,7 +360,7 @@ module _ {b : Build} (P : Node → Operation → Stepped → Type 0) (l : Law b 
   act-law op one e = subst (P n op) (sym (step-accepted b n op one e)) (l.acts n v op one e)
 
   -- of S
-  schedule-law : (g : ℕ) → g ≤ groupCount → P n (schedule g) (step b n (schedule g))
+  schedule-law : (g : ℕ) → g ≤ group_count → P n (schedule g) (step b n (schedule g))
   unfolding refusal
   schedule-law g high = go (ℕ_discrete g n.running) (ℕ_discrete g 0)
     where
@@ -380,11 +380,11 @@ module _ {b : Build} (P : Node → Operation → Stepped → Type 0) (l : Law b 
 
   -- of an accepted step
   accepted-law : (op : Operation) → refusal b n op ≡ 0 → P n op (step b n op)
-  unfolding refusal refuseSchedule
+  unfolding refusal refuse_schedule
   accepted-law (arrive g ws) e = act-law (arrive g ws) tt e
   accepted-law preempt e = act-law preempt tt e
   accepted-law (dispatch g) e = act-law (dispatch g) tt e
-  accepted-law (schedule g) e = schedule-law g (ltb-false groupCount g (failed (ltb groupCount g) _ _ e).0)
+  accepted-law (schedule g) e = schedule-law g (ltb-false group_count g (failed (ltb group_count g) _ _ e).0)
   accepted-law (tick k) e = act-law (tick k) tt e
   accepted-law turn e = act-law turn tt e
   accepted-law (user r) e = act-law (user r) tt e
@@ -397,7 +397,7 @@ module _ {b : Build} (P : Node → Operation → Stepped → Type 0) (l : Law b 
 
 -- a node stays a node
 pub step-valid : {b : Build} {n : Node} → Valid b n → (op : Operation) → Valid b (step b n op).node
-unfolding inARow
+unfolding in_arow
 step-valid {b} v op =
     step-law (λ n op s. Valid b s.node)
     (record {
@@ -410,15 +410,15 @@ step-valid {b} v op =
     v op
 
 -- an empty group is good
-empty-good : (b : Build) → 1 ≤ b.perFrame → GoodGroup b emptyGroup
+empty-good : (b : Build) → 1 ≤ b.per_frame → GoodGroup b empty_group
 unfolding waiting unused
 empty-good b some =
     record {
       buffer = record {
         used-bound = some;
         used-empty = λ e. refl;
-        list_length = ceil-none b.perFrame some;
-        whole = sym (zero-mul b.perFrame);
+        list_length = ceil-none b.per_frame some;
+        whole = sym (zero-mul b.per_frame);
         places = tt;
         waiting-good = tt;
         unused-wiped = tt;
@@ -430,61 +430,61 @@ empty-good b some =
     }
 
 -- groups that are all empty hold no frames
-empty-frames : (k : ℕ) → concatMap frameList (replicate k emptyGroup) ≡ []
-unfolding frameList
+empty-frames : (k : ℕ) → concat_map frame_list (replicate k empty_group) ≡ []
+unfolding frame_list
 empty-frames zero = refl
 empty-frames (suc k) = empty-frames k
 
 -- and each of them is empty
-empty_group : (k i : ℕ) → get_or (replicate k emptyGroup) i emptyGroup ≡ emptyGroup
-empty_group zero i = refl
-empty_group (suc k) zero = refl
-empty_group (suc k) (suc i) = empty_group k i
+empty-group : (k i : ℕ) → get_or (replicate k empty_group) i empty_group ≡ empty_group
+empty-group zero i = refl
+empty-group (suc k) zero = refl
+empty-group (suc k) (suc i) = empty-group k i
 
 -- so the frames are numbered upward
-power-on-frames : (b : Build) → frameNumbers (powerOn b) ≡ up_from 0 (pageCount b)
-unfolding frameNumbers idle powerOn emptyPaging
+power-on-frames : (b : Build) → frame_numbers (power_on b) ≡ up_from 0 (page_count b)
+unfolding frame_numbers idle power_on empty_paging
 power-on-frames b =
-    rw (empty-frames groupCount, append-nil)
-    (sym (upFrom-append 0 b.frames b.swap ∙ ap (λ (a : ℕ). up_from 0 b.frames ++ up_from a b.swap) (zero-add b.frames)))
+    rw (empty-frames group_count, append-nil)
+    (sym (up_from-append 0 b.frames b.swap ∙ ap (λ (a : ℕ). up_from 0 b.frames ++ up_from a b.swap) (zero-add b.frames)))
 
 -- and none is in use
-power-on-order : (b : Build) → frameOrder (powerOn b) ≡ up_from 0 b.frames
-unfolding frameOrder powerOn emptyPaging
+power-on-order : (b : Build) → frame_order (power_on b) ≡ up_from 0 b.frames
+unfolding frame_order power_on empty_paging
 power-on-order b = rw append-nil
 
 -- the swap line has swap pages
 power-on-swap : (b : Build) → Every (IsSwap b) (up_from b.frames b.swap)
-power-on-swap b = every-upFrom (IsSwap b) b.frames b.swap (λ i low high. low)
+power-on-swap b = every-up_from (IsSwap b) b.frames b.swap (λ i low high. low)
 
 -- every group is the empty one
-pub power-on-group : (b : Build) (g : ℕ) → group_of (powerOn b) g ≡ emptyGroup
-unfolding group_of powerOn
-power-on-group b g = empty_group groupCount (pred g)
+pub power-on-group : (b : Build) (g : ℕ) → group_of (power_on b) g ≡ empty_group
+unfolding group_of power_on
+power-on-group b g = empty-group group_count (pred g)
 
 -- and pledges nothing
-power-on-pledge : (b : Build) → 1 ≤ b.perFrame → (g : ℕ) → pledge b (powerOn b) g ≡ 0
-unfolding pledge inQueue powerOn
-power-on-pledge b some g = rw (power-on-group b g) (sym (ceil-none b.perFrame some))
+power-on-pledge : (b : Build) → 1 ≤ b.per_frame → (g : ℕ) → pledge b (power_on b) g ≡ 0
+unfolding pledge in_queue power_on
+power-on-pledge b some g = rw (power-on-group b g) (sym (ceil-none b.per_frame some))
 
 -- power-on makes a node
-pub power-on-valid : (b : Build) → Sensible b → Valid b (powerOn b)
-unfolding powerOn emptyPaging pledges
+pub power-on-valid : (b : Build) → Sensible b → Valid b (power_on b)
+unfolding power_on empty_paging pledges
 power-on-valid b s =
-    let none = sum-le (pledge b (powerOn b)) (λ g. 0) 1 groupCount (λ g low high. omega (arith, power-on-pledge b s.perFrame g)) in
+    let none = sum-le (pledge b (power_on b)) (λ g. 0) 1 group_count (λ g low high. omega (arith, power-on-pledge b s.per_frame g)) in
     record {
       sensible = s;
       running-bound = omega arith;
       timer-bound = s.timeout;
       queue-length = omega arith;
       queue-good = tt;
-      group-count = length-replicate groupCount emptyGroup;
-      groups-good = every-replicate (GoodGroup b) groupCount emptyGroup (empty-good b s.perFrame);
-      frames-once = λ f below. ap (count_of f) (power-on-frames b) ∙ count-within f 0 (pageCount b) (omega arith) (omega arith);
-      frames-all = ap length (power-on-frames b) ∙ length-upFrom 0 (pageCount b);
+      group-count = length-replicate group_count empty_group;
+      groups-good = every-replicate (GoodGroup b) group_count empty_group (empty-good b s.per_frame);
+      frames-once = λ f below. ap (count_of f) (power-on-frames b) ∙ count-within f 0 (page_count b) (omega arith) (omega arith);
+      frames-all = ap length (power-on-frames b) ∙ length-up_from 0 (page_count b);
       swap-numbers = power-on-swap b;
       entered-once = λ f below. ap (count_of f) (power-on-order b) ∙ count-within f 0 b.frames (omega arith) (omega arith);
-      entered_all = ap length (power-on-order b) ∙ length-upFrom 0 b.frames;
+      entered_all = ap length (power-on-order b) ∙ length-up_from 0 b.frames;
       pledged = omega arith;
       pending-line = λ g low high e. absurd (false≢true (sym (ap (λ (G : Group). G.pending) (power-on-group b g)) ∙ e));
       running-atomic = λ low. absurd (not-suc-le-zero low);

@@ -14,59 +14,59 @@ use lib.Dec.{eqb, ltb}
 use lib.ListN.{length, get_or, set}
 use borrow.Author.Tests.{ltb-true, ltb-false, eq-eqb, ne_eqb}
 use Rattle.rules.specs.Build.{Build}
-use Rattle.rules.specs.Node.{Message, Group, Node, emptyGroup, group_of, withTimer, withQueue, withGroups, withGroup, withTimerFlags, forced, timerRuns}
+use Rattle.rules.specs.Node.{Message, Group, Node, empty_group, group_of, with_timer, with_queue, with_groups, with_group, with_timer_flags, forced, timer_runs}
 use Rattle.rules.specs.Paging.{store}
-use Rattle.rules.specs.Operation.{timeoutTrap}
+use Rattle.rules.specs.Operation.{timeout_trap}
 use Rattle.rules.specs.Settling.{drain}
-use Rattle.rules.specs.Step.{Effect, valued, timerFlagged, revoke, timedOut, counted, oneTick, ticks}
+use Rattle.rules.specs.Step.{Effect, valued, timer_flagged, revoke, timed_out, counted, one_tick, ticks}
 use Rattle.rules.specs.Valid.{Valid}
 use Rattle.rules.proofs.Steps.StoreLaws.{store-timer}
 use Rattle.rules.proofs.Steps.NodeLaws.{kept}
 use Rattle.rules.proofs.Steps.SettlingLaws.{runs-empty, forced-same, drain-queue, drain-running, drain-flags}
 
 -- draining does not look at the timer
-drain-timer : (b : Build) (q : List Message) (t : ℕ) (n : Node) → drain b q (withTimer t n) ≡ withTimer t (drain b q n)
-unfolding drain withTimer withQueue
+drain-timer : (b : Build) (q : List Message) (t : ℕ) (n : Node) → drain b q (with_timer t n) ≡ with_timer t (drain b q n)
+unfolding drain with_timer with_queue
 drain-timer b [] t n = refl
 drain-timer b (m ∷ q) t n = ap (drain b q) (store-timer b m t n) ∙ drain-timer b q t (store b m n)
 
 -- the effect with the timer set
 unfoldable pub timed : ℕ → Effect → Effect
-timed t e = record { node = withTimer t e.node; value = e.value; trap = e.trap; moved = e.moved; sent = e.sent }
+timed t e = record { node = with_timer t e.node; value = e.value; trap = e.trap; moved = e.moved; sent = e.sent }
 
 -- a timeout does not look at the timer
-timeout-timed : (b : Build) (t : ℕ) (e : Effect) → timedOut b (timed t e) ≡ timedOut b e
-unfolding timedOut timed revoke timerFlagged withTimer withGroup group_of
+timeout-timed : (b : Build) (t : ℕ) (e : Effect) → timed_out b (timed t e) ≡ timed_out b e
+unfolding timed_out timed revoke timer_flagged with_timer with_group group_of
 timeout-timed b t e =
     λ i.
     record {
-      node = withTimer 0 (revoke (drain-timer b e.node.queue t e.node i));
+      node = with_timer 0 (revoke (drain-timer b e.node.queue t e.node i));
       value = e.value;
-      trap = timeoutTrap;
+      trap = timeout_trap;
       moved = e.moved + length e.node.queue;
       sent = e.sent;
     }
 
 -- ticks where the timer does not run
-ticks-none : (b : Build) (k : ℕ) (e : Effect) → timerRuns e.node ≡ false → ticks b k e ≡ e
-unfolding ticks oneTick
+ticks-none : (b : Build) (k : ℕ) (e : Effect) → timer_runs e.node ≡ false → ticks b k e ≡ e
+unfolding ticks one_tick
 ticks-none b zero e rests = refl
 ticks-none b (suc k) e rests =
-    ap (λ (t : Bool). ticks b k (cond t (cond (eqb (e.node.timer + 1) b.timeout) (timedOut b e) (counted e)) e)) rests ∙ ticks-none b k e rests
+    ap (λ (t : Bool). ticks b k (cond t (cond (eqb (e.node.timer + 1) b.timeout) (timed_out b e) (counted e)) e)) rests ∙ ticks-none b k e rests
 
 -- one tick that does not reach the timeout, and one that does
-tick-counts : (b : Build) (e : Effect) → timerRuns e.node ≡ true → e.node.timer + 1 ≢ b.timeout → oneTick b e ≡ timed (e.node.timer + 1) e
-unfolding oneTick counted timed
+tick-counts : (b : Build) (e : Effect) → timer_runs e.node ≡ true → e.node.timer + 1 ≢ b.timeout → one_tick b e ≡ timed (e.node.timer + 1) e
+unfolding one_tick counted timed
 tick-counts b e runs before = rw (runs, ne_eqb (e.node.timer + 1) b.timeout before)
 
-tick-reaches : (b : Build) (e : Effect) → timerRuns e.node ≡ true → e.node.timer + 1 ≡ b.timeout → oneTick b e ≡ timedOut b e
-unfolding oneTick
+tick-reaches : (b : Build) (e : Effect) → timer_runs e.node ≡ true → e.node.timer + 1 ≡ b.timeout → one_tick b e ≡ timed_out b e
+unfolding one_tick
 tick-reaches b e runs now = rw (runs, eq-eqb (e.node.timer + 1) b.timeout now)
 
 -- ticks that do not reach it
-counts : (b : Build) (k : ℕ) (e : Effect) → timerRuns e.node ≡ true → e.node.timer + k < b.timeout
+counts : (b : Build) (k : ℕ) (e : Effect) → timer_runs e.node ≡ true → e.node.timer + k < b.timeout
     → ticks b k e ≡ timed (e.node.timer + k) e
-unfolding ticks timed withTimer timerRuns forced group_of
+unfolding ticks timed with_timer timer_runs forced group_of
 counts b zero e runs below = ap (λ (t : ℕ). timed t e) (sym (add-zero e.node.timer))
 counts b (suc k) e runs below =
     ap (ticks b k) (tick-counts b e runs (omega arith))
@@ -81,44 +81,44 @@ set_twice f same (G ∷ Gs) zero d = ap (λ (H : Group). H ∷ Gs) (same G)
 set_twice f same (G ∷ Gs) (suc i) d = ap {B = List Group} (λ Hs. G ∷ Hs) (set_twice f same Gs i d)
 
 revoke-twice : (n : Node) → revoke (revoke n) ≡ revoke n
-unfolding revoke timerFlagged withTimerFlags withGroup withGroups group_of
+unfolding revoke timer_flagged with_timer_flags with_group with_groups group_of
 revoke-twice n =
-    ap (λ (Gs : List Group). withGroups Gs n) (set_twice (λ G. withTimerFlags G.force true G) (λ G. refl) n.groups (pred n.running) emptyGroup)
+    ap (λ (Gs : List Group). with_groups Gs n) (set_twice (λ G. with_timer_flags G.force true G) (λ G. refl) n.groups (pred n.running) empty_group)
 
 -- being revoked, and a queue drained, have no part in whether the timer is forced
 revoke-forced : (n : Node) → forced (revoke n) ≡ forced n
-unfolding forced revoke timerFlagged withTimerFlags withGroup
+unfolding forced revoke timer_flagged with_timer_flags with_group
 revoke-forced n =
     let r = n.running in
-    let G = withTimerFlags (group_of n r).force true (group_of n r) in
-    ap (λ (f : Bool). not (eqb r 0) && (f && (group_of (withGroup r G n) r).atomic)) (kept (λ K. K.force) n r G refl r)
+    let G = with_timer_flags (group_of n r).force true (group_of n r) in
+    ap (λ (f : Bool). not (eqb r 0) && (f && (group_of (with_group r G n) r).atomic)) (kept (λ K. K.force) n r G refl r)
     ∙ ap (λ (a : Bool). not (eqb r 0) && ((group_of n r).force && a)) (kept (λ K. K.atomic) n r G refl r)
 
 -- after a timeout the timer runs where it is forced
-timeout-runs : (b : Build) (e : Effect) → timerRuns (timedOut b e).node ≡ forced e.node
-unfolding timedOut withTimer revoke timerFlagged withGroup forced group_of
+timeout-runs : (b : Build) (e : Effect) → timer_runs (timed_out b e).node ≡ forced e.node
+unfolding timed_out with_timer revoke timer_flagged with_group forced group_of
 timeout-runs b e =
     let d = drain b e.node.queue e.node in
-    runs-empty (timedOut b e).node (drain-queue b e.node.queue e.node)
+    runs-empty (timed_out b e).node (drain-queue b e.node.queue e.node)
     ∙ revoke-forced d
     ∙ forced-same d e.node (drain-running b e.node.queue e.node) (drain-flags b e.node.queue e.node)
 
 -- an empty queue drained is nothing
 drain-none : (b : Build) (n : Node) → n.queue ≡ [] → drain b n.queue n ≡ n
-unfolding drain withQueue
-drain-none b n none = ap (λ (q : List Message). drain b q n) none ∙ ap (λ (q : List Message). withQueue q n) (sym none)
+unfolding drain with_queue
+drain-none b n none = ap (λ (q : List Message). drain b q n) none ∙ ap (λ (q : List Message). with_queue q n) (sym none)
 
 -- so another timeout changes nothing more
-timeout-twice : (b : Build) (e : Effect) → timedOut b (timedOut b e) ≡ timedOut b e
-unfolding timedOut revoke timerFlagged withTimer withGroup group_of
+timeout-twice : (b : Build) (e : Effect) → timed_out b (timed_out b e) ≡ timed_out b e
+unfolding timed_out revoke timer_flagged with_timer with_group group_of
 timeout-twice b e =
-    let n = (timedOut b e).node in
+    let n = (timed_out b e).node in
     let empty : n.queue ≡ [] = drain-queue b e.node.queue e.node in
-    let node : withTimer 0 (revoke (drain b n.queue n)) ≡ n =
-    ap (λ (k : Node). withTimer 0 (revoke k)) (drain-none b n empty) ∙ ap (withTimer 0) (revoke-twice (drain b e.node.queue e.node)) in
+    let node : with_timer 0 (revoke (drain b n.queue n)) ≡ n =
+    ap (λ (k : Node). with_timer 0 (revoke k)) (drain-none b n empty) ∙ ap (with_timer 0) (revoke-twice (drain b e.node.queue e.node)) in
     let moved : e.moved + length e.node.queue + length n.queue ≡ e.moved + length e.node.queue =
     ap (λ (q : List Message). e.moved + length e.node.queue + length q) empty ∙ add-zero (e.moved + length e.node.queue) in
-    λ i. record { node = node i; value = e.value; trap = timeoutTrap; moved = moved i; sent = e.sent }
+    λ i. record { node = node i; value = e.value; trap = timeout_trap; moved = moved i; sent = e.sent }
 
 -- a count that has come round
 round : (t k p : ℕ) → t + 1 ≡ p → (0 + k) % p ≡ (t + suc k) % p
@@ -128,33 +128,33 @@ round t k p now =
 
 -- ticks after a timeout, with the timer forced
 late : (b : Build) (e : Effect) → forced e.node ≡ true → (k t : ℕ) → t < b.timeout
-    → ticks b k (timed t (timedOut b e)) ≡ timed ((t + k) % b.timeout) (timedOut b e)
-unfolding ticks timed timedOut withTimer timerRuns forced group_of
-late b e force zero t below = ap (λ (x : ℕ). timed x (timedOut b e)) (sym (mod-eq_of_lt below) ∙ ap (λ (x : ℕ). x % b.timeout) (sym (add-zero t)))
+    → ticks b k (timed t (timed_out b e)) ≡ timed ((t + k) % b.timeout) (timed_out b e)
+unfolding ticks timed timed_out with_timer timer_runs forced group_of
+late b e force zero t below = ap (λ (x : ℕ). timed x (timed_out b e)) (sym (mod-eq_of_lt below) ∙ ap (λ (x : ℕ). x % b.timeout) (sym (add-zero t)))
 late b e force (suc k) t below = go (ℕ_discrete (t + 1) b.timeout) (late b e force k)
   where
-    runs : timerRuns (timedOut b e).node ≡ true
+    runs : timer_runs (timed_out b e).node ≡ true
     runs = timeout-runs b e ∙ force
 
-    go : Dec (t + 1 ≡ b.timeout) → ((s : ℕ) → s < b.timeout → ticks b k (timed s (timedOut b e)) ≡ timed ((s + k) % b.timeout) (timedOut b e))
-        → ticks b (suc k) (timed t (timedOut b e)) ≡ timed ((t + suc k) % b.timeout) (timedOut b e)
+    go : Dec (t + 1 ≡ b.timeout) → ((s : ℕ) → s < b.timeout → ticks b k (timed s (timed_out b e)) ≡ timed ((s + k) % b.timeout) (timed_out b e))
+        → ticks b (suc k) (timed t (timed_out b e)) ≡ timed ((t + suc k) % b.timeout) (timed_out b e)
     go (yes now) later =
-        ap (ticks b k) (tick-reaches b (timed t (timedOut b e)) runs now ∙ timeout-timed b t (timedOut b e) ∙ timeout-twice b e)
+        ap (ticks b k) (tick-reaches b (timed t (timed_out b e)) runs now ∙ timeout-timed b t (timed_out b e) ∙ timeout-twice b e)
         ∙ later 0 (omega arith)
-        ∙ ap (λ (x : ℕ). timed x (timedOut b e)) (round t k b.timeout now)
+        ∙ ap (λ (x : ℕ). timed x (timed_out b e)) (round t k b.timeout now)
     go (no before) later =
-        ap (ticks b k) (tick-counts b (timed t (timedOut b e)) runs before)
+        ap (ticks b k) (tick-counts b (timed t (timed_out b e)) runs before)
         ∙ later (t + 1) (omega arith)
-        ∙ ap (λ (x : ℕ). timed (x % b.timeout) (timedOut b e)) (omega arith)
+        ∙ ap (λ (x : ℕ). timed (x % b.timeout) (timed_out b e)) (omega arith)
 
 -- what is on the timer once k ticks have reached the timeout: the rest of them where it is forced, else nothing
-unfoldable pub leftOver : Build → ℕ → Node → ℕ
-leftOver b k n = cond (forced n) ((n.timer + k) % b.timeout) 0
+unfoldable pub left_over : Build → ℕ → Node → ℕ
+left_over b k n = cond (forced n) ((n.timer + k) % b.timeout) 0
 
 -- ticks that reach the timeout
-reaches : (b : Build) (k : ℕ) (e : Effect) → timerRuns e.node ≡ true → e.node.timer < b.timeout → b.timeout ≤ e.node.timer + k
-    → ticks b k e ≡ timed (leftOver b k e.node) (timedOut b e)
-unfolding ticks timed timedOut leftOver withTimer timerRuns forced group_of
+reaches : (b : Build) (k : ℕ) (e : Effect) → timer_runs e.node ≡ true → e.node.timer < b.timeout → b.timeout ≤ e.node.timer + k
+    → ticks b k e ≡ timed (left_over b k e.node) (timed_out b e)
+unfolding ticks timed timed_out left_over with_timer timer_runs forced group_of
 reaches b zero e runs below reached = absurd (omega arith)
 reaches b (suc k) e runs below reached =
     go (ℕ_discrete (e.node.timer + 1) b.timeout) (λ before. reaches b k (timed (e.node.timer + 1) e) runs (omega arith) (omega arith))
@@ -163,42 +163,42 @@ reaches b (suc k) e runs below reached =
     n = e.node
 
     after : e.node.timer + 1 ≡ b.timeout → (f : Bool) → forced n ≡ f
-        → ticks b k (timedOut b e) ≡ timed (cond f ((n.timer + suc k) % b.timeout) 0) (timedOut b e)
-    after now true f = late b e f k 0 (omega arith) ∙ ap (λ (x : ℕ). timed x (timedOut b e)) (round n.timer k b.timeout now)
-    after now false f = ticks-none b k (timedOut b e) (timeout-runs b e ∙ f)
+        → ticks b k (timed_out b e) ≡ timed (cond f ((n.timer + suc k) % b.timeout) 0) (timed_out b e)
+    after now true f = late b e f k 0 (omega arith) ∙ ap (λ (x : ℕ). timed x (timed_out b e)) (round n.timer k b.timeout now)
+    after now false f = ticks-none b k (timed_out b e) (timeout-runs b e ∙ f)
 
     go : Dec (n.timer + 1 ≡ b.timeout)
-        → (n.timer + 1 ≢ b.timeout → ticks b k (timed (n.timer + 1) e) ≡ timed (leftOver b k (withTimer (n.timer + 1) n)) (timedOut b (timed (n.timer + 1) e)))
-        → ticks b (suc k) e ≡ timed (leftOver b (suc k) n) (timedOut b e)
+        → (n.timer + 1 ≢ b.timeout → ticks b k (timed (n.timer + 1) e) ≡ timed (left_over b k (with_timer (n.timer + 1) n)) (timed_out b (timed (n.timer + 1) e)))
+        → ticks b (suc k) e ≡ timed (left_over b (suc k) n) (timed_out b e)
     go (yes now) later = ap (ticks b k) (tick-reaches b e runs now) ∙ after now (forced n) refl
     go (no before) later =
         let same : n.timer + 1 + k ≡ n.timer + suc k = omega arith in
         ap (ticks b k) (tick-counts b e runs before)
         ∙ later before
-        ∙ ap (λ (x : ℕ). timed (cond (forced n) (x % b.timeout) 0) (timedOut b (timed (n.timer + 1) e))) same
-        ∙ ap (timed (leftOver b (suc k) n)) (timeout-timed b (n.timer + 1) e)
+        ∙ ap (λ (x : ℕ). timed (cond (forced n) (x % b.timeout) 0) (timed_out b (timed (n.timer + 1) e))) same
+        ∙ ap (timed (left_over b (suc k) n)) (timeout-timed b (n.timer + 1) e)
 
 -- where the timer does not run nothing changes
-pub ticks-idle : (b : Build) (k : ℕ) (n : Node) → timerRuns n ≡ false → ticks b k (valued 0 n) ≡ valued 0 n
+pub ticks-idle : (b : Build) (k : ℕ) (n : Node) → timer_runs n ≡ false → ticks b k (valued 0 n) ≡ valued 0 n
 unfolding valued
 ticks-idle b k n rests = ticks-none b k (valued 0 n) rests
 
 -- below the timeout the timer is counted on, and nothing else changes
-pub ticks-counted : (b : Build) (k : ℕ) (n : Node) → timerRuns n ≡ true → n.timer + k < b.timeout
-    → ticks b k (valued 0 n) ≡ valued 0 (withTimer (n.timer + k) n)
+pub ticks-counted : (b : Build) (k : ℕ) (n : Node) → timer_runs n ≡ true → n.timer + k < b.timeout
+    → ticks b k (valued 0 n) ≡ valued 0 (with_timer (n.timer + k) n)
 unfolding valued timed
 ticks-counted b k n runs below = counts b k (valued 0 n) runs below
 
 -- else the queue is drained, the running group revoked, and what is left over is on the timer: as after one timeout
-pub ticks-timeout : (b : Build) (k : ℕ) (n : Node) → timerRuns n ≡ true → n.timer < b.timeout → b.timeout ≤ n.timer + k
-    → ticks b k (valued 0 n) ≡ timed (leftOver b k n) (timedOut b (valued 0 n))
+pub ticks-timeout : (b : Build) (k : ℕ) (n : Node) → timer_runs n ≡ true → n.timer < b.timeout → b.timeout ≤ n.timer + k
+    → ticks b k (valued 0 n) ≡ timed (left_over b k n) (timed_out b (valued 0 n))
 unfolding valued
 ticks-timeout b k n runs below reached = reaches b k (valued 0 n) runs below reached
 
 -- what is left over is below the timeout
-pub left_over : {b : Build} {n : Node} → Valid b n → (k : ℕ) → leftOver b k n < b.timeout
-unfolding leftOver
-left_over {b} {n} v k = go (forced n)
+pub left-over : {b : Build} {n : Node} → Valid b n → (k : ℕ) → left_over b k n < b.timeout
+unfolding left_over
+left-over {b} {n} v k = go (forced n)
   where
     go : (f : Bool) → cond f ((n.timer + k) % b.timeout) 0 < b.timeout
     go true = mod-lt (n.timer + k) v.sensible.timeout
@@ -206,17 +206,17 @@ left_over {b} {n} v k = go (forced n)
 
 -- so ticks do one of three things to a node: nothing, count, or what a timeout does
 pub data Ticked (b : Build) (k : ℕ) (n : Node) : Type 0 where
-  idle : timerRuns n ≡ false → ticks b k (valued 0 n) ≡ valued 0 n → Ticked b k n
-  counting : timerRuns n ≡ true → n.timer + k < b.timeout → ticks b k (valued 0 n) ≡ valued 0 (withTimer (n.timer + k) n) → Ticked b k n
-  timeout : timerRuns n ≡ true → ticks b k (valued 0 n) ≡ timed (leftOver b k n) (timedOut b (valued 0 n)) → Ticked b k n
+  idle : timer_runs n ≡ false → ticks b k (valued 0 n) ≡ valued 0 n → Ticked b k n
+  counting : timer_runs n ≡ true → n.timer + k < b.timeout → ticks b k (valued 0 n) ≡ valued 0 (with_timer (n.timer + k) n) → Ticked b k n
+  timeout : timer_runs n ≡ true → ticks b k (valued 0 n) ≡ timed (left_over b k n) (timed_out b (valued 0 n)) → Ticked b k n
 
 pub ticked-by : {b : Build} {n : Node} → Valid b n → (k : ℕ) → Ticked b k n
-ticked-by {b} {n} v k = go (timerRuns n) refl
+ticked-by {b} {n} v k = go (timer_runs n) refl
   where
-    some : timerRuns n ≡ true → (t : Bool) → ltb (n.timer + k) b.timeout ≡ t → Ticked b k n
+    some : timer_runs n ≡ true → (t : Bool) → ltb (n.timer + k) b.timeout ≡ t → Ticked b k n
     some runs true t = counting runs (ltb-true _ _ t) (ticks-counted b k n runs (ltb-true _ _ t))
     some runs false t = timeout runs (ticks-timeout b k n runs v.timer-bound (ltb-false _ _ t))
 
-    go : (u : Bool) → timerRuns n ≡ u → Ticked b k n
+    go : (u : Bool) → timer_runs n ≡ u → Ticked b k n
     go false e = idle e (ticks-idle b k n e)
     go true e = some e (ltb (n.timer + k) b.timeout) refl

@@ -7,14 +7,14 @@ use mathlib.Core.List.{List, [], ◌∷◌, ◌++◌}
 use mathlib.Core.Path.{◌≡◌, ◌∙◌, ap, refl}
 use lib.ListN.{get_or}
 use Rattle.rules.specs.Lists.{Every, filter, is_empty, up_from}
-use Rattle.rules.specs.Build.{Build, groupCount}
+use Rattle.rules.specs.Build.{Build, group_count}
 use Rattle.rules.specs.Node.{Message, Node, line}
-use Rattle.rules.specs.Operation.{turn, noTrap, acceptedWith}
+use Rattle.rules.specs.Operation.{turn, no_trap, accepted_with}
 use Rattle.rules.specs.Refusal.{refusal}
-use Rattle.rules.specs.Turn.{hasMail, turnOrder, whoseTurn}
+use Rattle.rules.specs.Turn.{has_mail, turn_order, whose_turn}
 use Rattle.rules.specs.Step.{Stepped, valued, act, step}
 use Rattle.rules.specs.Valid.{Valid}
-use Rattle.rules.proofs.Steps.EveryLaws.{every_append, every-upFrom}
+use Rattle.rules.proofs.Steps.EveryLaws.{every_append, every-up_from}
 use Rattle.rules.proofs.Steps.ListLaws.{filter-agree}
 use Rattle.rules.proofs.Steps.StepLaws.{step-accepted}
 use Rattle.rules.proofs.Steps.QuietLaws.{quiet-finish, valid-quiet}
@@ -53,30 +53,30 @@ found-upward p a (suc k) behind = go (found-upward p (suc a) k behind) (p a) ref
     go later false off = step off (first_of p rest) later
 
 -- a round has the eight groups alone
-round-groups : (P : ℕ → Type 0) → ((g : ℕ) → 1 ≤ g → g ≤ groupCount → P g) → (r : ℕ) → r ≤ groupCount → Every P (turnOrder r)
-unfolding turnOrder
+round-groups : (P : ℕ → Type 0) → ((g : ℕ) → 1 ≤ g → g ≤ group_count → P g) → (r : ℕ) → r ≤ group_count → Every P (turn_order r)
+unfolding turn_order
 round-groups P each r bound =
-    (every_append P (up_from (r + 1) (groupCount - r)) (up_from 1 r)).1
-    (every-upFrom P (r + 1) (groupCount - r) (λ i low high. each i (omega arith) (omega arith)), every-upFrom P 1 r (λ i low high. each i low (omega arith)))
+    (every_append P (up_from (r + 1) (group_count - r)) (up_from 1 r)).1
+    (every-up_from P (r + 1) (group_count - r) (λ i low high. each i (omega arith) (omega arith)), every-up_from P 1 r (λ i low high. each i low (omega arith)))
 
 -- so tests that agree on them find the same
-pub round_same : (p q : ℕ → Bool) → ((g : ℕ) → 1 ≤ g → g ≤ groupCount → p g ≡ q g) → (r : ℕ) → r ≤ groupCount
-    → first_of p (turnOrder r) ≡ first_of q (turnOrder r)
+pub round_same : (p q : ℕ → Bool) → ((g : ℕ) → 1 ≤ g → g ≤ group_count → p g ≡ q g) → (r : ℕ) → r ≤ group_count
+    → first_of p (turn_order r) ≡ first_of q (turn_order r)
 round_same p q same r bound =
-    ap (λ (gs : List ℕ). get_or gs 0 0) (filter-agree p q (turnOrder r) (round-groups (λ g. p g ≡ q g) same r bound))
+    ap (λ (gs : List ℕ). get_or gs 0 0) (filter-agree p q (turn_order r) (round-groups (λ g. p g ≡ q g) same r bound))
 
 -- nodes with the same lines and the same runner have the same turn
-pub turn-same : (n k : Node) → n.running ≡ k.running → n.running ≤ groupCount → ((g : ℕ) → 1 ≤ g → g ≤ groupCount → line n g ≡ line k g)
-    → whoseTurn n ≡ whoseTurn k
-unfolding whoseTurn hasMail
+pub turn-same : (n k : Node) → n.running ≡ k.running → n.running ≤ group_count → ((g : ℕ) → 1 ≤ g → g ≤ group_count → line n g ≡ line k g)
+    → whose_turn n ≡ whose_turn k
+unfolding whose_turn has_mail
 turn-same n k runs bound lines =
-    round_same (hasMail n) (hasMail k) (λ g low high. ap (λ (l : List Message). not (is_empty l)) (lines g low high)) n.running bound
-    ∙ ap (λ (r : ℕ). first_of (hasMail k) (turnOrder r)) runs
+    round_same (has_mail n) (has_mail k) (λ g low high. ap (λ (l : List Message). not (is_empty l)) (lines g low high)) n.running bound
+    ∙ ap (λ (r : ℕ). first_of (has_mail k) (turn_order r)) runs
 
 -- The step.
 
 -- nothing is due after it
-pub turn-whole : {b : Build} {n : Node} → Valid b n → step b n turn ≡ record { report = acceptedWith (whoseTurn n) noTrap 0 0; node = n }
+pub turn-whole : {b : Build} {n : Node} → Valid b n → step b n turn ≡ record { report = accepted_with (whose_turn n) no_trap 0 0; node = n }
 unfolding refusal act valued
 turn-whole {b} {n} v = step-accepted b n turn tt refl ∙ quiet-finish (act b n turn) (valid-quiet v)
 

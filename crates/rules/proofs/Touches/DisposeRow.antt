@@ -12,18 +12,18 @@ use lib.Dec.{eqb}
 use lib.ListN.{length, length-append, drop}
 use borrow.Author.Tests.{ltb-false, eqb-true, eqb-false, ne_eqb, eq-eqb}
 use Rattle.rules.specs.Lists.{is_empty, count_of}
-use Rattle.rules.specs.Build.{Build, groupCount}
-use Rattle.rules.specs.Node.{Buffer, Group, Node, emptyGroup, group_of, withGroups, withTimer, withFree, withPaging, withGroup, withBuffer, with_flags, bufferHolds, buffered, line}
-use Rattle.rules.specs.Frames.{Stock, firstFrame, removeFirst, freeFirst, useUp, withStock}
-use Rattle.rules.specs.Paging.{inFrame, trading, bringIn, firstResident, runnerResident}
+use Rattle.rules.specs.Build.{Build, group_count}
+use Rattle.rules.specs.Node.{Buffer, Group, Node, empty_group, group_of, with_groups, with_timer, with_free, with_paging, with_group, with_buffer, with_flags, buffer_holds, buffered, line}
+use Rattle.rules.specs.Frames.{Stock, first_frame, remove_first, free_first, use_up, with_stock}
+use Rattle.rules.specs.Paging.{in_frame, trading, bring_in, first_resident, runner_resident}
 use Rattle.rules.specs.Operation.{dispose, user}
-use Rattle.rules.specs.Refusal.{refusal, refuseRequest}
-use Rattle.rules.specs.Settling.{Moved, restTimer, settle, upcall}
-use Rattle.rules.specs.Step.{Effect, withoutFirst, removed, flagged, disposed, extending, serve, act, finish}
-use Rattle.rules.specs.Valid.{FirstInFrame, Valid, frameList}
+use Rattle.rules.specs.Refusal.{refusal, refuse_request}
+use Rattle.rules.specs.Settling.{Moved, rest_timer, settle, upcall}
+use Rattle.rules.specs.Step.{Effect, without_first, removed, flagged, disposed, extending, serve, act, finish}
+use Rattle.rules.specs.Valid.{FirstInFrame, Valid, frame_list}
 use Rattle.rules.specs.Sound.{Sound, Listed}
 use Rattle.rules.specs.Private.{PrivateLine, own}
-use Rattle.rules.specs.Touches.{NodePart, GroupPart, running, timer, queue, free, swap, entered, out, brought, atomic, pending, force, revoked, used, count, places, pages, descriptor, part, groupPart, row, stores, when, runs, isMoved, filling, requestRow, row_of}
+use Rattle.rules.specs.Touches.{NodePart, GroupPart, running, timer, queue, free, swap, entered, out, brought, atomic, pending, force, revoked, used, count, places, pages, descriptor, part, group_part, row, stores, when, runs, is_moved, filling, request_row, row_of}
 use Rattle.rules.proofs.Steps.EveryLaws.{every_drop}
 use Rattle.rules.proofs.Steps.ListLaws.{count-part, count-two}
 use Rattle.rules.proofs.Steps.NodeLaws.{within, stock-same, kept}
@@ -36,7 +36,7 @@ use Rattle.rules.proofs.Steps.QuietLaws.{staying-settle, runner-within}
 use Rattle.rules.proofs.Private.ViewLaws.{view, called-quiet}
 use Rattle.rules.proofs.Private.HeardLaws.{finish-view}
 use Rattle.rules.proofs.Private.RequestLaws.{dispose-some}
-use Rattle.rules.proofs.Touches.PartLaws.{nodeNumber, groupNumber, among, Kept, filling-inside, flags-kept, inside, inside-left, inside-none, inside-right, touched-inside, touched-same, touched-then, when-inside}
+use Rattle.rules.proofs.Touches.PartLaws.{node_number, group_number, among, Kept, filling-inside, flags-kept, inside, inside-left, inside-none, inside-right, touched-inside, touched-same, touched-then, when-inside}
 use Rattle.rules.proofs.Touches.TouchLaws.{Differs, Grouped, Rows, finished-touched, group-touched, grouped, queue-touched, repaged-touched, rest-touched, stock-touched, timer-touched, upcall-touched}
 use Rattle.rules.proofs.Touches.QueueRows.{uncalled}
 
@@ -45,34 +45,34 @@ use Rattle.rules.proofs.Touches.QueueRows.{uncalled}
 -- the running group's first page brought in where a frame is free, or in a frame already
 module _ {b : Build} {k : Node} (s : Sound b k) (low : 1 ≤ k.running) where
   -- a page of the running group stands in no other group's list
-  others-page : (p : ℕ) (ps : List ℕ) → (group_of k k.running).buffer.frames ≡ p ∷ ps → (g : ℕ) → 1 ≤ g → g ≤ groupCount → g ≢ k.running
+  others-page : (p : ℕ) (ps : List ℕ) → (group_of k k.running).buffer.frames ≡ p ∷ ps → (g : ℕ) → 1 ≤ g → g ≤ group_count → g ≢ k.running
       → count_of p (group_of k g).buffer.frames ≡ 0
-  unfolding group_of frameList
+  unfolding group_of frame_list
   others-page p ps e g low' high other =
-      let two = count-two p frameList emptyGroup k.groups (pred k.running) (pred g) (within s k.running low s.running-bound) (within s g low' high) (λ same. other (omega arith)) in
+      let two = count-two p frame_list empty_group k.groups (pred k.running) (pred g) (within s k.running low s.running-bound) (within s g low' high) (λ same. other (omega arith)) in
       let own : 1 ≤ count_of p (group_of k k.running).buffer.frames = rw (e, eq-eqb p p refl) (omega arith) in
       let listed : Listed p k = omega (arith, two) in
       omega (arith, two, (listed-once s p listed).1.1)
 
   -- nor does a free frame
-  others-free : (f : ℕ) (fs : List ℕ) → k.free ≡ f ∷ fs → (g : ℕ) → 1 ≤ g → g ≤ groupCount → count_of f (group_of k g).buffer.frames ≡ 0
-  unfolding group_of frameList
+  others-free : (f : ℕ) (fs : List ℕ) → k.free ≡ f ∷ fs → (g : ℕ) → 1 ≤ g → g ≤ group_count → count_of f (group_of k g).buffer.frames ≡ 0
+  unfolding group_of frame_list
   others-free f fs e g low' high =
       let here : 1 ≤ count_of f k.free = rw (e, eq-eqb f f refl) (omega arith) in
-      omega (arith, count-part f frameList emptyGroup k.groups (pred g) (within s g low' high), idle-unlisted s f (omega arith))
+      omega (arith, count-part f frame_list empty_group k.groups (pred g) (within s g low' high), idle-unlisted s f (omega arith))
 
   abbrev Brought : Node → Type 0
   Brought m = Kept (row (free ∷ swap ∷ entered ∷ brought ∷ []) (λ g. when (runs k g) (pages ∷ []))) m k
 
   bring-touched : (p : ℕ) (ps : List ℕ) → (group_of k k.running).buffer.frames ≡ p ∷ ps → (f : ℕ) (fs : List ℕ) → k.free ≡ f ∷ fs
-      → Brought (bringIn p (f ∷ fs) k)
-  unfolding bringIn trading withGroups withFree withPaging group_of
+      → Brought (bring_in p (f ∷ fs) k)
+  unfolding bring_in trading with_groups with_free with_paging group_of
   bring-touched p ps e f fs some = record { node = go; group = λ g low' high q. each g low' high q (runs k g) refl }
     where
       m : Node
-      m = bringIn p (f ∷ fs) k
+      m = bring_in p (f ∷ fs) k
 
-      go : (q : NodePart) → among nodeNumber q (free ∷ swap ∷ entered ∷ brought ∷ []) ≡ false → part q m ≡ part q k
+      go : (q : NodePart) → among node_number q (free ∷ swap ∷ entered ∷ brought ∷ []) ≡ false → part q m ≡ part q k
       go running none = refl
       go timer none = refl
       go queue none = refl
@@ -82,31 +82,31 @@ module _ {b : Build} {k : Node} (s : Sound b k) (low : 1 ≤ k.running) where
       go out none = refl
       go brought none = absurd (true≢false none)
 
-      each : (g : ℕ) → 1 ≤ g → g ≤ groupCount → (q : GroupPart) (t : Bool) → runs k g ≡ t → among groupNumber q (when t (pages ∷ [])) ≡ false
-          → groupPart q (group_of m g) ≡ groupPart q (group_of k g)
+      each : (g : ℕ) → 1 ≤ g → g ≤ group_count → (q : GroupPart) (t : Bool) → runs k g ≡ t → among group_number q (when t (pages ∷ [])) ≡ false
+          → group_part q (group_of m g) ≡ group_part q (group_of k g)
       each g low' high q true mine none = (repaged-touched (bring-repaged p (f ∷ fs) k)).group g low' high q none
       each g low' high q false other none =
-          ap (groupPart q)
+          ap (group_part q)
           (traded-group f p k g
           ∙ untraded f p (group_of k g)
           (traded-none f p (group_of k g).buffer.frames (others-free f fs some g low' high)
           (others-page p ps e g low' high (λ same. eqb-false k.running g other (sym same)))))
 
-  runner-touched : (FirstInFrame b (group_of k k.running).buffer.frames) ⊎ (1 ≤ length k.free) → Brought (runnerResident b k)
-  unfolding runnerResident firstResident
+  runner-touched : (FirstInFrame b (group_of k k.running).buffer.frames) ⊎ (1 ≤ length k.free) → Brought (runner_resident b k)
+  unfolding runner_resident first_resident
   runner-touched free-or-here = rw (ne_eqb k.running 0 (λ e. omega arith)) (first (group_of k k.running).buffer.frames refl free-or-here)
     where
-      fetched : (p : ℕ) (ps : List ℕ) → (group_of k k.running).buffer.frames ≡ p ∷ ps → 1 ≤ length k.free → Brought (bringIn p k.free k)
+      fetched : (p : ℕ) (ps : List ℕ) → (group_of k k.running).buffer.frames ≡ p ∷ ps → 1 ≤ length k.free → Brought (bring_in p k.free k)
       fetched p ps e some = go k.free refl
         where
-          go : (fs : List ℕ) → k.free ≡ fs → Brought (bringIn p fs k)
+          go : (fs : List ℕ) → k.free ≡ fs → Brought (bring_in p fs k)
           go [] none = absurd (omega (arith, ap length none))
           go (f ∷ fs) front = bring-touched p ps e f fs front
 
-      first : (ps : List ℕ) → (group_of k k.running).buffer.frames ≡ ps → (FirstInFrame b ps) ⊎ (1 ≤ length k.free) → Brought (firstResident b ps k)
+      first : (ps : List ℕ) → (group_of k k.running).buffer.frames ≡ ps → (FirstInFrame b ps) ⊎ (1 ≤ length k.free) → Brought (first_resident b ps k)
       first [] e h = touched-same refl
-      first (p ∷ ps) e (inl here) = resident-cases Brought b p k (λ in_frame. touched-same refl) (λ away. absurd (omega (arith, here, ltb-false p b.frames (unfold inFrame in away))))
-      first (p ∷ ps) e (inr some) = resident-cases Brought b p k (λ in_frame. touched-same refl) (λ away. fetched p ps e some)
+      first (p ∷ ps) e (inl here) = resident-cases Brought b p k (λ in-frame. touched-same refl) (λ away. absurd (omega (arith, here, ltb-false p b.frames (unfold in_frame in away))))
+      first (p ∷ ps) e (inr some) = resident-cases Brought b p k (λ in-frame. touched-same refl) (λ away. fetched p ps e some)
 
 module _ {b : Build} {n : Node} (v : Valid b n) (taken : refusal b n (user dispose) ≡ 0) where
   low : 1 ≤ n.running
@@ -114,7 +114,7 @@ module _ {b : Build} {n : Node} (v : Valid b n) (taken : refusal b n (user dispo
   low = (user-accepted n dispose taken).0
 
   some : is_empty (line n n.running) ≡ false
-  unfolding refusal refuseRequest
+  unfolding refusal refuse_request
   some = dispose-some (line n n.running) (user-accepted n dispose taken).1
 
   abbrev disposal : Effect
@@ -129,10 +129,10 @@ module _ {b : Build} {n : Node} (v : Valid b n) (taken : refusal b n (user dispo
   flags-same = sym (removed-flags b n n.running).atomic ∙ ap (λ (g : ℕ). (group_of (removed b n) g).atomic) (sym (removed-running b n))
 
   disposed-running : (disposed b n).running ≡ n.running
-  unfolding disposed flagged withTimer withGroup
+  unfolding disposed flagged with_timer with_group
   disposed-running = removed-running b n
 
-  disposed-touched : (ps : List NodePart) (qs : List GroupPart) → inside nodeNumber ps (timer ∷ ps) ≡ true → inside groupNumber qs (pending ∷ qs) ≡ true
+  disposed-touched : (ps : List NodePart) (qs : List GroupPart) → inside node_number ps (timer ∷ ps) ≡ true → inside group_number qs (pending ∷ qs) ≡ true
       → Kept (row ps (λ g. when (runs n g) qs)) (removed b n) n → Kept (row (timer ∷ ps) (λ g. when (runs n g) (pending ∷ qs))) (disposed b n) n
   unfolding disposed flagged with_flags
   disposed-touched ps qs nodes groups h =
@@ -159,14 +159,14 @@ module _ {b : Build} {n : Node} (v : Valid b n) (taken : refusal b n (user dispo
       differs descriptor none = refl
 
   disposed-atomic : (g : ℕ) → (group_of (disposed b n) g).atomic ≡ (group_of n g).atomic
-  unfolding disposed flagged with_flags withTimer group_of
+  unfolding disposed flagged with_flags with_timer group_of
   disposed-atomic g =
       kept (λ K. K.atomic) (removed b n) (removed b n).running
       (with_flags (group_of n n.running).atomic false (group_of (removed b n) (removed b n).running)) flags-same g
       ∙ (removed-flags b n g).atomic
 
   -- the running group has a line and is atomic, so that it is not called up
-  dispose-view : (g : ℕ) → 1 ≤ g → g ≤ groupCount → view g (finish b disposal).node ≡ view g (disposed b n)
+  dispose-view : (g : ℕ) → 1 ≤ g → g ≤ group_count → view g (finish b disposal).node ≡ view g (disposed b n)
   unfolding serve extending view
   dispose-view g low' high =
       finish-view disposal disposal-sound g low' high
@@ -175,18 +175,18 @@ module _ {b : Build} {n : Node} (v : Valid b n) (taken : refusal b n (user dispo
       disposed-atomic g ∙ subst (λ (r : ℕ). (group_of n r).atomic ≡ true) mine (v.running-atomic low some)))
 
   -- so of its flags pending alone is other
-  dispose-atomic : (g : ℕ) → 1 ≤ g → g ≤ groupCount → (group_of (finish b disposal).node g).atomic ≡ (group_of n g).atomic
+  dispose-atomic : (g : ℕ) → 1 ≤ g → g ≤ group_count → (group_of (finish b disposal).node g).atomic ≡ (group_of n g).atomic
   unfolding view
   dispose-atomic g low' high = ap (λ (p : PrivateLine). p.atomic) (dispose-view g low' high) ∙ disposed-atomic g
 
-  dispose-pending : (g : ℕ) → 1 ≤ g → g ≤ groupCount → (group_of (finish b disposal).node g).pending ≡ (group_of (disposed b n) g).pending
+  dispose-pending : (g : ℕ) → 1 ≤ g → g ≤ group_count → (group_of (finish b disposal).node g).pending ≡ (group_of (disposed b n) g).pending
   unfolding view
   dispose-pending g low' high = ap (λ (p : PrivateLine). p.pending) (dispose-view g low' high)
 
   -- from the queue
   module _ (direct : buffered n n.running ≡ false) where
     queue-left : (disposed b n).queue ≡ drop 1 n.queue
-    unfolding disposed flagged withTimer withGroup
+    unfolding disposed flagged with_timer with_group
     queue-left = removed-queue-direct v (direct-holds n n.running direct)
 
     direct-touched : Kept (row (timer ∷ queue ∷ []) (λ g. when (runs n g) (pending ∷ []))) (disposed b n) n
@@ -194,48 +194,48 @@ module _ {b : Build} {n : Node} (v : Valid b n) (taken : refusal b n (user dispo
         disposed-touched (queue ∷ []) [] refl refl
         (removed-cases (λ k. Kept (row (queue ∷ []) (λ g. when (runs n g) [])) k n) b n
         (λ holds. absurd (true≢false (sym holds ∙ direct-holds n n.running direct)))
-        (λ none. touched-inside refl (λ g. refl) (queue-touched (withoutFirst n.running n.queue) n)))
+        (λ none. touched-inside refl (λ g. refl) (queue-touched (without_first n.running n.queue) n)))
 
     direct-row : Rows b n (user dispose) disposal
-    unfolding row_of requestRow finish serve extending
+    unfolding row_of request_row finish serve extending
     direct-row =
         let s = (settle b (disposed b n)).moved in
         let q = drop 1 n.queue in
         let own : ℕ → List GroupPart = λ g. when (runs n g) (pending ∷ []) in
-        let self : (g : ℕ) → inside groupNumber (own g) (own g) ≡ true = λ g. when-inside (runs n g) (runs n g) (pending ∷ []) (pending ∷ []) (λ e. e) refl in
-        let last : (g : ℕ) → inside groupNumber (own g) (filling (isMoved g (0 + s) q) ++ own g) ≡ true =
-        λ g. inside-right groupNumber (own g) (filling (isMoved g (0 + s) q)) (own g) (self g) in
+        let self : (g : ℕ) → inside group_number (own g) (own g) ≡ true = λ g. when-inside (runs n g) (runs n g) (pending ∷ []) (pending ∷ []) (λ e. e) refl in
+        let last : (g : ℕ) → inside group_number (own g) (filling (is_moved g (0 + s) q) ++ own g) ≡ true =
+        λ g. inside-right group_number (own g) (filling (is_moved g (0 + s) q)) (own g) (self g) in
         rw direct
-        (flags-kept (λ g. filling (isMoved g (0 + s) q) ++ own g) (λ g. runs (disposed b n) g)
+        (flags-kept (λ g. filling (is_moved g (0 + s) q) ++ own g) (λ g. runs (disposed b n) g)
         (finished-touched b disposal n
         (rw queue-left (every_drop Grouped 1 n.queue (grouped v)))
-        (timer ∷ queue ∷ stores) own (λ g. filling (isMoved g (0 + s) q) ++ own g) refl refl last
-        (λ g. inside-left groupNumber (filling (isMoved g s (disposed b n).queue)) (filling (isMoved g (0 + s) q)) (own g)
-        (filling-inside (isMoved g s (disposed b n).queue) (isMoved g (0 + s) q)
-        (λ e. ap (λ (j : ℕ). isMoved g j q) (zero-add s) ∙ ap (isMoved g s) (sym queue-left) ∙ e)))
+        (timer ∷ queue ∷ stores) own (λ g. filling (is_moved g (0 + s) q) ++ own g) refl refl last
+        (λ g. inside-left group_number (filling (is_moved g s (disposed b n).queue)) (filling (is_moved g (0 + s) q)) (own g)
+        (filling-inside (is_moved g s (disposed b n).queue) (is_moved g (0 + s) q)
+        (λ e. ap (λ (j : ℕ). is_moved g j q) (zero-add s) ∙ ap (is_moved g s) (sym queue-left) ∙ e)))
         (touched-inside refl self direct-touched))
         (λ g low' high none. dispose-atomic g low' high)
         (λ g low' high none.
         dispose-pending g low' high
-        ∙ direct-touched.group g low' high pending (inside-none groupNumber pending (own g) (filling (isMoved g (0 + s) q) ++ own g) (last g) none)))
+        ∙ direct-touched.group g low' high pending (inside-none group_number pending (own g) (filling (is_moved g (0 + s) q) ++ own g) (last g) none)))
 
   -- from the buffer
   module _ (held : buffered n n.running ≡ true) where
     abbrev gone : List GroupPart
     gone = used ∷ count ∷ places ∷ pages ∷ []
 
-    holds : bufferHolds n n.running ≡ true
+    holds : buffer_holds n n.running ≡ true
     holds = sym (buffered-holds v some) ∙ held
 
     buffered-touched : Kept (row (timer ∷ free ∷ entered ∷ []) (λ g. when (runs n g) (pending ∷ gone))) (disposed b n) n
-    unfolding withBuffer
+    unfolding with_buffer
     buffered-touched =
         disposed-touched (free ∷ entered ∷ []) gone refl refl
         (removed-cases (λ k. Kept (row (free ∷ entered ∷ []) (λ g. when (runs n g) gone)) k n) b n
-        (λ e. stock-touched gone n.running (removeFirst b n.free n.paging.entered (group_of n n.running).buffer) n low refl differs)
+        (λ e. stock-touched gone n.running (remove_first b n.free n.paging.entered (group_of n n.running).buffer) n low refl differs)
         (λ none. absurd (true≢false (sym holds ∙ none))))
       where
-        differs : Differs gone (withBuffer (removeFirst b n.free n.paging.entered (group_of n n.running).buffer).buffer (group_of n n.running)) (group_of n n.running)
+        differs : Differs gone (with_buffer (remove_first b n.free n.paging.entered (group_of n n.running).buffer).buffer (group_of n n.running)) (group_of n n.running)
         differs atomic none = refl
         differs pending none = refl
         differs force none = refl
@@ -247,7 +247,7 @@ module _ {b : Build} {n : Node} (v : Valid b n) (taken : refusal b n (user dispo
         differs descriptor none = refl
 
     abbrev rested : Node
-    rested = restTimer (disposed b n)
+    rested = rest_timer (disposed b n)
 
     -- nothing is queued, so nothing moves
     rests : settle b (disposed b n) ≡ record { node = rested; moved = 0 }
@@ -259,29 +259,29 @@ module _ {b : Build} {n : Node} (v : Valid b n) (taken : refusal b n (user dispo
     abbrev Room : Node → Type 0
     Room k = (FirstInFrame b (group_of k k.running).buffer.frames) ⊎ (1 ≤ length k.free)
 
-    stock-room : (t : Stock) → (t.buffer.frames ≡ (group_of n n.running).buffer.frames) ⊎ (1 ≤ length t.free) → Room (withStock n.running t n)
-    unfolding withStock withGroup withFree withPaging
+    stock-room : (t : Stock) → (t.buffer.frames ≡ (group_of n n.running).buffer.frames) ⊎ (1 ≤ length t.free) → Room (with_stock n.running t n)
+    unfolding with_stock with_group with_free with_paging
     stock-room t (inl same) =
         inl (subst (FirstInFrame b) (sym (ap (λ (u : Buffer). u.frames) (stock-same n.running t n (runner-within v)) ∙ same)) (v.runner-resident low))
     stock-room t (inr free') = inr free'
 
     removed-room : Room (removed b n)
-    unfolding removeFirst freeFirst useUp
+    unfolding remove_first free_first use_up
     removed-room =
-        removed-cases Room b n (λ e. stock-room (removeFirst b n.free n.paging.entered w) (go (eqb w.count 1 || eqb (w.used + 1) b.perFrame)))
+        removed-cases Room b n (λ e. stock-room (remove_first b n.free n.paging.entered w) (go (eqb w.count 1 || eqb (w.used + 1) b.per_frame)))
         (λ none. absurd (true≢false (sym holds ∙ none)))
       where
         w : Buffer
         w = (group_of n n.running).buffer
 
         go : (t : Bool)
-            → ((cond t (freeFirst b n.free n.paging.entered w) (useUp n.free n.paging.entered w)).buffer.frames ≡ w.frames)
-            ⊎ (1 ≤ length (cond t (freeFirst b n.free n.paging.entered w) (useUp n.free n.paging.entered w)).free)
-        go true = inr (omega (arith, length-append n.free (firstFrame w ∷ [])))
+            → ((cond t (free_first b n.free n.paging.entered w) (use_up n.free n.paging.entered w)).buffer.frames ≡ w.frames)
+            ⊎ (1 ≤ length (cond t (free_first b n.free n.paging.entered w) (use_up n.free n.paging.entered w)).free)
+        go true = inr (omega (arith, length-append n.free (first_frame w ∷ [])))
         go false = inl refl
 
     room : Room rested
-    unfolding disposed flagged with_flags withTimer withGroup group_of
+    unfolding disposed flagged with_flags with_timer with_group group_of
     room = rest-cases Room (disposed b n) (λ e. go removed-room) (λ e. go removed-room)
       where
         r : ℕ
@@ -300,16 +300,16 @@ module _ {b : Build} {n : Node} (v : Valid b n) (taken : refusal b n (user dispo
     rested-sound : Sound b rested
     rested-sound = subst (λ (m : Moved). Sound b m.node) rests (settle-sound disposal-sound)
 
-    buffered-left : (finish b disposal).node ≡ upcall (runnerResident b rested)
+    buffered-left : (finish b disposal).node ≡ upcall (runner_resident b rested)
     unfolding finish serve extending
-    buffered-left = ap (λ (m : Moved). upcall (runnerResident b m.node)) rests
+    buffered-left = ap (λ (m : Moved). upcall (runner_resident b m.node)) rests
 
     buffered-row : Rows b n (user dispose) disposal
-    unfolding row_of requestRow finish serve extending
+    unfolding row_of request_row finish serve extending
     buffered-row =
         let own : ℕ → List GroupPart = λ g. when (runs n g) (pending ∷ gone) in
         let up : ℕ → List GroupPart = λ g. when (runs n g) (atomic ∷ pending ∷ []) in
-        let l = runnerResident b rested in
+        let l = runner_resident b rested in
         let paged = runner-touched rested-sound (rw rested-running low) room in
         let same : l.running ≡ n.running = paged.node running refl ∙ rested-running in
         rw held
@@ -317,17 +317,17 @@ module _ {b : Build} {n : Node} (v : Valid b n) (taken : refusal b n (user dispo
         (touched-then {k = upcall l} (touched-same buffered-left)
         (touched-then
         (touched-inside refl
-        (λ g. inside-right groupNumber (when (runs l g) (atomic ∷ pending ∷ [])) (own g) (up g)
+        (λ g. inside-right group_number (when (runs l g) (atomic ∷ pending ∷ [])) (own g) (up g)
         (when-inside (runs l g) (runs n g) (atomic ∷ pending ∷ []) (atomic ∷ pending ∷ []) (λ e. ap (λ (r : ℕ). eqb r g) (sym same) ∙ e) refl))
         (upcall-touched l))
         (touched-then
         (touched-inside refl
-        (λ g. inside-left groupNumber (when (runs rested g) (pages ∷ [])) (own g) (up g)
+        (λ g. inside-left group_number (when (runs rested g) (pages ∷ [])) (own g) (up g)
         (when-inside (runs rested g) (runs n g) (pages ∷ []) (pending ∷ gone) (λ e. ap (λ (r : ℕ). eqb r g) (sym rested-running) ∙ e) refl))
         paged)
         (touched-then (touched-inside refl (λ g. refl) (rest-touched (disposed b n)))
         (touched-inside refl
-        (λ g. inside-left groupNumber (own g) (own g) (up g) (when-inside (runs n g) (runs n g) (pending ∷ gone) (pending ∷ gone) (λ e. e) refl))
+        (λ g. inside-left group_number (own g) (own g) (up g) (when-inside (runs n g) (runs n g) (pending ∷ gone) (pending ∷ gone) (λ e. e) refl))
         buffered-touched)))))
         (λ g low' high none. dispose-atomic g low' high)
         (λ g low' high none. dispose-pending g low' high ∙ buffered-touched.group g low' high pending none))

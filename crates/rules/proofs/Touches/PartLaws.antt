@@ -8,33 +8,33 @@ use lib.Dec.{eqb}
 use lib.ListN.{get_or}
 use borrow.Author.Tests.{eqb-true}
 use Rattle.rules.specs.Lists.{all}
-use Rattle.rules.specs.Build.{groupCount}
+use Rattle.rules.specs.Build.{group_count}
 use Rattle.rules.specs.Node.{Node, group_of}
-use Rattle.rules.specs.Touches.{NodePart, GroupPart, running, timer, queue, free, swap, entered, out, brought, atomic, pending, force, revoked, used, count, places, pages, descriptor, part, groupPart, Row, row, both, when, filling, Touched}
+use Rattle.rules.specs.Touches.{NodePart, GroupPart, running, timer, queue, free, swap, entered, out, brought, atomic, pending, force, revoked, used, count, places, pages, descriptor, part, group_part, Row, row, both, when, filling, Touched}
 
 -- Parts told apart.
 
 -- by these numbers, so that a list can be looked through
-abbrev pub nodeNumber : NodePart → ℕ
-nodeNumber running = 0
-nodeNumber timer = 1
-nodeNumber queue = 2
-nodeNumber free = 3
-nodeNumber swap = 4
-nodeNumber entered = 5
-nodeNumber out = 6
-nodeNumber brought = 7
+abbrev pub node_number : NodePart → ℕ
+node_number running = 0
+node_number timer = 1
+node_number queue = 2
+node_number free = 3
+node_number swap = 4
+node_number entered = 5
+node_number out = 6
+node_number brought = 7
 
-abbrev pub groupNumber : GroupPart → ℕ
-groupNumber atomic = 0
-groupNumber pending = 1
-groupNumber force = 2
-groupNumber revoked = 3
-groupNumber used = 4
-groupNumber count = 5
-groupNumber places = 6
-groupNumber pages = 7
-groupNumber descriptor = 8
+abbrev pub group_number : GroupPart → ℕ
+group_number atomic = 0
+group_number pending = 1
+group_number force = 2
+group_number revoked = 3
+group_number used = 4
+group_number count = 5
+group_number places = 6
+group_number pages = 7
+group_number descriptor = 8
 
 -- x is one of these
 abbrev pub among : {A : Type 0} → (A → ℕ) → A → List A → Bool
@@ -42,10 +42,10 @@ among number x [] = false
 among number x (y ∷ ys) = eqb (number x) (number y) || among number x ys
 
 -- no two parts have one number: the part is told by it
-abbrev nodePartOf : ℕ → NodePart
-nodePartOf n = get_or (running ∷ timer ∷ queue ∷ free ∷ swap ∷ entered ∷ out ∷ brought ∷ []) n running
+abbrev node_part_of : ℕ → NodePart
+node_part_of n = get_or (running ∷ timer ∷ queue ∷ free ∷ swap ∷ entered ∷ out ∷ brought ∷ []) n running
 
-node-told : (p : NodePart) → nodePartOf (nodeNumber p) ≡ p
+node-told : (p : NodePart) → node_part_of (node_number p) ≡ p
 node-told running = refl
 node-told timer = refl
 node-told queue = refl
@@ -55,10 +55,10 @@ node-told entered = refl
 node-told out = refl
 node-told brought = refl
 
-abbrev groupPartOf : ℕ → GroupPart
-groupPartOf n = get_or (atomic ∷ pending ∷ force ∷ revoked ∷ used ∷ count ∷ places ∷ pages ∷ descriptor ∷ []) n atomic
+abbrev group_part_of : ℕ → GroupPart
+group_part_of n = get_or (atomic ∷ pending ∷ force ∷ revoked ∷ used ∷ count ∷ places ∷ pages ∷ descriptor ∷ []) n atomic
 
-group-told : (p : GroupPart) → groupPartOf (groupNumber p) ≡ p
+group-told : (p : GroupPart) → group_part_of (group_number p) ≡ p
 group-told atomic = refl
 group-told pending = refl
 group-told force = refl
@@ -163,20 +163,20 @@ module _ {A : Type 0} (number : A → ℕ) where
 
 -- each part that the row does not name is as it was
 pub record Kept (t : Row) (k n : Node) : Type 0 where
-  pub node : (p : NodePart) → among nodeNumber p t.node ≡ false → part p k ≡ part p n
-  pub group : (g : ℕ) → 1 ≤ g → g ≤ groupCount → (p : GroupPart) → among groupNumber p (t.group g) ≡ false
-      → groupPart p (group_of k g) ≡ groupPart p (group_of n g)
+  pub node : (p : NodePart) → among node_number p t.node ≡ false → part p k ≡ part p n
+  pub group : (g : ℕ) → 1 ≤ g → g ≤ group_count → (p : GroupPart) → among group_number p (t.group g) ≡ false
+      → group_part p (group_of k g) ≡ group_part p (group_of n g)
 
 -- which is what the table says
 pub kept-touched : {t : Row} {k n : Node} → Kept t k n → Touched t k n
 kept-touched {t} h =
     record {
-      node = λ p unnamed. h.node p (unnamed-none nodeNumber nodePartOf node-told p t.node unnamed);
-      group = λ g low high p unnamed. h.group g low high p (unnamed-none groupNumber groupPartOf group-told p (t.group g) unnamed);
+      node = λ p unnamed. h.node p (unnamed-none node_number node_part_of node-told p t.node unnamed);
+      group = λ g low high p unnamed. h.group g low high p (unnamed-none group_number group_part_of group-told p (t.group g) unnamed);
     }
 
 pub touched-same : {t : Row} {k n : Node} → k ≡ n → Kept t k n
-touched-same e = record { node = λ p none. ap (part p) e; group = λ g low high p none. ap (λ (m : Node). groupPart p (group_of m g)) e }
+touched-same e = record { node = λ p none. ap (part p) e; group = λ g low high p none. ap (λ (m : Node). group_part p (group_of m g)) e }
 
 pub touched-then : {t : Row} {l k n : Node} → Kept t l k → Kept t k n → Kept t l n
 touched-then later first =
@@ -186,69 +186,69 @@ touched-then later first =
     }
 
 -- a row with more in it
-pub touched-inside : {t u : Row} {k n : Node} → inside nodeNumber t.node u.node ≡ true
-    → ((g : ℕ) → inside groupNumber (t.group g) (u.group g) ≡ true) → Kept t k n → Kept u k n
+pub touched-inside : {t u : Row} {k n : Node} → inside node_number t.node u.node ≡ true
+    → ((g : ℕ) → inside group_number (t.group g) (u.group g) ≡ true) → Kept t k n → Kept u k n
 touched-inside {t} {u} nodes groups h =
     record {
-      node = λ p none. h.node p (inside-none nodeNumber p t.node u.node nodes none);
-      group = λ g low high p none. h.group g low high p (inside-none groupNumber p (t.group g) (u.group g) (groups g) none);
+      node = λ p none. h.node p (inside-none node_number p t.node u.node nodes none);
+      group = λ g low high p none. h.group g low high p (inside-none group_number p (t.group g) (u.group g) (groups g) none);
     }
 
 -- two rows, or one of them
 pub touched-left : (t u : Row) {k n : Node} → Kept t k n → Kept (both t u) k n
 touched-left t u h =
     record {
-      node = λ p none. h.node p (apart nodeNumber p t.node u.node none).0;
-      group = λ g low high p none. h.group g low high p (apart groupNumber p (t.group g) (u.group g) none).0;
+      node = λ p none. h.node p (apart node_number p t.node u.node none).0;
+      group = λ g low high p none. h.group g low high p (apart group_number p (t.group g) (u.group g) none).0;
     }
 
 pub touched-right : (t u : Row) {k n : Node} → Kept u k n → Kept (both t u) k n
 touched-right t u h =
     record {
-      node = λ p none. h.node p (apart nodeNumber p t.node u.node none).1;
-      group = λ g low high p none. h.group g low high p (apart groupNumber p (t.group g) (u.group g) none).1;
+      node = λ p none. h.node p (apart node_number p t.node u.node none).1;
+      group = λ g low high p none. h.group g low high p (apart group_number p (t.group g) (u.group g) none).1;
     }
 
 -- a part that is not named is not named under a condition
-pub when-none : (p : GroupPart) (ps : List GroupPart) → among groupNumber p ps ≡ false → (t : Bool) → among groupNumber p (when t ps) ≡ false
+pub when-none : (p : GroupPart) (ps : List GroupPart) → among group_number p ps ≡ false → (t : Bool) → among group_number p (when t ps) ≡ false
 when-none p ps none true = none
 when-none p ps none false = refl
 
 -- parts named under a condition are inside those named under a weaker one
-pub when-inside : (t u : Bool) (ps qs : List GroupPart) → (t ≡ true → u ≡ true) → inside groupNumber ps qs ≡ true → inside groupNumber (when t ps) (when u qs) ≡ true
+pub when-inside : (t u : Bool) (ps qs : List GroupPart) → (t ≡ true → u ≡ true) → inside group_number ps qs ≡ true → inside group_number (when t ps) (when u qs) ≡ true
 when-inside true true ps qs more h = h
 when-inside true false ps qs more h = absurd (false≢true (more refl))
 when-inside false u ps qs more h = refl
 
-pub filling-inside : (t u : Bool) → (t ≡ true → u ≡ true) → inside groupNumber (filling t) (filling u) ≡ true
+pub filling-inside : (t u : Bool) → (t ≡ true → u ≡ true) → inside group_number (filling t) (filling u) ≡ true
 filling-inside true true more = refl
 filling-inside true false more = absurd (false≢true (more refl))
 filling-inside false true more = refl
 filling-inside false false more = refl
 
 -- buffers filled, and one group's parts
-pub filled-inside : (t u w : Bool) (ps : List GroupPart) → (t ≡ true → u ≡ true) → inside groupNumber ps ps ≡ true
-    → inside groupNumber (filling t ++ when w ps) (filling u ++ when w ps) ≡ true
+pub filled-inside : (t u w : Bool) (ps : List GroupPart) → (t ≡ true → u ≡ true) → inside group_number ps ps ≡ true
+    → inside group_number (filling t ++ when w ps) (filling u ++ when w ps) ≡ true
 filled-inside t u w ps more self =
-    inside-join groupNumber (filling t) (when w ps) (filling u ++ when w ps)
-    (inside-left groupNumber (filling t) (filling u) (when w ps) (filling-inside t u more))
-    (inside-right groupNumber (when w ps) (filling u) (when w ps) (when-inside w w ps ps (λ e. e) self))
+    inside-join group_number (filling t) (when w ps) (filling u ++ when w ps)
+    (inside-left group_number (filling t) (filling u) (when w ps) (filling-inside t u more))
+    (inside-right group_number (when w ps) (filling u) (when w ps) (when-inside w w ps ps (λ e. e) self))
 
 -- a row without the upcall's parts, where the flags are as they were
 pub flags-kept : {ps : List NodePart} {k n : Node} (gs : ℕ → List GroupPart) (t : ℕ → Bool)
     → Kept (row ps (λ g. gs g ++ when (t g) (atomic ∷ pending ∷ []))) k n
-    → ((g : ℕ) → 1 ≤ g → g ≤ groupCount → among groupNumber atomic (gs g) ≡ false → (group_of k g).atomic ≡ (group_of n g).atomic)
-    → ((g : ℕ) → 1 ≤ g → g ≤ groupCount → among groupNumber pending (gs g) ≡ false → (group_of k g).pending ≡ (group_of n g).pending)
+    → ((g : ℕ) → 1 ≤ g → g ≤ group_count → among group_number atomic (gs g) ≡ false → (group_of k g).atomic ≡ (group_of n g).atomic)
+    → ((g : ℕ) → 1 ≤ g → g ≤ group_count → among group_number pending (gs g) ≡ false → (group_of k g).pending ≡ (group_of n g).pending)
     → Kept (row ps gs) k n
 flags-kept {ps} {k} {n} gs t h atomics pendings = record { node = h.node; group = go }
   where
-    other : (g : ℕ) → 1 ≤ g → g ≤ groupCount → (p : GroupPart) → among groupNumber p (atomic ∷ pending ∷ []) ≡ false → among groupNumber p (gs g) ≡ false
-        → groupPart p (group_of k g) ≡ groupPart p (group_of n g)
+    other : (g : ℕ) → 1 ≤ g → g ≤ group_count → (p : GroupPart) → among group_number p (atomic ∷ pending ∷ []) ≡ false → among group_number p (gs g) ≡ false
+        → group_part p (group_of k g) ≡ group_part p (group_of n g)
     other g low high p e none =
-        h.group g low high p (join-none groupNumber p (gs g) (when (t g) (atomic ∷ pending ∷ [])) none (when-none p (atomic ∷ pending ∷ []) e (t g)))
+        h.group g low high p (join-none group_number p (gs g) (when (t g) (atomic ∷ pending ∷ [])) none (when-none p (atomic ∷ pending ∷ []) e (t g)))
 
-    go : (g : ℕ) → 1 ≤ g → g ≤ groupCount → (p : GroupPart) → among groupNumber p (gs g) ≡ false
-        → groupPart p (group_of k g) ≡ groupPart p (group_of n g)
+    go : (g : ℕ) → 1 ≤ g → g ≤ group_count → (p : GroupPart) → among group_number p (gs g) ≡ false
+        → group_part p (group_of k g) ≡ group_part p (group_of n g)
     go g low high atomic none = atomics g low high none
     go g low high pending none = pendings g low high none
     go g low high force none = other g low high force refl none
@@ -264,7 +264,7 @@ pub front_kept : {ps : List NodePart} {gs : ℕ → List GroupPart} {k n : Node}
     → k.timer ≡ n.timer → k.queue ≡ n.queue → Kept (row ps gs) k n
 front_kept {ps} {gs} {k} {n} h timers queues = record { node = go; group = h.group }
   where
-    go : (p : NodePart) → among nodeNumber p ps ≡ false → part p k ≡ part p n
+    go : (p : NodePart) → among node_number p ps ≡ false → part p k ≡ part p n
     go running none = h.node running none
     go timer none = timers
     go queue none = queues

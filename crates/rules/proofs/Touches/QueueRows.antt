@@ -9,17 +9,17 @@ use lib.Dec.{eqb}
 use lib.ListN.{length, take}
 use borrow.Author.Tests.{not-false, eqb-true, ne_eqb, eq-eqb}
 use Rattle.rules.specs.Lists.{Every, is_empty}
-use Rattle.rules.specs.Build.{Build, groupCount}
-use Rattle.rules.specs.Node.{Message, Group, Node, group_of, withTimer, withQueue, withGroup, withTimerFlags, bufferHolds, buffered, forced, timerRuns, is_of, line}
-use Rattle.rules.specs.Paging.{runnerResident}
+use Rattle.rules.specs.Build.{Build, group_count}
+use Rattle.rules.specs.Node.{Message, Group, Node, group_of, with_timer, with_queue, with_group, with_timer_flags, buffer_holds, buffered, forced, timer_runs, is_of, line}
+use Rattle.rules.specs.Paging.{runner_resident}
 use Rattle.rules.specs.Operation.{Operation, arrive, tick}
 use Rattle.rules.specs.Refusal.{refusal, queued}
-use Rattle.rules.specs.Settling.{Moved, mayStay, pass, settle, drain, upcall}
-use Rattle.rules.specs.Step.{Effect, valued, timerFlagged, revoke, timedOut, ticks, act, finish}
+use Rattle.rules.specs.Settling.{Moved, may_stay, pass, settle, drain, upcall}
+use Rattle.rules.specs.Step.{Effect, valued, timer_flagged, revoke, timed_out, ticks, act, finish}
 use Rattle.rules.specs.Valid.{GoodMessage, Valid}
 use Rattle.rules.specs.Sound.{Sound}
-use Rattle.rules.specs.Private.{PrivateLine, message, nothing, isCalled, afterwards, joined, told, hear, unheard}
-use Rattle.rules.specs.Touches.{running, timer, queue, atomic, pending, force, revoked, used, count, places, pages, descriptor, row, stores, when, runs, isMoved, filling, row_of}
+use Rattle.rules.specs.Private.{PrivateLine, message, nothing, is_called, afterwards, joined, told, hear, unheard}
+use Rattle.rules.specs.Touches.{running, timer, queue, atomic, pending, force, revoked, used, count, places, pages, descriptor, row, stores, when, runs, is_moved, filling, row_of}
 use Rattle.rules.proofs.Steps.EveryLaws.{every-mono}
 use Rattle.rules.proofs.Steps.SoundLaws.{valid-sound}
 use Rattle.rules.proofs.Steps.ListLaws.{filter-fail, some-last, no_length}
@@ -27,18 +27,18 @@ use Rattle.rules.proofs.Steps.NodeLaws.{group-same}
 use Rattle.rules.proofs.Steps.PagingLaws.{runner-quiet}
 use Rattle.rules.proofs.Steps.SettlingLaws.{runs-queued, runs-empty, forced-same, settle-running, settle-flags, settle-keeps, settle-timer, settle-moved, pass-moves, drain-sound, drain-running, drain-queue}
 use Rattle.rules.proofs.Steps.LineLaws.{timer-timed, timer-rests, buffered-atomic}
-use Rattle.rules.proofs.Steps.TickLaws.{timed, leftOver, Ticked, idle, counting, timeout, ticked-by}
+use Rattle.rules.proofs.Steps.TickLaws.{timed, left_over, Ticked, idle, counting, timeout, ticked-by}
 use Rattle.rules.proofs.Steps.StepLaws.{act-sound, finish-queue, finish-timer, OneAct}
 use Rattle.rules.proofs.Steps.QuietLaws.{staying-settle, rest-left, valid-quiet, counted-quiet}
 use Rattle.rules.proofs.Private.ViewLaws.{view, called-quiet}
 use Rattle.rules.proofs.Private.HeardLaws.{accepted-view}
-use Rattle.rules.proofs.Touches.PartLaws.{groupNumber, among, Kept, filled-inside, filling-inside, flags-kept, front_kept, inside-left, inside-right, touched-inside, touched-same, touched-then, when-inside}
+use Rattle.rules.proofs.Touches.PartLaws.{group_number, among, Kept, filled-inside, filling-inside, flags-kept, front_kept, inside-left, inside-right, touched-inside, touched-same, touched-then, when-inside}
 use Rattle.rules.proofs.Touches.TouchLaws.{Differs, Grouped, Rows, drain-touched, finished-touched, group-touched, grouped, moved_none, queue-touched, timer-touched, upcall-touched}
 use Rattle.rules.proofs.Touches.SectionRows.{quiet-left}
 
 -- What a group's private line keeps of its flags.
 
-module _ {b : Build} {n : Node} (v : Valid b n) (op : Operation) (one : OneAct op) (taken : refusal b n op ≡ 0) (g : ℕ) (low : 1 ≤ g) (high : g ≤ groupCount) where
+module _ {b : Build} {n : Node} (v : Valid b n) (op : Operation) (one : OneAct op) (taken : refusal b n op ≡ 0) (g : ℕ) (low : 1 ≤ g) (high : g ≤ group_count) where
   abbrev after : Group
   after = group_of (finish b (act b n op)).node g
 
@@ -55,23 +55,23 @@ module _ {b : Build} {n : Node} (v : Valid b n) (op : Operation) (one : OneAct o
 module _ {b : Build} {n : Node} (v : Valid b n) (k : ℕ) where
   -- a timeout
   abbrev pub late : Effect
-  late = timed (leftOver b k n) (timedOut b (valued 0 n))
+  late = timed (left_over b k n) (timed_out b (valued 0 n))
 
   abbrev drained : Node
   drained = drain b n.queue n
 
-  revoke-touched : timerRuns n ≡ true → Kept (row [] (λ g. when (runs n g) (revoked ∷ []))) (revoke drained) drained
-  unfolding revoke timerFlagged withTimerFlags
+  revoke-touched : timer_runs n ≡ true → Kept (row [] (λ g. when (runs n g) (revoked ∷ []))) (revoke drained) drained
+  unfolding revoke timer_flagged with_timer_flags
   revoke-touched ticks' =
       let same = drain-running b n.queue n in
       let low : 1 ≤ drained.running = rw same (timer-timed v ticks').runs in
       touched-inside refl (λ g. when-inside (runs drained g) (runs n g) (revoked ∷ []) (revoked ∷ []) (λ e. ap (λ (r : ℕ). eqb r g) (sym same) ∙ e) refl)
-      (group-touched (revoked ∷ []) drained.running (withTimerFlags G.force true G) drained low differs)
+      (group-touched (revoked ∷ []) drained.running (with_timer_flags G.force true G) drained low differs)
     where
       G : Group
       G = group_of drained drained.running
 
-      differs : Differs (revoked ∷ []) (withTimerFlags G.force true G) G
+      differs : Differs (revoked ∷ []) (with_timer_flags G.force true G) G
       differs atomic none = refl
       differs pending none = refl
       differs force none = refl
@@ -82,56 +82,56 @@ module _ {b : Build} {n : Node} (v : Valid b n) (k : ℕ) where
       differs pages none = refl
       differs descriptor none = refl
 
-  late-touched : timerRuns n ≡ true
-      → Kept (row (timer ∷ queue ∷ stores) (λ g. filling (isMoved g (length n.queue) n.queue) ++ when (runs n g) (revoked ∷ []))) late.node n
-  unfolding timed timedOut valued
+  late-touched : timer_runs n ≡ true
+      → Kept (row (timer ∷ queue ∷ stores) (λ g. filling (is_moved g (length n.queue) n.queue) ++ when (runs n g) (revoked ∷ []))) late.node n
+  unfolding timed timed_out valued
   late-touched ticks' =
-      let moved : ℕ → Bool = λ g. isMoved g (length n.queue) n.queue in
-      touched-then (touched-inside refl (λ g. refl) (timer-touched (leftOver b k n) (withTimer 0 (revoke drained))))
+      let moved : ℕ → Bool = λ g. is_moved g (length n.queue) n.queue in
+      touched-then (touched-inside refl (λ g. refl) (timer-touched (left_over b k n) (with_timer 0 (revoke drained))))
       (touched-then (touched-inside refl (λ g. refl) (timer-touched 0 (revoke drained)))
       (touched-then
       (touched-inside refl
-      (λ g. inside-right groupNumber (when (runs n g) (revoked ∷ [])) (filling (moved g)) (when (runs n g) (revoked ∷ []))
+      (λ g. inside-right group_number (when (runs n g) (revoked ∷ [])) (filling (moved g)) (when (runs n g) (revoked ∷ []))
       (when-inside (runs n g) (runs n g) (revoked ∷ []) (revoked ∷ []) (λ e. e) refl))
       (revoke-touched ticks'))
       (touched-inside refl
-      (λ g. inside-left groupNumber (filling (moved g)) (filling (moved g)) (when (runs n g) (revoked ∷ [])) (filling-inside (moved g) (moved g) (λ e. e)))
+      (λ g. inside-left group_number (filling (moved g)) (filling (moved g)) (when (runs n g) (revoked ∷ [])) (filling-inside (moved g) (moved g) (λ e. e)))
       (drain-touched b n.queue n (grouped v)))))
 
   -- no message is left to move
   pub late-queue : late.node.queue ≡ []
-  unfolding timed timedOut valued withTimer revoke timerFlagged withGroup
+  unfolding timed timed_out valued with_timer revoke timer_flagged with_group
   late-queue = drain-queue b n.queue n
 
   late-moved : (settle b late.node).moved ≡ 0
   late-moved = omega (arith, settle-moved b late.node, ap length late-queue)
 
-  late-row : timerRuns n ≡ true → ((g : ℕ) → 1 ≤ g → g ≤ groupCount → (group_of (finish b late).node g).atomic ≡ (group_of n g).atomic)
-      → ((g : ℕ) → 1 ≤ g → g ≤ groupCount → (group_of (finish b late).node g).pending ≡ (group_of n g).pending) → Rows b n (tick k) late
-  unfolding row_of finish timed timedOut valued
+  late-row : timer_runs n ≡ true → ((g : ℕ) → 1 ≤ g → g ≤ group_count → (group_of (finish b late).node g).atomic ≡ (group_of n g).atomic)
+      → ((g : ℕ) → 1 ≤ g → g ≤ group_count → (group_of (finish b late).node g).pending ≡ (group_of n g).pending) → Rows b n (tick k) late
+  unfolding row_of finish timed timed_out valued
   late-row ticks' atomics pendings =
       let q = n.queue in
       let s = (settle b late.node).moved in
       let whole : 0 + length q + s ≡ length q = omega (arith, late-moved) in
-      flags-kept (λ g. filling (isMoved g (0 + length q + s) q) ++ when (runs n g) (revoked ∷ [])) (λ g. runs late.node g)
-      (finished-touched b late n (rw late-queue tt) (timer ∷ queue ∷ stores) (λ g. filling (isMoved g (length q) q) ++ when (runs n g) (revoked ∷ []))
-      (λ g. filling (isMoved g (0 + length q + s) q) ++ when (runs n g) (revoked ∷ [])) refl refl
-      (λ g. filled-inside (isMoved g (length q) q) (isMoved g (0 + length q + s) q) (runs n g) (revoked ∷ []) (λ e. ap (λ (j : ℕ). isMoved g j q) whole ∙ e) refl)
-      (λ g. inside-left groupNumber (filling (isMoved g s late.node.queue)) (filling (isMoved g (0 + length q + s) q)) (when (runs n g) (revoked ∷ []))
-      (filling-inside (isMoved g s late.node.queue) (isMoved g (0 + length q + s) q)
-      (λ e. absurd (false≢true (sym (ap (isMoved g s) late-queue ∙ moved_none g s) ∙ e)))))
+      flags-kept (λ g. filling (is_moved g (0 + length q + s) q) ++ when (runs n g) (revoked ∷ [])) (λ g. runs late.node g)
+      (finished-touched b late n (rw late-queue tt) (timer ∷ queue ∷ stores) (λ g. filling (is_moved g (length q) q) ++ when (runs n g) (revoked ∷ []))
+      (λ g. filling (is_moved g (0 + length q + s) q) ++ when (runs n g) (revoked ∷ [])) refl refl
+      (λ g. filled-inside (is_moved g (length q) q) (is_moved g (0 + length q + s) q) (runs n g) (revoked ∷ []) (λ e. ap (λ (j : ℕ). is_moved g j q) whole ∙ e) refl)
+      (λ g. inside-left group_number (filling (is_moved g s late.node.queue)) (filling (is_moved g (0 + length q + s) q)) (when (runs n g) (revoked ∷ []))
+      (filling-inside (is_moved g s late.node.queue) (is_moved g (0 + length q + s) q)
+      (λ e. absurd (false≢true (sym (ap (is_moved g s) late-queue ∙ moved_none g s) ∙ e)))))
       (late-touched ticks'))
       (λ g low high none'. atomics g low high) (λ g low high none'. pendings g low high)
 
   -- the running group is revoked
   pub late-revoked : (group_of late.node n.running).revoked ≡ true
-  unfolding timed timedOut valued withTimer withQueue group_of revoke timerFlagged withTimerFlags
+  unfolding timed timed_out valued with_timer with_queue group_of revoke timer_flagged with_timer_flags
   late-revoked =
       let s : Sound b drained = drain-sound n.queue n (valid-sound v) in
       let G = group_of drained drained.running in
       let same = drain-running b n.queue n in
       subst (λ (r : ℕ). (group_of (revoke drained) r).revoked ≡ true) same
-      (ap (λ (K : Group). K.revoked) (group-same drained drained.running (withTimerFlags G.force true G) (omega (arith, s.group-count, s.running-bound))))
+      (ap (λ (K : Group). K.revoked) (group-same drained drained.running (with_timer_flags G.force true G) (omega (arith, s.group-count, s.running-bound))))
 
   -- no tick counts
   idle-row : Rows b n (tick k) (valued 0 n)
@@ -139,10 +139,10 @@ module _ {b : Build} {n : Node} (v : Valid b n) (k : ℕ) where
   idle-row = touched-same (quiet-left (valued 0 n) (valid-quiet v))
 
   -- ticks count, without a timeout
-  counted-row : timerRuns n ≡ true → Rows b n (tick k) (valued 0 (withTimer (n.timer + k) n))
+  counted-row : timer_runs n ≡ true → Rows b n (tick k) (valued 0 (with_timer (n.timer + k) n))
   unfolding row_of finish valued
   counted-row ticks' =
-      touched-then (touched-same (quiet-left (valued 0 (withTimer (n.timer + k) n)) (counted-quiet v ticks' (n.timer + k)))) (timer-touched (n.timer + k) n)
+      touched-then (touched-same (quiet-left (valued 0 (with_timer (n.timer + k) n)) (counted-quiet v ticks' (n.timer + k)))) (timer-touched (n.timer + k) n)
 
   pub tick-row : refusal b n (tick k) ≡ 0 → Rows b n (tick k) (act b n (tick k))
   unfolding act told hear unheard view
@@ -161,12 +161,12 @@ module _ {b : Build} {n : Node} (v : Valid b n) (k : ℕ) where
 
 -- an arrival does not force the timer
 forced-queued : (m : Message) (n : Node) → forced (queued m n) ≡ forced n
-unfolding forced queued withQueue group_of
+unfolding forced queued with_queue group_of
 forced-queued m n = refl
 
 -- of one message in a queue, its group's are moved
-moved-one : (g k : ℕ) (m : Message) → isMoved g k (m ∷ []) ≡ true → eqb m.group g ≡ true
-unfolding isMoved is_of
+moved-one : (g k : ℕ) (m : Message) → is_moved g k (m ∷ []) ≡ true → eqb m.group g ≡ true
+unfolding is_moved is_of
 moved-one g zero m e = absurd (false≢true e)
 moved-one g (suc k) m e = go (eqb m.group g) refl
   where
@@ -177,8 +177,8 @@ moved-one g (suc k) m e = go (eqb m.group g) refl
         absurd (false≢true (sym (moved_none g k) ∙ sym gone ∙ e))
 
 -- a group that is atomic, or does not have the processor, has no upcall
-pub uncalled : (p : PrivateLine) → (p.has ≡ true → p.atomic ≡ true) → isCalled p ≡ false
-unfolding isCalled
+pub uncalled : (p : PrivateLine) → (p.has ≡ true → p.atomic ≡ true) → is_called p ≡ false
+unfolding is_called
 uncalled p busy = go p.has p.atomic busy
   where
     go : (h a : Bool) → (h ≡ true → a ≡ true) → h && (not a && not (is_empty p.messages)) ≡ false
@@ -203,7 +203,7 @@ module _ {b : Build} {n : Node} (v : Valid b n) (h : ℕ) (ws : List ℕ) (taken
   arriving-touched = queue-touched (n.queue ++ (arriving ∷ [])) n
 
   -- flags are as they were, where the group is not the runner that the message is for, or is atomic already
-  arrive-flags : (g : ℕ) → 1 ≤ g → g ≤ groupCount → ((eqb h g && runs n g) ≡ true → (group_of n g).atomic ≡ true)
+  arrive-flags : (g : ℕ) → 1 ≤ g → g ≤ group_count → ((eqb h g && runs n g) ≡ true → (group_of n g).atomic ≡ true)
       → ((group_of (finish b arrival).node g).atomic ≡ (group_of n g).atomic) × ((group_of (finish b arrival).node g).pending ≡ (group_of n g).pending)
   unfolding act told hear unheard view afterwards joined
   arrive-flags g low high busy =
@@ -222,45 +222,45 @@ module _ {b : Build} {n : Node} (v : Valid b n) (h : ℕ) (ws : List ℕ) (taken
           (ap (λ (q : PrivateLine). q.atomic) quiet, ap (λ (q : PrivateLine). q.pending) quiet)
 
   -- the message stays
-  module _ (stay : (x : Message) (q : List Message) → (queued arriving n).queue ≡ x ∷ q → mayStay (queued arriving n) x ≡ true) where
+  module _ (stay : (x : Message) (q : List Message) → (queued arriving n).queue ≡ x ∷ q → may_stay (queued arriving n) x ≡ true) where
     staying : settle b (queued arriving n) ≡ record { node = queued arriving n; moved = 0 }
     staying =
-        let some : is_empty (queued arriving n).queue ≡ false = unfold queued withQueue in some-last n.queue arriving in
+        let some : is_empty (queued arriving n).queue ≡ false = unfold queued with_queue in some-last n.queue arriving in
         staying-settle b (queued arriving n) stay
         ∙ ap (λ (k : Node). record { node = k; moved = 0 }) (rest-left (queued arriving n) (λ rests. absurd (true≢false (sym (runs-queued (queued arriving n) some) ∙ rests))))
 
     staying-left : (finish b arrival).node ≡ upcall (queued arriving n)
-    unfolding finish valued queued withQueue group_of
+    unfolding finish valued queued with_queue group_of
     staying-left =
-        ap (λ (m : Moved). upcall (runnerResident b m.node)) staying
+        ap (λ (m : Moved). upcall (runner_resident b m.node)) staying
         ∙ ap upcall (runner-quiet b (queued arriving n) v.runner-resident)
 
     staying-touched : Kept (row (queue ∷ []) (λ g. when (eqb h g && runs n g) (atomic ∷ pending ∷ []))) (finish b arrival).node n
-    unfolding queued withQueue
+    unfolding queued with_queue
     staying-touched =
         flags-kept (λ g. when (eqb h g && runs n g) (atomic ∷ pending ∷ [])) (λ g. runs n g)
         (touched-then {k = upcall (queued arriving n)} (touched-same staying-left)
         (touched-then {k = queued arriving n}
         (touched-inside refl
-        (λ g. inside-right groupNumber (when (runs n g) (atomic ∷ pending ∷ [])) (when (eqb h g && runs n g) (atomic ∷ pending ∷ [])) (when (runs n g) (atomic ∷ pending ∷ []))
+        (λ g. inside-right group_number (when (runs n g) (atomic ∷ pending ∷ [])) (when (eqb h g && runs n g) (atomic ∷ pending ∷ [])) (when (runs n g) (atomic ∷ pending ∷ []))
         (when-inside (runs n g) (runs n g) (atomic ∷ pending ∷ []) (atomic ∷ pending ∷ []) (λ e. e) refl))
         (upcall-touched (queued arriving n)))
         (touched-inside refl (λ g. refl) (queue-touched (n.queue ++ (arriving ∷ [])) n))))
-        (λ g low high none. (arrive-flags g low high (λ named. absurd (true≢false (sym (ap (λ (t : Bool). among groupNumber atomic (when t (atomic ∷ pending ∷ []))) named) ∙ none)))).0)
-        (λ g low high none. (arrive-flags g low high (λ named. absurd (true≢false (sym (ap (λ (t : Bool). among groupNumber pending (when t (atomic ∷ pending ∷ []))) named) ∙ none)))).1)
+        (λ g low high none. (arrive-flags g low high (λ named. absurd (true≢false (sym (ap (λ (t : Bool). among group_number atomic (when t (atomic ∷ pending ∷ []))) named) ∙ none)))).0)
+        (λ g low high none. (arrive-flags g low high (λ named. absurd (true≢false (sym (ap (λ (t : Bool). among group_number pending (when t (atomic ∷ pending ∷ []))) named) ∙ none)))).1)
 
     staying-row : Rows b n (arrive h ws) arrival
     unfolding row_of finish valued
     staying-row = rw (ap (λ (m : Moved). 0 + m.moved) staying) staying-touched
 
   -- or moves
-  module _ (none : n.queue ≡ []) (leaves : mayStay n arriving ≡ false) where
+  module _ (none : n.queue ≡ []) (leaves : may_stay n arriving ≡ false) where
     alone : (queued arriving n).queue ≡ arriving ∷ []
-    unfolding queued withQueue
+    unfolding queued with_queue
     alone = ap (λ (q : List Message). q ++ (arriving ∷ [])) none
 
     moved-some : 1 ≤ (settle b (queued arriving n)).moved
-    unfolding settle mayStay buffered bufferHolds queued withQueue group_of
+    unfolding settle may_stay buffered buffer_holds queued with_queue group_of
     moved-some = subst (λ (q : List Message). 1 ≤ (pass b q (queued arriving n)).moved) (sym alone) (pass-moves b arriving [] (queued arriving n) leaves)
 
     -- the queue is then empty again
@@ -273,26 +273,26 @@ module _ {b : Build} {n : Node} (v : Valid b n) (h : ℕ) (ws : List ℕ) (taken
 
     -- so the timer is where it was: it counts on only where it is forced, and else was 0
     timer-kept : (finish b arrival).node.timer ≡ n.timer
-    unfolding valued queued withQueue
-    timer-kept = finish-timer b arrival ∙ go (timerRuns k) refl
+    unfolding valued queued with_queue
+    timer-kept = finish-timer b arrival ∙ go (timer_runs k) refl
       where
         k : Node
         k = (settle b (queued arriving n)).node
 
-        same : timerRuns k ≡ timerRuns n
+        same : timer_runs k ≡ timer_runs n
         same =
             runs-empty k emptied
             ∙ forced-same k (queued arriving n) (settle-running b (queued arriving n)) (settle-flags b (queued arriving n))
             ∙ forced-queued arriving n
             ∙ sym (runs-empty n none)
 
-        go : (t : Bool) → timerRuns k ≡ t → k.timer ≡ n.timer
+        go : (t : Bool) → timer_runs k ≡ t → k.timer ≡ n.timer
         go true runs' = settle-keeps b (queued arriving n) runs'
         go false rests = settle-timer b (queued arriving n) rests ∙ sym (timer-rests v (sym same ∙ rests))
 
     -- the runner that the message is for is buffered
     busy : (g : ℕ) → 1 ≤ g → (eqb h g && runs n g) ≡ true → (group_of n g).atomic ≡ true
-    unfolding mayStay
+    unfolding may_stay
     busy g low named =
         let both = (and-eq-true_iff (eqb h g) (runs n g)).0 named in
         let own : n.running ≡ g = eqb-true n.running g both.1 in
@@ -307,8 +307,8 @@ module _ {b : Build} {n : Node} (v : Valid b n) (h : ℕ) (ws : List ℕ) (taken
         (flags-kept (λ g. filling (eqb h g)) (λ g. runs (queued arriving n) g)
         (finished-touched b arrival n all (timer ∷ queue ∷ stores) (λ g. []) (λ g. filling (eqb h g)) refl refl (λ g. refl)
         (λ g. let s = (settle b (queued arriving n)).moved in
-        filling-inside (isMoved g s (queued arriving n).queue) (eqb h g)
-        (λ e. moved-one g s arriving (subst (λ (q : List Message). isMoved g s q ≡ true) alone e)))
+        filling-inside (is_moved g s (queued arriving n).queue) (eqb h g)
+        (λ e. moved-one g s arriving (subst (λ (q : List Message). is_moved g s q ≡ true) alone e)))
         (touched-inside refl (λ g. refl) arriving-touched))
         (λ g low high unnamed. (arrive-flags g low high (busy g low)).0) (λ g low high unnamed. (arrive-flags g low high (busy g low)).1))
         timer-kept queue-kept
@@ -321,16 +321,16 @@ module _ {b : Build} {n : Node} (v : Valid b n) (h : ℕ) (ws : List ℕ) (taken
     moving-row = rw (ne_eqb (0 + (settle b (queued arriving n)).moved) 0 (λ e. omega (arith, moved-some))) moving-touched
 
   pub arrive-row : Rows b n (arrive h ws) (act b n (arrive h ws))
-  unfolding act mayStay buffered bufferHolds queued withQueue group_of
+  unfolding act may_stay buffered buffer_holds queued with_queue group_of
   arrive-row = go n.queue refl
     where
-      alone-row : n.queue ≡ [] → (t : Bool) → mayStay n arriving ≡ t → Rows b n (arrive h ws) arrival
-      alone-row none true stay = staying-row (λ x q e. let first : arriving ≡ x = let a = alone none in cc in subst (λ (y : Message). mayStay n y ≡ true) first stay)
+      alone-row : n.queue ≡ [] → (t : Bool) → may_stay n arriving ≡ t → Rows b n (arrive h ws) arrival
+      alone-row none true stay = staying-row (λ x q e. let first : arriving ≡ x = let a = alone none in cc in subst (λ (y : Message). may_stay n y ≡ true) first stay)
       alone-row none false leaves = moving-row none leaves
 
       go : (q : List Message) → n.queue ≡ q → Rows b n (arrive h ws) arrival
-      go [] none = alone-row none (mayStay n arriving) refl
+      go [] none = alone-row none (may_stay n arriving) refl
       go (y ∷ q) some =
           staying-row (λ x r e.
           let first : y ≡ x = let whole : (y ∷ q) ++ (arriving ∷ []) ≡ x ∷ r = ap (λ (l : List Message). l ++ (arriving ∷ [])) (sym some) ∙ e in cc in
-          subst (λ (z : Message). mayStay n z ≡ true) first (v.head-stays y q some))
+          subst (λ (z : Message). may_stay n z ≡ true) first (v.head-stays y q some))

@@ -1,7 +1,7 @@
 -- The hardware queue, the buffers and the frames, as A fills them and D empties them: each effect seen by a later report, or by words in
 -- memory, whose addresses are docs/MEMORY.md's. Assumes nothing.
 use Rattle.std.specs.Prelude.{[], ◌∷◌, ◌++◌, replicate}
-use Rattle.rules.specs.Lists.{concatMap, up_from}
+use Rattle.rules.specs.Lists.{concat_map, up_from}
 use Rattle.rules.specs.Text.{bytes}
 use Rattle.rules.specs.Cases.Case.{◌gives◌, copies, Lists, Stands}
 
@@ -43,7 +43,7 @@ pub record ArriveCases : Type 0 where
       (1 ∷ 0 ∷ 1 ∷ 32 ∷ 1 ∷ 1 ∷ 8 ∷ replicate 7 0 ++ replicate 150 0)
   -- "a list of frames, filled in order": frame 0, place after place, then frame 1
   pub frame-filled : Stands (bytes "A,3,1\nA,3,2\nA,3,3\nA,3,4\nA,3,5\nA,3,6\nA,3,7\nA,3,8,8\nA,3,1,2,3,4,5,6,7,8\n") 1092
-      (concatMap (λ w. 1 ∷ w ∷ replicate 7 0) (up_from 1 7) ++ (2 ∷ 8 ∷ 8 ∷ replicate 6 0 ++ (8 ∷ 1 ∷ 2 ∷ 3 ∷ 4 ∷ 5 ∷ 6 ∷ 7 ∷ 8 ∷ replicate 63 0)))
+      (concat_map (λ w. 1 ∷ w ∷ replicate 7 0) (up_from 1 7) ++ (2 ∷ 8 ∷ 8 ∷ replicate 6 0 ++ (8 ∷ 1 ∷ 2 ∷ 3 ∷ 4 ∷ 5 ∷ 6 ∷ 7 ∷ 8 ∷ replicate 63 0)))
   -- a message is written behind the waiting ones, the used-up places counted too
   pub arrive-behind-used : Lists
       ("A,1,5\n" gives "1,0,0,0,0,1\n"

@@ -2,11 +2,11 @@
 -- memory that differs from a node's in that clause and is none. Another clause fails with it only where it must, as with a count above its line's
 -- room. Addresses are docs/MEMORY.md's. Assumes nothing.
 use Rattle.std.specs.Prelude.{ℕ, zero, suc, ◌+◌, ◌-◌, ◌≡◌, true, false, List, [], ◌∷◌, ◌++◌, length, take, drop, replicate}
-use Rattle.rules.specs.Lists.{concatMap, up_from}
+use Rattle.rules.specs.Lists.{concat_map, up_from}
 use Rattle.rules.specs.Operation.{Report, schedule, tick, user, dispose, unknown}
 use Rattle.rules.specs.Text.{bytes}
-use Rattle.rules.specs.MemoryTest.{MemoryStep, isMemory, stepMemory, powerOnMemory, headPart, headWords, pageCounts}
-use Rattle.rules.specs.Cases.Case.{copies, memoryAfter, Stands, Stretch, ◌holds◌, Leaves, crowded, LeavesFrom}
+use Rattle.rules.specs.MemoryTest.{MemoryStep, is_memory, step_memory, power_on_memory, head_part, head_words, page_counts}
+use Rattle.rules.specs.Cases.Case.{copies, memory_after, Stands, Stretch, ◌holds◌, Leaves, crowded, LeavesFrom}
 
 -- memory with these words from address a on
 abbrev pub put : ℕ → List ℕ → List ℕ → List ℕ
@@ -19,12 +19,12 @@ abbrev pub cut : ℕ → ℕ → List ℕ → List ℕ
 cut a b m = take a m ++ drop b m
 
 -- "A refused step reports its number and zeros"; 0 is accepted
-abbrev pub numberAndZeros : ℕ → Report
-numberAndZeros a = record { answer = a; value = 0; trap = 0; upcall = 0; moved = 0; sent = [] }
+abbrev pub number_and_zeros : ℕ → Report
+number_and_zeros a = record { answer = a; value = 0; trap = 0; upcall = 0; moved = 0; sent = [] }
 
 -- that report, and this memory
 abbrev pub answered : ℕ → List ℕ → MemoryStep
-answered a m = record { report = numberAndZeros a; memory = m }
+answered a m = record { report = number_and_zeros a; memory = m }
 
 -- memory with these stretches, in the order of their addresses, and else 0; its words are those from address a on
 abbrev pub laid : ℕ → List Stretch → List ℕ
@@ -53,7 +53,7 @@ busy =
     ∷ 420 holds (1 ∷ 0 ∷ 1 ∷ 1 ∷ 2 ∷ 8 ∷ 2 ∷ 0 ∷ [])
     ∷ 436 holds (0 ∷ 1 ∷ [])
     ∷ 1110 holds (2 ∷ 30 ∷ 31 ∷ [])
-    ∷ 1119 holds concatMap (λ w. 1 ∷ w ∷ replicate 7 0) (40 ∷ 50 ∷ 60 ∷ 70 ∷ 80 ∷ 90 ∷ 100 ∷ [])
+    ∷ 1119 holds concat_map (λ w. 1 ∷ w ∷ replicate 7 0) (40 ∷ 50 ∷ 60 ∷ 70 ∷ 80 ∷ 90 ∷ 100 ∷ [])
     ∷ 8004 holds (64 ∷ 2 ∷ 0 ∷ 0 ∷ up_from 32 64)
     ∷ 8072 holds (0 ∷ 1 ∷ [])
     ∷ [])
@@ -66,28 +66,28 @@ sixteen =
     ∷ 164 holds up_from 2 30
     ∷ 424 holds (0 ∷ 16 ∷ 2 ∷ [])
     ∷ 436 holds (0 ∷ 1 ∷ [])
-    ∷ 1092 holds concatMap (λ w. 8 ∷ replicate 8 w) (up_from 1 16)
+    ∷ 1092 holds concat_map (λ w. 8 ∷ replicate 8 w) (up_from 1 16)
     ∷ 8004 holds (64 ∷ 2 ∷ 0 ∷ 0 ∷ up_from 32 64)
     ∷ 8072 holds (0 ∷ 1 ∷ [])
     ∷ [])
 
 -- group 3 runs, its list the frames 1 and 0, 7 places of the first used up
-abbrev pub sevenUsed : List ℕ
-sevenUsed = put 0 (3 ∷ []) (put 420 (1 ∷ 0 ∷ 0 ∷ 0 ∷ 7 ∷ 9 ∷ []) (put 436 (1 ∷ 0 ∷ []) (put 1164 (replicate 63 0) sixteen)))
+abbrev pub seven_used : List ℕ
+seven_used = put 0 (3 ∷ []) (put 420 (1 ∷ 0 ∷ 0 ∷ 0 ∷ 7 ∷ 9 ∷ []) (put 436 (1 ∷ 0 ∷ []) (put 1164 (replicate 63 0) sixteen)))
 
 -- group 1 runs in a section with 16 messages of 8 words in the queue; the free line begins with the frames 1 and 8
-abbrev pub fullQueue : List ℕ
-fullQueue =
+abbrev pub full_queue : List ℕ
+full_queue =
     laid 0
-    (0 holds (1 ∷ 0 ∷ 16 ∷ 32 ∷ concatMap (λ w. 1 ∷ 8 ∷ replicate 8 w) (up_from 1 16))
+    (0 holds (1 ∷ 0 ∷ 16 ∷ 32 ∷ concat_map (λ w. 1 ∷ 8 ∷ replicate 8 w) (up_from 1 16))
     ∷ 164 holds (1 ∷ 8 ∷ up_from 2 6 ++ (0 ∷ up_from 9 23))
     ∷ 196 holds (1 ∷ [])
     ∷ 8004 holds (64 ∷ 0 ∷ 0 ∷ 0 ∷ up_from 32 64)
     ∷ [])
 
 -- group 2 has all frames and swap pages, full of its 768 messages of 8 words, each of them 8
-abbrev pub fullPages : List ℕ
-fullPages =
+abbrev pub full_pages : List ℕ
+full_pages =
     laid 0
     (312 holds (0 ∷ 768 ∷ 96 ∷ [])
     ∷ 324 holds up_from 0 96
@@ -112,8 +112,8 @@ swapped =
     ∷ [])
 
 -- nobody runs, and the first page of group 3 is in swap and its second in frame 4; both counts of pages are at their last number
-abbrev pub firstSwapped : List ℕ
-firstSwapped =
+abbrev pub first_swapped : List ℕ
+first_swapped =
     laid 0
     (3 holds (31 ∷ [])
     ∷ 164 holds (up_from 0 4 ++ up_from 5 27)
@@ -127,16 +127,16 @@ firstSwapped =
 
 -- the same, but that group 1 has the pages, and group 3 none
 abbrev pub nobodys : List ℕ
-nobodys = put 200 (7 ∷ 2 ∷ 2 ∷ []) (put 212 (37 ∷ 4 ∷ []) (put 424 (0 ∷ 0 ∷ 0 ∷ []) (put 436 (0 ∷ 0 ∷ []) firstSwapped)))
+nobodys = put 200 (7 ∷ 2 ∷ 2 ∷ []) (put 212 (37 ∷ 4 ∷ []) (put 424 (0 ∷ 0 ∷ 0 ∷ []) (put 436 (0 ∷ 0 ∷ []) first_swapped)))
 
 -- where each number stands
 pub record MapCases : Type 0 where
   -- "At power-on nobody runs, every queue, buffer, flag and descriptor is empty or off, all message words are 0."; "at power-on 0 to 31"
-  pub fresh-words : memoryAfter [] ≡ fresh
+  pub fresh-words : memory_after [] ≡ fresh
   -- the size
   pub fresh-size : length fresh ≡ 8104
   -- every kind of number at its place
-  pub busy-words : memoryAfter (bytes "A,3,10,11\nA,3,20,21\nA,3,30,31\nA,3,40\nA,3,50\nA,3,60\nA,3,70\nA,3,80\nA,3,90\nA,3,100\nS,3\nD\nD\nB,1\nT,256\nS,1\nP,9\nP,8\nA,1,7\nA,2,5,6\nA,1,4,4,4\nT,5\n") ≡ busy
+  pub busy-words : memory_after (bytes "A,3,10,11\nA,3,20,21\nA,3,30,31\nA,3,40\nA,3,50\nA,3,60\nA,3,70\nA,3,80\nA,3,90\nA,3,100\nS,3\nD\nD\nB,1\nT,256\nS,1\nP,9\nP,8\nA,1,7\nA,2,5,6\nA,1,4,4,4\nT,5\n") ≡ busy
   -- the last group's list, as long as there are frames; the last place of the last frame; the order of entry, which is the memory's end
   pub last_frame : Leaves (copies 256 "A,8,1,2,3,4,5,6,7,8\n")
       (980 holds (0 ∷ 0 ∷ 0 ∷ 0 ∷ 0 ∷ 256 ∷ 32 ∷ 0 ∷ replicate 8 0 ++ (up_from 0 32 ++ replicate 64 0))
@@ -155,33 +155,33 @@ pub record MapCases : Type 0 where
 -- power-on and steps on words; "1: memory too short, or not a node. Tested first, at every step; power-on tests only the size."
 pub record StepOnMemoryCases : Type 0 where
   -- power-on on whatever words, as many as a node has
-  pub power-on-report : (powerOnMemory (replicate 8104 7)).report ≡ numberAndZeros 0
-  pub power-on-words : (powerOnMemory (replicate 8104 7)).memory ≡ fresh
+  pub power-on-report : (power_on_memory (replicate 8104 7)).report ≡ number_and_zeros 0
+  pub power-on-words : (power_on_memory (replicate 8104 7)).memory ≡ fresh
   -- "Memory past the node's size is never touched."
-  pub power-on-longer : (powerOnMemory (replicate 8106 7)).memory ≡ fresh ++ (7 ∷ 7 ∷ [])
+  pub power-on-longer : (power_on_memory (replicate 8106 7)).memory ≡ fresh ++ (7 ∷ 7 ∷ [])
   -- one word too few: 1, and the words stay
-  pub power-on-short : powerOnMemory (replicate 8103 7) ≡ answered 1 (replicate 8103 7)
-  pub power-on-none : powerOnMemory [] ≡ answered 1 []
+  pub power-on-short : power_on_memory (replicate 8103 7) ≡ answered 1 (replicate 8103 7)
+  pub power-on-none : power_on_memory [] ≡ answered 1 []
   -- a step on a node of exactly its size, and on one word less
-  pub step-report : (stepMemory fresh (schedule 1)).report ≡ numberAndZeros 0
-  pub step_words : take 1092 (stepMemory fresh (schedule 1)).memory ≡ take 1092 (put 0 (1 ∷ []) fresh)
-  pub step-short : stepMemory (take 8103 fresh) (schedule 1) ≡ answered 1 (take 8103 fresh)
+  pub step-report : (step_memory fresh (schedule 1)).report ≡ number_and_zeros 0
+  pub step_words : take 1092 (step_memory fresh (schedule 1)).memory ≡ take 1092 (put 0 (1 ∷ []) fresh)
+  pub step-short : step_memory (take 8103 fresh) (schedule 1) ≡ answered 1 (take 8103 fresh)
   -- on memory that is no node; before 2, 7, 14 and 15 too
-  pub step-no-node : stepMemory (put 0 (9 ∷ []) fresh) (schedule 1) ≡ answered 1 (put 0 (9 ∷ []) fresh)
-  pub before-unknown : stepMemory (put 0 (9 ∷ []) fresh) unknown ≡ answered 1 (put 0 (9 ∷ []) fresh)
-  pub before-nobody : stepMemory (put 1 (1 ∷ []) fresh) (user dispose) ≡ answered 1 (put 1 (1 ∷ []) fresh)
-  pub before-schedule : stepMemory (put 0 (9 ∷ []) fresh) (schedule 9) ≡ answered 1 (put 0 (9 ∷ []) fresh)
-  pub before-ticks : stepMemory (take 8103 fresh) (tick 0) ≡ answered 1 (take 8103 fresh)
+  pub step-no-node : step_memory (put 0 (9 ∷ []) fresh) (schedule 1) ≡ answered 1 (put 0 (9 ∷ []) fresh)
+  pub before-unknown : step_memory (put 0 (9 ∷ []) fresh) unknown ≡ answered 1 (put 0 (9 ∷ []) fresh)
+  pub before-nobody : step_memory (put 1 (1 ∷ []) fresh) (user dispose) ≡ answered 1 (put 1 (1 ∷ []) fresh)
+  pub before-schedule : step_memory (put 0 (9 ∷ []) fresh) (schedule 9) ≡ answered 1 (put 0 (9 ∷ []) fresh)
+  pub before-ticks : step_memory (take 8103 fresh) (tick 0) ≡ answered 1 (take 8103 fresh)
   -- on a node an unknown operation is 2
-  pub unknown-two : (stepMemory fresh unknown).report ≡ numberAndZeros 2
+  pub unknown-two : (step_memory fresh unknown).report ≡ number_and_zeros 2
   -- D on the busy node: its head goes, the message of group 2 moves to frame 2, pending and timer are 0
   pub dispose-report :
-      (stepMemory (busy ++ (7 ∷ [])) (user dispose)).report
+      (step_memory (busy ++ (7 ∷ [])) (user dispose)).report
       ≡ record { answer = 0; value = 0; trap = 0; upcall = 0; moved = 1; sent = [] }
   -- it is "written straight into the frame's part of the memory"; frame 2 is the last in "the order of entry into frames". "Memory past the node's
   -- size is never touched."
   pub dispose-memory :
-      cut 1245 8004 (stepMemory (busy ++ (7 ∷ [])) (user dispose)).memory
+      cut 1245 8004 (step_memory (busy ++ (7 ∷ [])) (user dispose)).memory
       ≡ take 1245
       (put 0 (1 ∷ 0 ∷ 1 ∷ 29 ∷ 1 ∷ 3 ∷ 4 ∷ 4 ∷ 4 ∷ replicate 25 0)
       (put 164 (up_from 3 29 ++ (0 ∷ 0 ∷ 0 ∷ []))
@@ -194,17 +194,17 @@ pub record StepOnMemoryCases : Type 0 where
 
 -- memories that are nodes, at the edges of the clauses
 pub record NodeCases : Type 0 where
-  pub fresh-node : isMemory fresh ≡ true
+  pub fresh-node : is_memory fresh ≡ true
   -- memory longer than a node is a node by its first words, whatever stands behind them; used-up places that are 0
-  pub busy-node : isMemory (busy ++ (7 ∷ [])) ≡ true
+  pub busy-node : is_memory (busy ++ (7 ∷ [])) ≡ true
   -- 16 messages in the queue, the free line not in order
-  pub full-queue-node : isMemory fullQueue ≡ true
+  pub full-queue-node : is_memory full_queue ≡ true
   -- "h the used-up places before the first (0 to 7 ..)"; a list in any order
-  pub seven-used : isMemory sevenUsed ≡ true
+  pub seven-used : is_memory seven_used ≡ true
   -- the timer at 255, a queued message of group 8 and one of 8 words, a buffered one of 8 words, a descriptor of 8 words; group 5 atomic, with
   -- force on and revoked, with no line, group 3 pending with a line in its buffer, group 8 with one in the queue
   pub edges :
-      isMemory
+      is_memory
       (put 1 (255 ∷ [])
       (put 14 (8 ∷ [])
       (put 25 (8 ∷ [])
@@ -216,196 +216,196 @@ pub record NodeCases : Type 0 where
       busy))))))))
       ≡ true
   -- a page in swap, and the first page of the group, which runs, in a frame
-  pub swapped-node : isMemory swapped ≡ true
+  pub swapped-node : is_memory swapped ≡ true
   -- the first page of a group that does not run, in swap, and the group not atomic; "each count staying at 4,294,967,295 once there"
-  pub first-swapped : isMemory firstSwapped ≡ true
+  pub first-swapped : is_memory first_swapped ≡ true
   -- nothing is asked of the counts: none was sent out or brought in, with a page in swap
-  pub nothing-sent-out : isMemory (put 8006 (0 ∷ 0 ∷ []) swapped) ≡ true
+  pub nothing-sent-out : is_memory (put 8006 (0 ∷ 0 ∷ []) swapped) ≡ true
   -- nobody runs, and so group 1 does not: it has a line and is not atomic, and its first page is in swap
-  pub nobodys-node : isMemory nobodys ≡ true
+  pub nobodys-node : is_memory nobodys ≡ true
   -- "an empty queue has a timer above 0 only where the running group has force on", up to 255; a revoked group with nothing in its buffer
-  pub forced-timer : isMemory forced ≡ true
+  pub forced-timer : is_memory forced ≡ true
 
 -- "Memory is a node when", clause by clause: each of these would be a node but for a clause, and what must fail with it
 pub record NoNodeCases : Type 0 where
   -- the size
-  pub too_short : isMemory (take 8103 fresh) ≡ false
-  pub no_words : isMemory [] ≡ false
+  pub too_short : is_memory (take 8103 fresh) ≡ false
+  pub no_words : is_memory [] ≡ false
   -- "running is 0 to 8"
-  pub running-nine : isMemory (put 0 (9 ∷ []) fresh) ≡ false
+  pub running-nine : is_memory (put 0 (9 ∷ []) fresh) ≡ false
   -- "counts .. are within the bounds above": a 17th message where the free line stands, a 9th word where the list stands
-  pub queue-seventeen : isMemory (put 2 (17 ∷ []) fullQueue) ≡ false
-  pub descriptor-nine : isMemory (put 987 (9 ∷ []) fresh) ≡ false
+  pub queue-seventeen : is_memory (put 2 (17 ∷ []) full_queue) ≡ false
+  pub descriptor-nine : is_memory (put 987 (9 ∷ []) fresh) ≡ false
   -- a 33rd free frame, a 97th page of a list, a 65th free swap page, a 33rd frame in the order of entry
-  pub free-33 : isMemory (put 3 (33 ∷ []) fresh) ≡ false
-  pub list-97 : isMemory (put 314 (97 ∷ []) fullPages) ≡ false
-  pub swap-65 : isMemory (put 8004 (65 ∷ []) fresh) ≡ false
-  pub entered-33 : isMemory (put 8005 (33 ∷ []) fullPages) ≡ false
+  pub free-33 : is_memory (put 3 (33 ∷ []) fresh) ≡ false
+  pub list-97 : is_memory (put 314 (97 ∷ []) full_pages) ≡ false
+  pub swap-65 : is_memory (put 8004 (65 ∷ []) fresh) ≡ false
+  pub entered-33 : is_memory (put 8005 (33 ∷ []) full_pages) ≡ false
   -- "groups": 0 and 9 behind the head
-  pub group-zero : isMemory (put 14 (0 ∷ []) busy) ≡ false
-  pub group-nine : isMemory (put 14 (9 ∷ []) busy) ≡ false
+  pub group-zero : is_memory (put 14 (0 ∷ []) busy) ≡ false
+  pub group-nine : is_memory (put 14 (9 ∷ []) busy) ≡ false
   -- "waiting messages' lengths": 0 and 9, in the queue, in a frame and in a swap page
-  pub length-zero : isMemory (put 25 (0 ∷ 0 ∷ 0 ∷ 0 ∷ []) busy) ≡ false
-  pub length-nine : isMemory (put 25 (9 ∷ []) busy) ≡ false
-  pub length-zero-buffered : isMemory (put 1110 (0 ∷ 0 ∷ 0 ∷ []) busy) ≡ false
-  pub length-nine-buffered : isMemory (put 1173 (9 ∷ []) busy) ≡ false
-  pub length-zero-swapped : isMemory (put 3756 (0 ∷ 0 ∷ 0 ∷ []) swapped) ≡ false
-  pub length-nine-swapped : isMemory (put 3756 (9 ∷ []) swapped) ≡ false
+  pub length-zero : is_memory (put 25 (0 ∷ 0 ∷ 0 ∷ 0 ∷ []) busy) ≡ false
+  pub length-nine : is_memory (put 25 (9 ∷ []) busy) ≡ false
+  pub length-zero-buffered : is_memory (put 1110 (0 ∷ 0 ∷ 0 ∷ []) busy) ≡ false
+  pub length-nine-buffered : is_memory (put 1173 (9 ∷ []) busy) ≡ false
+  pub length-zero-swapped : is_memory (put 3756 (0 ∷ 0 ∷ 0 ∷ []) swapped) ≡ false
+  pub length-nine-swapped : is_memory (put 3756 (9 ∷ []) swapped) ≡ false
   -- "h"
-  pub eight-used : isMemory (put 424 (8 ∷ 8 ∷ []) (put 1092 (replicate 72 0) sixteen)) ≡ false
+  pub eight-used : is_memory (put 424 (8 ∷ 8 ∷ []) (put 1092 (replicate 72 0) sixteen)) ≡ false
   -- "timer"
-  pub timer-256 : isMemory (put 1 (256 ∷ []) busy) ≡ false
+  pub timer-256 : is_memory (put 1 (256 ∷ []) busy) ≡ false
   -- "each frame stands once, in the free line or in one list": twice in the line, none, in the line and in a list, in two lists. In the last
   -- three the order of entry holds what the free line lacks
-  pub frame-twice : isMemory (put 164 (1 ∷ []) fresh) ≡ false
-  pub frame-missing : isMemory (put 3 (31 ∷ []) (put 195 (0 ∷ []) (put 8005 (1 ∷ []) (put 8072 (31 ∷ []) fresh)))) ≡ false
-  pub frame-listed-and-free : isMemory (put 164 (0 ∷ []) (put 8072 (2 ∷ []) busy)) ≡ false
+  pub frame-twice : is_memory (put 164 (1 ∷ []) fresh) ≡ false
+  pub frame-missing : is_memory (put 3 (31 ∷ []) (put 195 (0 ∷ []) (put 8005 (1 ∷ []) (put 8072 (31 ∷ []) fresh)))) ≡ false
+  pub frame-listed-and-free : is_memory (put 164 (0 ∷ []) (put 8072 (2 ∷ []) busy)) ≡ false
   pub frame-listed-twice :
-      isMemory (put 3 (29 ∷ []) (put 193 (0 ∷ []) (put 649 (8 ∷ 1 ∷ []) (put 660 (1 ∷ []) (put 8005 (3 ∷ []) (put 8074 (31 ∷ []) sixteen)))))) ≡ false
+      is_memory (put 3 (29 ∷ []) (put 193 (0 ∷ []) (put 649 (8 ∷ 1 ∷ []) (put 660 (1 ∷ []) (put 8005 (3 ∷ []) (put 8074 (31 ∷ []) sixteen)))))) ≡ false
   -- "swap pages and their line meet what 01 asks of frames and the free line": the same of swap pages
-  pub swap-twice : isMemory (put 8008 (33 ∷ []) fresh) ≡ false
-  pub swap-missing : isMemory (put 8004 (63 ∷ []) (put 8071 (0 ∷ []) fresh)) ≡ false
-  pub swap-listed-and-free : isMemory (put 8008 (37 ∷ []) swapped) ≡ false
+  pub swap-twice : is_memory (put 8008 (33 ∷ []) fresh) ≡ false
+  pub swap-missing : is_memory (put 8004 (63 ∷ []) (put 8071 (0 ∷ []) fresh)) ≡ false
+  pub swap-listed-and-free : is_memory (put 8008 (37 ∷ []) swapped) ≡ false
   pub swap-listed-twice :
-      isMemory (put 649 (1 ∷ 1 ∷ []) (put 660 (37 ∷ []) (put 8004 (62 ∷ []) (put 8070 (0 ∷ []) swapped)))) ≡ false
+      is_memory (put 649 (1 ∷ 1 ∷ []) (put 660 (37 ∷ []) (put 8004 (62 ∷ []) (put 8070 (0 ∷ []) swapped)))) ≡ false
   -- a number that is no page's, in a page's stead
-  pub page-96 : isMemory (put 8071 (96 ∷ []) fresh) ≡ false
+  pub page-96 : is_memory (put 8071 (96 ∷ []) fresh) ≡ false
   -- and beside all 96: it stands in the swap line for swap page 5, which group 3 holds
-  pub page-97th : isMemory (put 8004 (64 ∷ []) (put 8071 (96 ∷ []) swapped)) ≡ false
+  pub page-97th : is_memory (put 8004 (64 ∷ []) (put 8071 (96 ∷ []) swapped)) ≡ false
   -- a number above 96: in the swap line, in the free line, and in the list of group 5, whose message stands where page 98 would be, past the node's size
-  pub swap-97 : isMemory (put 8004 (64 ∷ []) (put 8071 (97 ∷ []) swapped)) ≡ false
-  pub free-97 : isMemory (put 3 (32 ∷ []) (put 195 (97 ∷ []) swapped)) ≡ false
-  pub listed-98 : isMemory (put 649 (1 ∷ 1 ∷ []) (put 660 (98 ∷ []) swapped) ++ (replicate 44 0 ++ (1 ∷ 5 ∷ replicate 70 0))) ≡ false
+  pub swap-97 : is_memory (put 8004 (64 ∷ []) (put 8071 (97 ∷ []) swapped)) ≡ false
+  pub free-97 : is_memory (put 3 (32 ∷ []) (put 195 (97 ∷ []) swapped)) ≡ false
+  pub listed-98 : is_memory (put 649 (1 ∷ 1 ∷ []) (put 660 (98 ∷ []) swapped) ++ (replicate 44 0 ++ (1 ∷ 5 ∷ replicate 70 0))) ≡ false
   -- a frame in the swap line, and in no other: swap page 0 is in its stead in the list of group 3, which has one message
   pub frame-in-swap-line :
-      isMemory (put 0 (0 ∷ []) (put 424 (0 ∷ 1 ∷ 1 ∷ []) (put 436 (32 ∷ 0 ∷ []) (put 1443 (0 ∷ 0 ∷ []) (put 3396 (1 ∷ 5 ∷ []) (put 3756 (0 ∷ 0 ∷ 0 ∷ []) (put 8004 (64 ∷ 1 ∷ 3 ∷ 2 ∷ 4 ∷ up_from 33 63) swapped)))))))
+      is_memory (put 0 (0 ∷ []) (put 424 (0 ∷ 1 ∷ 1 ∷ []) (put 436 (32 ∷ 0 ∷ []) (put 1443 (0 ∷ 0 ∷ []) (put 3396 (1 ∷ 5 ∷ []) (put 3756 (0 ∷ 0 ∷ 0 ∷ []) (put 8004 (64 ∷ 1 ∷ 3 ∷ 2 ∷ 4 ∷ up_from 33 63) swapped)))))))
       ≡ false
   -- a swap page in the free line, and in no other: it stands for frame 4, which group 3 holds
-  pub swap-in-free-line : isMemory (put 3 (32 ∷ []) (put 195 (32 ∷ []) (put 8004 (62 ∷ []) (put 8008 (up_from 33 4 ++ (up_from 38 58 ++ (0 ∷ []))) swapped)))) ≡ false
+  pub swap-in-free-line : is_memory (put 3 (32 ∷ []) (put 195 (32 ∷ []) (put 8004 (62 ∷ []) (put 8008 (up_from 33 4 ++ (up_from 38 58 ++ (0 ∷ []))) swapped)))) ≡ false
   -- "this order holds each frame in use once": a frame in use is missing, another in its stead; it stands there twice; and with a frame that
   -- is free, with a swap page
-  pub entered-missing : isMemory (put 8005 (0 ∷ []) (put 8072 (0 ∷ []) swapped)) ≡ false
-  pub entered-another : isMemory (put 8072 (5 ∷ []) swapped) ≡ false
-  pub entered-twice : isMemory (put 8005 (2 ∷ []) (put 8073 (4 ∷ []) swapped)) ≡ false
-  pub entered-free : isMemory (put 8005 (2 ∷ []) (put 8073 (5 ∷ []) swapped)) ≡ false
-  pub entered-swap : isMemory (put 8005 (2 ∷ []) (put 8073 (37 ∷ []) swapped)) ≡ false
+  pub entered-missing : is_memory (put 8005 (0 ∷ []) (put 8072 (0 ∷ []) swapped)) ≡ false
+  pub entered-another : is_memory (put 8072 (5 ∷ []) swapped) ≡ false
+  pub entered-twice : is_memory (put 8005 (2 ∷ []) (put 8073 (4 ∷ []) swapped)) ≡ false
+  pub entered-free : is_memory (put 8005 (2 ∷ []) (put 8073 (5 ∷ []) swapped)) ≡ false
+  pub entered-swap : is_memory (put 8005 (2 ∷ []) (put 8073 (37 ∷ []) swapped)) ≡ false
   -- with a number above 96
-  pub entered-97 : isMemory (put 8005 (2 ∷ []) (put 8073 (97 ∷ []) swapped)) ≡ false
+  pub entered-97 : is_memory (put 8005 (2 ∷ []) (put 8073 (97 ∷ []) swapped)) ≡ false
   -- frame 0 is missing, or frame 31, and a swap page stands there
-  pub entered-first : isMemory (put 8072 (37 ∷ []) fullPages) ≡ false
-  pub entered-last : isMemory (put 8103 (37 ∷ []) fullPages) ≡ false
+  pub entered-first : is_memory (put 8072 (37 ∷ []) full_pages) ≡ false
+  pub entered-last : is_memory (put 8103 (37 ∷ []) full_pages) ≡ false
   -- "each list has its rounded-up length": one frame too many, one too few
-  pub list-too-long : isMemory (put 425 (6 ∷ []) (put 1164 (replicate 18 0) busy)) ≡ false
-  pub list-too-short : isMemory (put 424 (2 ∷ 15 ∷ []) (put 1092 (replicate 18 0) sixteen)) ≡ false
+  pub list-too-long : is_memory (put 425 (6 ∷ []) (put 1164 (replicate 18 0) busy)) ≡ false
+  pub list-too-short : is_memory (put 424 (2 ∷ 15 ∷ []) (put 1092 (replicate 18 0) sixteen)) ≡ false
   pub list-of-none :
-      isMemory (put 3 (31 ∷ []) (put 195 (0 ∷ []) (put 650 (1 ∷ []) (put 660 (31 ∷ []) (put 8005 (1 ∷ []) (put 8072 (31 ∷ []) fresh)))))) ≡ false
+      is_memory (put 3 (31 ∷ []) (put 195 (0 ∷ []) (put 650 (1 ∷ []) (put 660 (31 ∷ []) (put 8005 (1 ∷ []) (put 8072 (31 ∷ []) fresh)))))) ≡ false
   -- "flags are 0 or 1": atomic, pending, force, revoked
-  pub atomic-two : isMemory (put 644 (2 ∷ []) fresh) ≡ false
-  pub pending-two : isMemory (put 645 (2 ∷ []) fresh) ≡ false
-  pub force-two : isMemory (put 646 (2 ∷ []) fresh) ≡ false
-  pub revoked-two : isMemory (put 647 (2 ∷ []) fresh) ≡ false
-  pub atomic-two-first : isMemory (put 196 (2 ∷ []) fresh) ≡ false
-  pub pending-two-last : isMemory (put 981 (2 ∷ []) fresh) ≡ false
+  pub atomic-two : is_memory (put 644 (2 ∷ []) fresh) ≡ false
+  pub pending-two : is_memory (put 645 (2 ∷ []) fresh) ≡ false
+  pub force-two : is_memory (put 646 (2 ∷ []) fresh) ≡ false
+  pub revoked-two : is_memory (put 647 (2 ∷ []) fresh) ≡ false
+  pub atomic-two-first : is_memory (put 196 (2 ∷ []) fresh) ≡ false
+  pub pending-two-last : is_memory (put 981 (2 ∷ []) fresh) ≡ false
   -- "unused places of the queue .. are 0": the first word behind the messages, its length, the last word of the last place
-  pub queue-unused : isMemory (put 34 (1 ∷ []) busy) ≡ false
-  pub queue-unused-length : isMemory (put 35 (1 ∷ []) busy) ≡ false
-  pub queue-unused-last : isMemory (put 163 (1 ∷ []) busy) ≡ false
+  pub queue-unused : is_memory (put 34 (1 ∷ []) busy) ≡ false
+  pub queue-unused-length : is_memory (put 35 (1 ∷ []) busy) ≡ false
+  pub queue-unused-last : is_memory (put 163 (1 ∷ []) busy) ≡ false
   -- of the "free line"
-  pub free-unused : isMemory (put 194 (1 ∷ []) busy) ≡ false
-  pub free-unused-last : isMemory (put 195 (1 ∷ []) busy) ≡ false
+  pub free-unused : is_memory (put 194 (1 ∷ []) busy) ≡ false
+  pub free-unused-last : is_memory (put 195 (1 ∷ []) busy) ≡ false
   -- of the swap line: the first place of one that is empty, the last of one that has 63
-  pub swap-unused : isMemory (put 8008 (1 ∷ []) fullPages) ≡ false
-  pub swap-unused-last : isMemory (put 8071 (1 ∷ []) swapped) ≡ false
+  pub swap-unused : is_memory (put 8008 (1 ∷ []) full_pages) ≡ false
+  pub swap-unused-last : is_memory (put 8071 (1 ∷ []) swapped) ≡ false
   -- the order of entry, "its unused places 0"
-  pub entered-unused : isMemory (put 8073 (1 ∷ []) swapped) ≡ false
-  pub entered-unused-last : isMemory (put 8103 (1 ∷ []) swapped) ≡ false
+  pub entered-unused : is_memory (put 8073 (1 ∷ []) swapped) ≡ false
+  pub entered-unused-last : is_memory (put 8103 (1 ∷ []) swapped) ≡ false
   -- of the "lists"
-  pub list-unused : isMemory (put 438 (1 ∷ []) busy) ≡ false
-  pub list-unused-first : isMemory (put 212 (1 ∷ []) busy) ≡ false
-  pub list-unused-last : isMemory (put 1091 (1 ∷ []) busy) ≡ false
+  pub list-unused : is_memory (put 438 (1 ∷ []) busy) ≡ false
+  pub list-unused-first : is_memory (put 212 (1 ∷ []) busy) ≡ false
+  pub list-unused-last : is_memory (put 1091 (1 ∷ []) busy) ≡ false
   -- "unused descriptor words"
-  pub descriptor-unused : isMemory (put 206 (1 ∷ []) busy) ≡ false
-  pub descriptor-unused-first : isMemory (put 988 (1 ∷ []) busy) ≡ false
-  pub descriptor-unused-last : isMemory (put 995 (1 ∷ []) busy) ≡ false
+  pub descriptor-unused : is_memory (put 206 (1 ∷ []) busy) ≡ false
+  pub descriptor-unused-first : is_memory (put 988 (1 ∷ []) busy) ≡ false
+  pub descriptor-unused-last : is_memory (put 995 (1 ∷ []) busy) ≡ false
   -- "a waiting message's words past its length are 0": in the queue, the head and the last; in a frame, the first and the last; in a swap page
-  pub words-past : isMemory (put 7 (1 ∷ []) busy) ≡ false
-  pub words-past-last : isMemory (put 33 (1 ∷ []) busy) ≡ false
-  pub words-past-buffered : isMemory (put 1113 (1 ∷ []) busy) ≡ false
-  pub words-past-buffered-last : isMemory (put 1181 (1 ∷ []) busy) ≡ false
-  pub words-past-swapped : isMemory (put 3764 (1 ∷ []) swapped) ≡ false
+  pub words-past : is_memory (put 7 (1 ∷ []) busy) ≡ false
+  pub words-past-last : is_memory (put 33 (1 ∷ []) busy) ≡ false
+  pub words-past-buffered : is_memory (put 1113 (1 ∷ []) busy) ≡ false
+  pub words-past-buffered-last : is_memory (put 1181 (1 ∷ []) busy) ≡ false
+  pub words-past-swapped : is_memory (put 3764 (1 ∷ []) swapped) ≡ false
   -- "Memory is no node (1) if a frame or swap page has a word or kept length other than 0 that is no part of a waiting message.": of a free frame the
   -- first kept length, and the last word; of a free swap page
-  pub free-frame-length : isMemory (put 1236 (1 ∷ []) busy) ≡ false
-  pub free-frame-word : isMemory (put 3395 (1 ∷ []) busy) ≡ false
-  pub free-swap-length : isMemory (put 3396 (1 ∷ []) busy) ≡ false
-  pub free-swap-word : isMemory (put 8003 (1 ∷ []) busy) ≡ false
+  pub free-frame-length : is_memory (put 1236 (1 ∷ []) busy) ≡ false
+  pub free-frame-word : is_memory (put 3395 (1 ∷ []) busy) ≡ false
+  pub free-swap-length : is_memory (put 3396 (1 ∷ []) busy) ≡ false
+  pub free-swap-word : is_memory (put 8003 (1 ∷ []) busy) ≡ false
   -- of the used-up places, and of those behind the last message
-  pub used-up-length : isMemory (put 1092 (1 ∷ []) busy) ≡ false
-  pub used-up-word : isMemory (put 1109 (1 ∷ []) busy) ≡ false
-  pub behind-length : isMemory (put 1182 (1 ∷ []) busy) ≡ false
-  pub behind-word : isMemory (put 1235 (1 ∷ []) busy) ≡ false
+  pub used-up-length : is_memory (put 1092 (1 ∷ []) busy) ≡ false
+  pub used-up-word : is_memory (put 1109 (1 ∷ []) busy) ≡ false
+  pub behind-length : is_memory (put 1182 (1 ∷ []) busy) ≡ false
+  pub behind-word : is_memory (put 1235 (1 ∷ []) busy) ≡ false
   -- in a swap page
-  pub used-up-swapped : isMemory (put 3756 (1 ∷ []) firstSwapped) ≡ false
-  pub behind-swapped : isMemory (put 3827 (1 ∷ []) swapped) ≡ false
+  pub used-up-swapped : is_memory (put 3756 (1 ∷ []) first_swapped) ≡ false
+  pub behind-swapped : is_memory (put 3827 (1 ∷ []) swapped) ≡ false
   -- "pledges sum to at most 32", which now reads 96: all pages full, and a message of the runner's queued
-  pub pledges-97 : isMemory (put 0 (1 ∷ 0 ∷ 1 ∷ 0 ∷ 1 ∷ 1 ∷ 7 ∷ []) (put 196 (1 ∷ []) fullPages)) ≡ false
+  pub pledges-97 : is_memory (put 0 (1 ∷ 0 ∷ 1 ∷ 0 ∷ 1 ∷ 1 ∷ 7 ∷ []) (put 196 (1 ∷ []) full_pages)) ≡ false
   -- "h is 0 where n is 0": group 5 with a frame for its one used-up place
   pub used-of-none :
-      isMemory (put 3 (31 ∷ []) (put 195 (0 ∷ []) (put 648 (1 ∷ 0 ∷ 1 ∷ []) (put 660 (31 ∷ []) (put 8005 (1 ∷ []) (put 8072 (31 ∷ []) fresh)))))) ≡ false
+      is_memory (put 3 (31 ∷ []) (put 195 (0 ∷ []) (put 648 (1 ∷ 0 ∷ 1 ∷ []) (put 660 (31 ∷ []) (put 8005 (1 ∷ []) (put 8072 (31 ∷ []) fresh)))))) ≡ false
   -- "pending only with atomic"
-  pub pending-not-atomic : isMemory (put 420 (0 ∷ 1 ∷ 0 ∷ 0 ∷ []) busy) ≡ false
-  pub pending-not-atomic-queued : isMemory (put 308 (0 ∷ 1 ∷ []) busy) ≡ false
+  pub pending-not-atomic : is_memory (put 420 (0 ∷ 1 ∷ 0 ∷ 0 ∷ []) busy) ≡ false
+  pub pending-not-atomic-queued : is_memory (put 308 (0 ∷ 1 ∷ []) busy) ≡ false
   -- "force and revoked stand only with atomic": of a group that does not run, of the one that runs
-  pub force-not-atomic : isMemory (put 646 (1 ∷ []) fresh) ≡ false
-  pub revoked-not-atomic : isMemory (put 647 (1 ∷ []) fresh) ≡ false
-  pub force-not-atomic-runner : isMemory (put 0 (8 ∷ []) (put 982 (1 ∷ []) fresh)) ≡ false
-  pub revoked-not-atomic-runner : isMemory (put 0 (8 ∷ []) (put 983 (1 ∷ []) fresh)) ≡ false
+  pub force-not-atomic : is_memory (put 646 (1 ∷ []) fresh) ≡ false
+  pub revoked-not-atomic : is_memory (put 647 (1 ∷ []) fresh) ≡ false
+  pub force-not-atomic-runner : is_memory (put 0 (8 ∷ []) (put 982 (1 ∷ []) fresh)) ≡ false
+  pub revoked-not-atomic-runner : is_memory (put 0 (8 ∷ []) (put 983 (1 ∷ []) fresh)) ≡ false
   -- "and a line not empty": of the running group, of others
-  pub pending-no-line-runner : isMemory (put 0 (5 ∷ []) (put 644 (1 ∷ 1 ∷ []) fresh)) ≡ false
-  pub pending-no-line : isMemory (put 644 (1 ∷ 1 ∷ []) fresh) ≡ false
-  pub pending-no-line-first : isMemory (put 196 (1 ∷ 1 ∷ []) fresh) ≡ false
-  pub pending-no-line-last : isMemory (put 980 (1 ∷ 1 ∷ []) fresh) ≡ false
+  pub pending-no-line-runner : is_memory (put 0 (5 ∷ []) (put 644 (1 ∷ 1 ∷ []) fresh)) ≡ false
+  pub pending-no-line : is_memory (put 644 (1 ∷ 1 ∷ []) fresh) ≡ false
+  pub pending-no-line-first : is_memory (put 196 (1 ∷ 1 ∷ []) fresh) ≡ false
+  pub pending-no-line-last : is_memory (put 980 (1 ∷ 1 ∷ []) fresh) ≡ false
   -- "a running group with a line not empty is atomic": direct, and buffered
-  pub runner-not-atomic : isMemory (put 196 (0 ∷ 0 ∷ []) busy) ≡ false
-  pub runner-not-atomic-buffered : isMemory (put 0 (3 ∷ []) sixteen) ≡ false
+  pub runner-not-atomic : is_memory (put 196 (0 ∷ 0 ∷ []) busy) ≡ false
+  pub runner-not-atomic-buffered : is_memory (put 0 (3 ∷ []) sixteen) ≡ false
   -- "if the hardware queue isn't empty its head is the running group's": nobody runs, another runs
-  pub head-of-nobody : isMemory (put 0 (0 ∷ []) busy) ≡ false
-  pub head-of-another : isMemory (put 0 (4 ∷ []) busy) ≡ false
+  pub head-of-nobody : is_memory (put 0 (0 ∷ []) busy) ≡ false
+  pub head-of-another : is_memory (put 0 (4 ∷ []) busy) ≡ false
   -- "and that group is direct": group 1 with a message in frame 31
   pub head-group-buffered :
-      isMemory (put 3 (29 ∷ []) (put 193 (0 ∷ []) (put 201 (1 ∷ 1 ∷ []) (put 212 (31 ∷ []) (put 3324 (1 ∷ 5 ∷ []) (put 8005 (3 ∷ []) (put 8074 (31 ∷ []) busy))))))) ≡ false
+      is_memory (put 3 (29 ∷ []) (put 193 (0 ∷ []) (put 201 (1 ∷ 1 ∷ []) (put 212 (31 ∷ []) (put 3324 (1 ∷ 5 ∷ []) (put 8005 (3 ∷ []) (put 8074 (31 ∷ []) busy))))))) ≡ false
   -- a revoked group "counts as buffered, empty or not"
-  pub head-group-revoked : isMemory (put 199 (1 ∷ []) busy) ≡ false
+  pub head-group-revoked : is_memory (put 199 (1 ∷ []) busy) ≡ false
   -- a timer of 0 does not excuse it
-  pub head-of-nobody-rested : isMemory (put 0 (0 ∷ 0 ∷ []) busy) ≡ false
-  pub head-of-another-rested : isMemory (put 0 (4 ∷ 0 ∷ []) busy) ≡ false
-  pub head-group-revoked-rested : isMemory (put 1 (0 ∷ []) (put 199 (1 ∷ []) busy)) ≡ false
+  pub head-of-nobody-rested : is_memory (put 0 (0 ∷ 0 ∷ []) busy) ≡ false
+  pub head-of-another-rested : is_memory (put 0 (4 ∷ 0 ∷ []) busy) ≡ false
+  pub head-group-revoked-rested : is_memory (put 1 (0 ∷ []) (put 199 (1 ∷ []) busy)) ≡ false
   -- "if it is empty the timer is 0", now but for "where the running group has force on": nobody has, the runner has not, nobody runs, another runs
-  pub timer-idle : isMemory (put 1 (1 ∷ []) fresh) ≡ false
-  pub timer-force-off : isMemory (put 198 (0 ∷ []) forced) ≡ false
-  pub timer-of-nobody : isMemory (put 0 (0 ∷ []) forced) ≡ false
-  pub timer-of-another : isMemory (put 0 (2 ∷ []) forced) ≡ false
+  pub timer-idle : is_memory (put 1 (1 ∷ []) fresh) ≡ false
+  pub timer-force-off : is_memory (put 198 (0 ∷ []) forced) ≡ false
+  pub timer-of-nobody : is_memory (put 0 (0 ∷ []) forced) ≡ false
+  pub timer-of-another : is_memory (put 0 (2 ∷ []) forced) ≡ false
   -- "a running group's first page is in a frame"
-  pub runner-swapped : isMemory (put 0 (3 ∷ []) (put 420 (1 ∷ []) firstSwapped)) ≡ false
+  pub runner-swapped : is_memory (put 0 (3 ∷ []) (put 420 (1 ∷ []) first_swapped)) ≡ false
 
 -- "the words of the head message as a part of the lent memory": where they begin, and how many they are
 pub record HeadCases : Type 0 where
   -- from the queue's place
-  pub head-direct : headPart (busy ++ (7 ∷ [])) ≡ record { start = 6; len = 1 }
+  pub head-direct : head_part (busy ++ (7 ∷ [])) ≡ record { start = 6; len = 1 }
   -- from a frame's: in the list's first, behind the used-up places
-  pub head-buffered : headPart sevenUsed ≡ record { start = 1228; len = 8 }
-  pub head-words : headWords sevenUsed ≡ replicate 8 16
+  pub head-buffered : head_part seven_used ≡ record { start = 1228; len = 8 }
+  pub head-words : head_words seven_used ≡ replicate 8 16
   -- "the running group's first, an empty part if there is none": nobody runs, and group 3 has messages, or group 1; or a group with no line runs,
   -- which counts as buffered
-  pub head-nobody : headPart firstSwapped ≡ record { start = 0; len = 0 }
-  pub head-nobodys : headPart nobodys ≡ record { start = 0; len = 0 }
-  pub head-no-line : headPart forced ≡ record { start = 0; len = 0 }
+  pub head-nobody : head_part first_swapped ≡ record { start = 0; len = 0 }
+  pub head-nobodys : head_part nobodys ≡ record { start = 0; len = 0 }
+  pub head-no-line : head_part forced ≡ record { start = 0; len = 0 }
   -- "or the memory is no node"
-  pub head-no-node : headPart (put 1 (256 ∷ []) busy) ≡ record { start = 0; len = 0 }
+  pub head-no-node : head_part (put 1 (256 ∷ []) busy) ≡ record { start = 0; len = 0 }
 
 -- "A separate call gives pages sent out and brought in so far"
 pub record CountCases : Type 0 where
-  pub counts-fresh : pageCounts fresh ≡ record { out = 0; brought = 0 }
-  pub counts-told : pageCounts swapped ≡ record { out = 3; brought = 2 }
+  pub counts-fresh : page_counts fresh ≡ record { out = 0; brought = 0 }
+  pub counts-told : page_counts swapped ≡ record { out = 3; brought = 2 }
   -- zeros where the memory is no node
-  pub counts-no-node : pageCounts (put 1 (1 ∷ []) swapped) ≡ record { out = 0; brought = 0 }
+  pub counts-no-node : page_counts (put 1 (1 ∷ []) swapped) ≡ record { out = 0; brought = 0 }

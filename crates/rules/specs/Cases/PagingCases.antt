@@ -4,21 +4,21 @@
 -- number 32, at 3396; from 8004 on stand the counts of free swap pages, of frames in use, of pages sent out and of pages brought in, from 8008 on
 -- the swap line, from 8072 on the order of entry. Assumes nothing.
 use Rattle.std.specs.Prelude.{ℕ, ◌≡◌, [], ◌∷◌, ◌++◌, replicate}
-use Rattle.rules.specs.Lists.{concatMap, up_from}
-use Rattle.rules.specs.Node.{Node, withPaging}
+use Rattle.rules.specs.Lists.{concat_map, up_from}
+use Rattle.rules.specs.Node.{Node, with_paging}
 use Rattle.rules.specs.Memory.{words}
 use Rattle.rules.specs.Text.{bytes}
-use Rattle.rules.specs.Cases.Case.{copies, memoryAfter, ◌holds◌, Leaves, kept, crowded, packed, LeavesFrom}
+use Rattle.rules.specs.Cases.Case.{copies, memory_after, ◌holds◌, Leaves, kept, crowded, packed, LeavesFrom}
 
 -- the node, with these counts of pages sent out and brought in
 abbrev pub counting : ℕ → ℕ → Node → Node
-counting out brought n = withPaging (record { swap = n.paging.swap; entered = n.paging.entered; out = out; brought = brought }) n
+counting out brought n = with_paging (record { swap = n.paging.swap; entered = n.paging.entered; out = out; brought = brought }) n
 
 -- a new page
 pub record SendCases : Type 0 where
   -- "A page needed when no frame is free": as long as one is, none is sent out, and the node is as Case says
-  pub crowded-words : memoryAfter (copies 256 "A,2,7\n") ≡ words (crowded 32)
-  pub packed-words : memoryAfter (bytes "A,2,5\n" ++ copies 248 "A,1,7\n") ≡ words (packed 1 (5 ∷ []))
+  pub crowded-words : memory_after (copies 256 "A,2,7\n") ≡ words (crowded 32)
+  pub packed-words : memory_after (bytes "A,2,5\n" ++ copies 248 "A,1,7\n") ≡ words (packed 1 (5 ∷ []))
   -- "sends out the page that has been in a frame longest": the one in frame 0, which the new page has now
   pub first_out : LeavesFrom (crowded 32) (bytes "A,2,7\n")
       (3 holds (0 ∷ [])
@@ -134,7 +134,7 @@ pub record BringCases : Type 0 where
       ∷ 312 holds (0 ∷ 2 ∷ 1 ∷ [])
       ∷ 324 holds (1 ∷ 0 ∷ [])
       ∷ 1164 holds (kept 5 ++ (kept 6 ++ replicate 54 0))
-      ∷ 3396 holds concatMap kept (replicate 8 7)
+      ∷ 3396 holds concat_map kept (replicate 8 7)
       ∷ 8004 holds (63 ∷ 32 ∷ 2 ∷ 1 ∷ up_from 33 63 ++ (0 ∷ up_from 2 30 ++ (0 ∷ 1 ∷ [])))
       ∷ [])
   -- "before it is written", its last place too

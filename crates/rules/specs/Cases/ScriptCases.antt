@@ -4,12 +4,12 @@ use Prim.Native.String.{String}
 use Rattle.rules.specs.Lists.{filter, all, up_from}
 use Rattle.rules.specs.Operation.{user, describe, unknown}
 use Rattle.rules.specs.Text.{bytes}
-use Rattle.rules.specs.Script.{readLine, scriptLines, listing}
+use Rattle.rules.specs.Script.{read_line, script_lines, listing}
 use Rattle.rules.specs.Cases.Case.{◌gives◌, copies, Lists}
 
 -- all bytes but those of a text
-abbrev pub bytesBut : String → List ℕ
-bytesBut s = filter (λ c. all (λ d. not (eqb c d)) (bytes s)) (up_from 0 256)
+abbrev pub bytes_but : String → List ℕ
+bytes_but s = filter (λ c. all (λ d. not (eqb c d)) (bytes s)) (up_from 0 256)
 
 -- the cases of that section, sentence by sentence
 pub record ScriptCasesHold : Type 0 where
@@ -65,9 +65,9 @@ pub record ScriptCasesHold : Type 0 where
       ∷ ",\n" gives "25,2,0,0,0,0\n"
       ∷ [])
   -- no byte but the thirteen letters begins a line that is read: alone, before one number, before two
-  pub other-letters : map (λ c. readLine (c ∷ [])) (bytesBut "ASOITCMEDBNPL") ≡ replicate 243 unknown
-  pub other-letters-one : map (λ c. readLine (c ∷ bytes ",1")) (bytesBut "ASOITCMEDBNPL") ≡ replicate 243 unknown
-  pub other-letters-two : map (λ c. readLine (c ∷ bytes ",1,7")) (bytesBut "ASOITCMEDBNPL") ≡ replicate 243 unknown
+  pub other-letters : map (λ c. read_line (c ∷ [])) (bytes_but "ASOITCMEDBNPL") ≡ replicate 243 unknown
+  pub other-letters-one : map (λ c. read_line (c ∷ bytes ",1")) (bytes_but "ASOITCMEDBNPL") ≡ replicate 243 unknown
+  pub other-letters-two : map (λ c. read_line (c ∷ bytes ",1,7")) (bytes_but "ASOITCMEDBNPL") ≡ replicate 243 unknown
   -- "parted by commas": no other byte parts them
   pub commas : Lists
       ("S,1\n" gives "1,0,0,0,0,0\n"
@@ -79,7 +79,7 @@ pub record ScriptCasesHold : Type 0 where
       ∷ "S,2\n" gives "7,0,0,0,0,0\n"
       ∷ [])
   -- none but the comma
-  pub only-comma : map (λ c. readLine (bytes "S" ++ (c ∷ bytes "2"))) (bytesBut ",") ≡ replicate 255 unknown
+  pub only-comma : map (λ c. read_line (bytes "S" ++ (c ∷ bytes "2"))) (bytes_but ",") ≡ replicate 255 unknown
   -- "no quoting, no blanks"
   pub no-blanks : Lists
       ("S,1\n" gives "1,0,0,0,0,0\n"
@@ -124,9 +124,9 @@ pub record ScriptCasesHold : Type 0 where
       ∷ "L,0\n" gives "13,0,2,0,0,0,0,1,0,9\n"
       ∷ [])
   -- each digit by its value, and no other byte, alone or behind a digit
-  pub digits : map (λ c. readLine (bytes "P," ++ (c ∷ []))) (bytes "0123456789") ≡ map (λ w. user (describe w)) (up_from 0 10)
-  pub other-digits : map (λ c. readLine (bytes "P," ++ (c ∷ []))) (bytesBut "0123456789") ≡ replicate 246 unknown
-  pub other-digits-behind : map (λ c. readLine (bytes "P,1" ++ (c ∷ []))) (bytesBut "0123456789") ≡ replicate 246 unknown
+  pub digits : map (λ c. read_line (bytes "P," ++ (c ∷ []))) (bytes "0123456789") ≡ map (λ w. user (describe w)) (up_from 0 10)
+  pub other-digits : map (λ c. read_line (bytes "P," ++ (c ∷ []))) (bytes_but "0123456789") ≡ replicate 246 unknown
+  pub other-digits-behind : map (λ c. read_line (bytes "P,1" ++ (c ∷ []))) (bytes_but "0123456789") ≡ replicate 246 unknown
   -- "no sign"
   pub no_sign : Lists
       ("S,+1\n" gives "1,2,0,0,0,0\n"
@@ -168,7 +168,7 @@ pub record ScriptCasesHold : Type 0 where
       ∷ "S,2\n" gives "6,0,0,0,0,0\n"
       ∷ [])
   -- no other byte ends a line
-  pub only-newline : map (λ c. scriptLines (77 ∷ c ∷ 77 ∷ [])) (bytesBut "\n") ≡ map (λ c. (77 ∷ c ∷ 77 ∷ []) ∷ []) (bytesBut "\n")
+  pub only-newline : map (λ c. script_lines (77 ∷ c ∷ 77 ∷ [])) (bytes_but "\n") ≡ map (λ c. (77 ∷ c ∷ 77 ∷ []) ∷ []) (bytes_but "\n")
   -- a byte above 127 is no letter and no digit
   pub not_ascii : Lists
       ("S,1\n" gives "1,0,0,0,0,0\n"

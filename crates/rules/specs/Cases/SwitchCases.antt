@@ -7,9 +7,9 @@ use Rattle.rules.specs.Lists.{up_from}
 use Rattle.rules.specs.Build.{paper01}
 use Rattle.rules.specs.Memory.{words}
 use Rattle.rules.specs.Text.{bytes}
-use Rattle.rules.specs.Script.{scriptLines}
-use Rattle.rules.specs.Run.{scriptLine, play}
-use Rattle.rules.specs.Cases.Case.{◌gives◌, times, Lists, memoryAfter, Stands, ◌holds◌, Leaves, kept, packed, LeavesFrom}
+use Rattle.rules.specs.Script.{script_lines}
+use Rattle.rules.specs.Run.{script_line, play}
+use Rattle.rules.specs.Cases.Case.{◌gives◌, times, Lists, memory_after, Stands, ◌holds◌, Leaves, kept, packed, LeavesFrom}
 
 -- O
 pub record PreemptCases : Type 0 where
@@ -54,7 +54,7 @@ pub record PreemptCases : Type 0 where
       ∷ "D\n" gives "14,7,0,0,0,0\n"
       ∷ [])
   -- no word in memory
-  pub taken-from-nobody-words : memoryAfter (bytes "A,1,7\nO\n") ≡ memoryAfter (bytes "A,1,7\n")
+  pub taken-from-nobody-words : memory_after (bytes "A,1,7\nO\n") ≡ memory_after (bytes "A,1,7\n")
   -- while O settles nobody runs: no head may stay, and the whole queue moves, of all groups, head first. Group 1's messages are in frame 0, group 2's in
   -- frame 1, group 3's in frame 2, each group's in its order
   pub taken-in-order : Leaves (bytes "I,1\nA,1,1\nA,2,2\nA,3,3\nA,2,4\nA,1,5\nO\n")
@@ -170,11 +170,11 @@ pub record DispatchCases : Type 0 where
       ∷ [])
 
 -- with five messages of three groups in the queue the processor goes from group 1 to 2, later to 3, and back to 1: each switch as one line, and as two
-abbrev pub oneLine : List ℕ
-oneLine = bytes "S,1\nA,1,1\nA,2,2\nA,3,3\nA,2,4\nA,1,5\nS,2\nM\nD\nD\nS,3\nD\nS,1\nD\n"
+abbrev pub one_line : List ℕ
+one_line = bytes "S,1\nA,1,1\nA,2,2\nA,3,3\nA,2,4\nA,1,5\nS,2\nM\nD\nD\nS,3\nD\nS,1\nD\n"
 
-abbrev pub twoLines : List ℕ
-twoLines = bytes "I,1\nA,1,1\nA,2,2\nA,3,3\nA,2,4\nA,1,5\nO\nI,2\nM\nD\nD\nO\nI,3\nD\nO\nI,1\nD\n"
+abbrev pub two_lines : List ℕ
+two_lines = bytes "I,1\nA,1,1\nA,2,2\nA,3,3\nA,2,4\nA,1,5\nO\nI,2\nM\nD\nD\nO\nI,3\nD\nO\nI,1\nD\n"
 
 -- S
 pub record SwitchCases : Type 0 where
@@ -220,11 +220,11 @@ pub record SwitchCases : Type 0 where
       ∷ "D\n" gives "19,8,0,0,0,0\n"
       ∷ [])
   -- and both leave the same words in memory
-  pub same-words-left : memoryAfter oneLine ≡ memoryAfter twoLines
+  pub same-words-left : memory_after one_line ≡ memory_after two_lines
   -- also where pages go out and come in
   pub same-pages-left :
-      words (play paper01 (packed 1 (5 ∷ [])) (map scriptLine (scriptLines (bytes "S,3\nA,3,3\nS,2\n")))).node
-      ≡ words (play paper01 (packed 1 (5 ∷ [])) (map scriptLine (scriptLines (bytes "I,3\nA,3,3\nO\nI,2\n")))).node
+      words (play paper01 (packed 1 (5 ∷ [])) (map script_line (script_lines (bytes "S,3\nA,3,3\nS,2\n")))).node
+      ≡ words (play paper01 (packed 1 (5 ∷ [])) (map script_line (script_lines (bytes "I,3\nA,3,3\nO\nI,2\n")))).node
   -- "unless g is 0": S to nobody is O
   pub switch-to-nobody : Lists
       ("S,1\n" gives "1,0,0,0,0,0\n"
@@ -249,7 +249,7 @@ pub record SwitchCases : Type 0 where
       ∷ "E,0\n" gives "4,0,8,0,0,0\n"
       ∷ "D\n" gives "5,0,0,1,0,0\n"
       ∷ [])
-  pub switch-from-nobody-words : memoryAfter (bytes "A,1,7\nA,2,8\nS,2\n") ≡ memoryAfter (bytes "A,1,7\nA,2,8\nI,2\n")
+  pub switch-from-nobody-words : memory_after (bytes "A,1,7\nA,2,8\nS,2\n") ≡ memory_after (bytes "A,1,7\nA,2,8\nI,2\n")
   -- "nothing if g already runs": the messages of both groups are still queued, and one more tick is the timeout
   pub switch-to-runner : Lists
       ("S,1\n" gives "1,0,0,0,0,0\n"
@@ -263,8 +263,8 @@ pub record SwitchCases : Type 0 where
       ∷ "T,1\n" gives "9,0,0,3,0,1\n"
       ∷ [])
   -- no word in memory, and none where S is to nobody and nobody runs
-  pub switch-to-runner-words : memoryAfter (bytes "S,1\nA,1,7\nA,2,5\nT,9\nS,1\n") ≡ memoryAfter (bytes "S,1\nA,1,7\nA,2,5\nT,9\n")
-  pub switch-nobody-to-nobody : memoryAfter (bytes "A,1,7\nS,0\n") ≡ memoryAfter (bytes "A,1,7\n")
+  pub switch-to-runner-words : memory_after (bytes "S,1\nA,1,7\nA,2,5\nT,9\nS,1\n") ≡ memory_after (bytes "S,1\nA,1,7\nA,2,5\nT,9\n")
+  pub switch-nobody-to-nobody : memory_after (bytes "A,1,7\nS,0\n") ≡ memory_after (bytes "A,1,7\n")
   -- the timer of a section that force is on for: S to the one running leaves it, a switch and back does not
   pub switch-forced : Lists
       ("S,1\n" gives "1,0,0,0,0,0\n"

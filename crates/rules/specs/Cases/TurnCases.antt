@@ -2,9 +2,9 @@
 -- group, the timer and the count of the queue are at 0, 1 and 2, group 1's flags from 196 on. What is told of C is in RunCases. Assumes nothing.
 use Rattle.std.specs.Prelude.{ℕ, ◌≡◌, List, [], ◌∷◌, ◌++◌, map}
 use Rattle.rules.specs.Lists.{up_from}
-use Rattle.rules.specs.Turn.{turnOrder}
+use Rattle.rules.specs.Turn.{turn_order}
 use Rattle.rules.specs.Text.{bytes}
-use Rattle.rules.specs.Cases.Case.{◌gives◌, Lists, memoryAfter, Stands, crowded, ListsFrom}
+use Rattle.rules.specs.Cases.Case.{◌gives◌, Lists, memory_after, Stands, crowded, ListsFrom}
 
 -- group 1 is in a section that force is on for, with a word in its descriptor; the timer stands at 9, and two groups' messages are queued
 abbrev pub midway : List ℕ
@@ -12,7 +12,7 @@ midway = bytes "I,1\nP,5\nA,1,7\nA,2,5\nB,1\nT,9\n"
 
 pub record TurnCases : Type 0 where
   -- "the first group after the running one, upward and round from 8 to 1, the running one last"; "With nobody running it starts at 1."
-  pub orders : map turnOrder (up_from 0 9)
+  pub orders : map turn_order (up_from 0 9)
       ≡ (1 ∷ 2 ∷ 3 ∷ 4 ∷ 5 ∷ 6 ∷ 7 ∷ 8 ∷ [])
       ∷ (2 ∷ 3 ∷ 4 ∷ 5 ∷ 6 ∷ 7 ∷ 8 ∷ 1 ∷ [])
       ∷ (3 ∷ 4 ∷ 5 ∷ 6 ∷ 7 ∷ 8 ∷ 1 ∷ 2 ∷ [])
@@ -175,4 +175,4 @@ pub record TurnCases : Type 0 where
   -- nor any word in memory: where those words are not all as at power-on
   pub midway-words : Stands midway 0 (1 ∷ 9 ∷ 2 ∷ 32 ∷ [])
   pub midway-flags : Stands midway 196 (1 ∷ 1 ∷ 1 ∷ 0 ∷ [])
-  pub no-word-changed : memoryAfter (midway ++ bytes "C\n") ≡ memoryAfter midway
+  pub no-word-changed : memory_after (midway ++ bytes "C\n") ≡ memory_after midway

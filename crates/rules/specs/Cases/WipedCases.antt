@@ -3,7 +3,7 @@
 -- 424 on, and their lists from 212, 324 and 436 on; frame 0 is at 1092, frame 1 at 1164, the first swap page, number 32, at 3396; the swap line is at
 -- 8008. Assumes nothing.
 use Rattle.std.specs.Prelude.{[], ◌∷◌, ◌++◌, replicate}
-use Rattle.rules.specs.Lists.{concatMap, up_from}
+use Rattle.rules.specs.Lists.{concat_map, up_from}
 use Rattle.rules.specs.Text.{bytes}
 use Rattle.rules.specs.Cases.Case.{copies, ◌holds◌, Leaves, kept, packed, LeavesFrom}
 
@@ -65,5 +65,5 @@ pub record LeftCases : Type 0 where
       (212 holds (32 ∷ up_from 2 30 ++ (0 ∷ 0 ∷ []))
       ∷ 324 holds (1 ∷ 0 ∷ [])
       ∷ 1092 holds (kept 7 ++ (replicate 63 0 ++ (kept 5 ++ (kept 6 ++ replicate 54 0))))
-      ∷ 3396 holds concatMap kept (replicate 8 7)
+      ∷ 3396 holds concat_map kept (replicate 8 7)
       ∷ [])

@@ -9,15 +9,15 @@ use lib.Dec.{eqb}
 use lib.ListN.{length, take, drop}
 use lib.Seq.{length-take-le, take_all, take-append-add, take-take}
 use borrow.Author.Tests.{eqb-true}
-use Rattle.rules.specs.MemoryTest.{isMemory, stepMemory}
+use Rattle.rules.specs.MemoryTest.{is_memory, step_memory}
 use Rattle.rules.specs.Operation.{Operation}
-use Rattle.rules.specs.Script.{newline, readLine, reportLine}
+use Rattle.rules.specs.Script.{newline, read_line, report_line}
 use Rattle.rules.specs.Text.{split}
-use Rattle.script.specs.Feeding.{whole, begun, linesBehind, restBehind, joinFirst, allButLast, lastPart, afterLines, listMemory}
-use Rattle.script.specs.Feed.{keptRoom, keptLine, LinesFeedable, LinesFed, BegunFed}
+use Rattle.script.specs.Feeding.{whole, begun, lines_behind, rest_behind, join_first, all_but_last, last_part, after_lines, list_memory}
+use Rattle.script.specs.Feed.{kept_room, kept_line, LinesFeedable, LinesFed, BegunFed}
 use Rattle.script.specs.Play.{part, TextPlayed}
 use Rattle.script.specs.Read.{OneLine, line_of}
-use Rattle.script.specs.Written.{lineRoom}
+use Rattle.script.specs.Written.{line_room}
 use Rattle.script.specs.declared.play.Played.{Played as Played·rt}
 use Rattle.script.specs.declared.feed.Fed.{Fed as Fed·rt}
 use Rattle.script.proofs.write.AppendedLaws.{appended-as, appended-none, appended_then}
@@ -39,18 +39,18 @@ line-ends (x ∷ xs) h =
 
 -- The line does not end.
 
-pub behind-open : (b u : List ℕ) → OneLine u → (linesBehind b u ≡ []) × (restBehind b u ≡ b ++ u)
-unfolding linesBehind restBehind joinFirst allButLast lastPart
+pub behind-open : (b u : List ℕ) → OneLine u → (lines_behind b u ≡ []) × (rest_behind b u ≡ b ++ u)
+unfolding lines_behind rest_behind join_first all_but_last last_part
 behind-open b u one = rw (one_split u one) (refl, refl)
 
 -- The line ends, and others follow it.
 
 pub record Behind (b u : List ℕ) (used : ℕ) : Type 0 where
-  pub lines : linesBehind b (take used u) ≡ (b ++ line_of u) ∷ whole (part u (length (line_of u) + 1) used)
-  pub rest : restBehind b (take used u) ≡ begun (part u (length (line_of u) + 1) used)
+  pub lines : lines_behind b (take used u) ≡ (b ++ line_of u) ∷ whole (part u (length (line_of u) + 1) used)
+  pub rest : rest_behind b (take used u) ≡ begun (part u (length (line_of u) + 1) used)
 
 pub behind-ended : (b u : List ℕ) (used : ℕ) → length (line_of u) < length u → length (line_of u) + 1 ≤ used → Behind b u used
-unfolding linesBehind restBehind joinFirst whole begun part
+unfolding lines_behind rest_behind join_first whole begun part
 behind-ended b u used ends more =
     let l = line_of u in
     let r = drop (suc (length l)) u in
@@ -64,53 +64,53 @@ behind-ended b u used ends more =
     ap (split newline) t ∙ ended-split l (take k r) (one_of u) ∙ ap (λ (y : List ℕ). l ∷ split newline y) d in
     let q = last-behind (split newline (part u (length l + 1) used)) (split-some newline (part u (length l + 1) used)) (b ++ l) in
     record {
-      lines = ap (λ (ps : List (List ℕ)). allButLast (joinFirst b ps)) p ∙ q.0;
-      rest = ap (λ (ps : List (List ℕ)). lastPart (joinFirst b ps)) p ∙ q.1;
+      lines = ap (λ (ps : List (List ℕ)). all_but_last (join_first b ps)) p ∙ q.0;
+      rest = ap (λ (ps : List (List ℕ)). last_part (join_first b ps)) p ∙ q.1;
     }
 
 -- What is kept of the line that goes on is one.
-pub grown-one : {b : List ℕ} (input : List ℕ) {line : List ℕ} {end : ℕ} → OneLine b → end ≡ length (line_of input) → line ≡ take keptRoom (b ++ take end input) → OneLine line
+pub grown-one : {b : List ℕ} (input : List ℕ) {line : List ℕ} {end : ℕ} → OneLine b → end ≡ length (line_of input) → line ≡ take kept_room (b ++ take end input) → OneLine line
 grown-one {b} input {line} {end} one e k =
     let t : take end input ≡ line_of input = ap (λ (n : ℕ). take n input) e ∙ line-front input in
-    let l : line ≡ take keptRoom (b ++ line_of input) = k ∙ ap (λ (x : List ℕ). take keptRoom (b ++ x)) t in
-    subst OneLine (sym l) (one-take keptRoom (b ++ line_of input) (one-append b (line_of input) one (one_of input)))
+    let l : line ≡ take kept_room (b ++ line_of input) = k ∙ ap (λ (x : List ℕ). take kept_room (b ++ x)) t in
+    subst OneLine (sym l) (one-take kept_room (b ++ line_of input) (one-append b (line_of input) one (one_of input)))
 
 -- What is kept is read as the line is.
-pub kept-reads : (l : List ℕ) → readLine (take keptRoom l) ≡ readLine l
+pub kept-reads : (l : List ℕ) → read_line (take kept_room l) ≡ read_line l
 kept-reads l =
-    elim (dec_lt keptRoom (length l)) [
-      | yes h ↦ reads-long (take keptRoom l) (let e = length-take-le keptRoom l (omega arith) in omega arith) ∙ sym (reads-long l (omega arith))
-      | no h ↦ ap readLine (take_all keptRoom l (omega arith))
+    elim (dec_lt kept_room (length l)) [
+      | yes h ↦ reads-long (take kept_room l) (let e = length-take-le kept_room l (omega arith) in omega arith) ∙ sym (reads-long l (omega arith))
+      | no h ↦ ap read_line (take_all kept_room l (omega arith))
     ]
 
 module _ {m b : List ℕ} {lines : ℕ} {input out : List ℕ} where
   -- the line goes on
   pub fed-open : {kept : List ℕ} {count end : ℕ} → OneLine b → length (line_of input) ≡ length input → end ≡ length input
-      → take count kept ≡ take keptRoom (b ++ take end input)
+      → take count kept ≡ take kept_room (b ++ take end input)
       → BegunFed m b lines input out m out (record { state = record { lines = lines; kept = kept; count = count }; used = end; written = 0; stop = 0 })
-  unfolding keptLine afterLines listMemory
+  unfolding kept_line after_lines list_memory
   fed-open {kept} {count} {end} one same e k =
       let t : take end input ≡ input = take_all end input (omega arith) in
       let more = one-long input same in
       let f = behind-open b input more in
-      let l : take keptRoom (take count kept) ≡ take keptRoom (b ++ input) =
-      ap (take keptRoom) k ∙ take-take keptRoom keptRoom (b ++ take end input) (omega arith) ∙ ap (λ (x : List ℕ). take keptRoom (b ++ x)) t in
-      let none : linesBehind b (take end input) ≡ [] = ap (linesBehind b) t ∙ f.0 in
+      let l : take kept_room (take count kept) ≡ take kept_room (b ++ input) =
+      ap (take kept_room) k ∙ take-take kept_room kept_room (b ++ take end input) (omega arith) ∙ ap (λ (x : List ℕ). take kept_room (b ++ x)) t in
+      let none : lines_behind b (take end input) ≡ [] = ap (lines_behind b) t ∙ f.0 in
       record {
         inside = omega arith;
         memory = rw none;
         listed = rw none (appended-none out 0);
         counted = rw none (omega arith);
-        kept = ap line_of l ∙ one-take keptRoom (b ++ input) (one-append b input one more) ∙ sym (ap (take keptRoom) (ap (restBehind b) t ∙ f.1));
+        kept = ap line_of l ∙ one-take kept_room (b ++ input) (one-append b input one more) ∙ sym (ap (take kept_room) (ap (rest_behind b) t ∙ f.1));
         all-used = λ z. e;
         no_room = λ z. omega arith;
         stops = omega arith;
       }
 
   -- it ends and there is no room
-  pub fed-none : {kept : List ℕ} {count : ℕ} → OneLine b → take count kept ≡ b → length out < lineRoom
+  pub fed-none : {kept : List ℕ} {count : ℕ} → OneLine b → take count kept ≡ b → length out < line_room
       → BegunFed m b lines input out m out (record { state = record { lines = lines; kept = kept; count = count }; used = 0; written = 0; stop = 1 })
-  unfolding keptLine afterLines listMemory line_of
+  unfolding kept_line after_lines list_memory line_of
   fed-none one k room =
       let f = behind-open b [] refl in
       record {
@@ -118,7 +118,7 @@ module _ {m b : List ℕ} {lines : ℕ} {input out : List ℕ} where
         memory = rw f.0;
         listed = rw f.0 (appended-none out 0);
         counted = rw f.0 (omega arith);
-        kept = ap (λ (x : List ℕ). line_of (take keptRoom x)) k ∙ one-take keptRoom b one ∙ ap (take keptRoom) (sym (append-nil b) ∙ sym f.1);
+        kept = ap (λ (x : List ℕ). line_of (take kept_room x)) k ∙ one-take kept_room b one ∙ ap (take kept_room) (sym (append-nil b) ∙ sym f.1);
         all-used = λ z. omega arith;
         no_room = λ z. omega arith;
         stops = omega arith;
@@ -126,29 +126,29 @@ module _ {m b : List ℕ} {lines : ℕ} {input out : List ℕ} where
 
   -- it ends and is played, and the lines behind it are
   pub fed-ended : {good : Bool} {digits : List ℕ} {len : ℕ} → LinesFeedable m good input 0 out 0 digits len lines → length (line_of input) < length input
-      → {text m₁ out₁ digits₁ : List ℕ} {p : Played·rt} → {end : ℕ} → text ≡ take keptRoom (b ++ take end input) → TextPlayed m text out digits len m₁ out₁ digits₁ p
+      → {text m₁ out₁ digits₁ : List ℕ} {p : Played·rt} → {end : ℕ} → text ≡ take kept_room (b ++ take end input) → TextPlayed m text out digits len m₁ out₁ digits₁ p
       → {m₂ out₂ : List ℕ} {f : Fed·rt} → end ≡ length (line_of input) → length out₁ ≡ length out
       → LinesFed m₁ input (end + 1) out₁ p.at (lines + 1) m₂ out₂ f → BegunFed m b lines input out m₂ out₂ f
-  unfolding afterLines listMemory
+  unfolding after_lines list_memory
   fed-ended h ends {text} {m₁} {out₁} {p = p} {end} t q {f = f} e same g =
       let l = line_of input in
       let used = g.forward in
-      let r : readLine text ≡ readLine (b ++ l) = ap readLine t ∙ kept-reads (b ++ take end input) ∙ ap (λ (x : List ℕ). readLine (b ++ x)) (ap (λ (k : ℕ). take k input) e ∙ line-front input) in
+      let r : read_line text ≡ read_line (b ++ l) = ap read_line t ∙ kept-reads (b ++ take end input) ∙ ap (λ (x : List ℕ). read_line (b ++ x)) (ap (λ (k : ℕ). take k input) e ∙ line-front input) in
       let w = behind-ended b input f.used ends (omega arith) in
       let ls = whole (part input (length l + 1) f.used) in
       let s : part input (end + 1) f.used ≡ part input (length l + 1) f.used = ap (λ (k : ℕ). part input (k + 1) f.used) e in
-      let first : m₁ ≡ (stepMemory m (readLine (b ++ l))).memory = q.memory ∙ ap (λ (o : Operation). (stepMemory m o).memory) r in
+      let first : m₁ ≡ (step_memory m (read_line (b ++ l))).memory = q.memory ∙ ap (λ (o : Operation). (step_memory m o).memory) r in
       record {
         inside = g.inside;
-        memory = g.memory ∙ ap (λ (x : List ℕ). afterLines m₁ (whole x)) s ∙ ap (λ (x : List ℕ). afterLines x ls) first ∙ sym (ap (afterLines m) w.lines);
+        memory = g.memory ∙ ap (λ (x : List ℕ). after_lines m₁ (whole x)) s ∙ ap (λ (x : List ℕ). after_lines x ls) first ∙ sym (ap (after_lines m) w.lines);
         listed = appended-as (appended_then (q.listed lines h.counts) g.listed)
-            (ap (λ (o : Operation). reportLine (lines + 1) (stepMemory m o).report ++ listMemory (lines + 1 + 1) m₁ (whole (part input (end + 1) f.used))) r
-            ∙ ap (λ (x : List ℕ). reportLine (lines + 1) (stepMemory m (readLine (b ++ l))).report ++ listMemory (lines + 1 + 1) m₁ (whole x)) s
-            ∙ ap (λ (x : List ℕ). reportLine (lines + 1) (stepMemory m (readLine (b ++ l))).report ++ listMemory (lines + 1 + 1) x ls) first
-            ∙ ap (λ (k : ℕ). reportLine (lines + 1) (stepMemory m (readLine (b ++ l))).report ++ listMemory k (stepMemory m (readLine (b ++ l))).memory ls) (omega arith)
-            ∙ sym (ap (listMemory (lines + 1) m) w.lines));
+            (ap (λ (o : Operation). report_line (lines + 1) (step_memory m o).report ++ list_memory (lines + 1 + 1) m₁ (whole (part input (end + 1) f.used))) r
+            ∙ ap (λ (x : List ℕ). report_line (lines + 1) (step_memory m (read_line (b ++ l))).report ++ list_memory (lines + 1 + 1) m₁ (whole x)) s
+            ∙ ap (λ (x : List ℕ). report_line (lines + 1) (step_memory m (read_line (b ++ l))).report ++ list_memory (lines + 1 + 1) x ls) first
+            ∙ ap (λ (k : ℕ). report_line (lines + 1) (step_memory m (read_line (b ++ l))).report ++ list_memory k (step_memory m (read_line (b ++ l))).memory ls) (omega arith)
+            ∙ sym (ap (list_memory (lines + 1) m) w.lines));
         counted = let c = g.counted in let a = ap (λ (x : List ℕ). length (whole x)) s in let b = ap length w.lines in omega arith;
-        kept = g.kept ∙ ap (λ (x : List ℕ). take keptRoom (begun x)) s ∙ sym (ap (take keptRoom) w.rest);
+        kept = g.kept ∙ ap (λ (x : List ℕ). take kept_room (begun x)) s ∙ sym (ap (take kept_room) w.rest);
         all-used = g.all-used;
         no_room = λ z. let n = g.no_room z in omega arith;
         stops = g.stops;
@@ -162,7 +162,7 @@ pub lines-behind : {m : List ℕ} {good : Bool} {input out digits : List ℕ} {l
     → LinesFeedable m₁ good input (end + 1) out₁ p.at digits₁ p.len (lines + 1)
 lines-behind {m} {lines = lines} h {text} q ends same =
     record {
-      known = ap isMemory q.memory ∙ known-stays m (readLine text) ∙ h.known;
+      known = ap is_memory q.memory ∙ known-stays m (read_line text) ∙ h.known;
       inside = omega arith;
       within = let a = q.within in omega arith;
       counts = q.counted lines h.counts;

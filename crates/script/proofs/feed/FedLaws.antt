@@ -9,15 +9,15 @@ use lib.Dec.{ltb}
 use lib.ListN.{length, take}
 use borrow.Author.Tests.{lt-ltb}
 use Rattle.rules.specs.Lists.{is_empty}
-use Rattle.rules.specs.MemoryTest.{isMemory}
+use Rattle.rules.specs.MemoryTest.{is_memory}
 use Rattle.rules.specs.Script.{newline}
 use Rattle.rules.specs.Text.{decimal, split}
-use Rattle.script.specs.Feeding.{whole, begun, linesBehind, restBehind, joinFirst, allButLast, lastPart, afterLines, listMemory}
-use Rattle.script.specs.Feed.{keptRoom, keptLine, lastNumber, LinesFeedable, LinesFed, BegunFed, FedTo}
+use Rattle.script.specs.Feeding.{whole, begun, lines_behind, rest_behind, join_first, all_but_last, last_part, after_lines, list_memory}
+use Rattle.script.specs.Feed.{kept_room, kept_line, last_number, LinesFeedable, LinesFed, BegunFed, FedTo}
 use Rattle.script.specs.Play.{part}
-use Rattle.script.specs.Portions.{lastNewline}
+use Rattle.script.specs.Portions.{last_newline}
 use Rattle.script.specs.Read.{OneLine, line_of}
-use Rattle.script.specs.Written.{Appended, Counts, lineRoom, places}
+use Rattle.script.specs.Written.{Appended, Counts, line_room, places}
 use Rattle.script.specs.declared.feed.Fed.{Fed as Fed·rt}
 use Rattle.script.specs.declared.feed.State.{State as State·rt}
 use Rattle.script.proofs.write.AppendedLaws.{appended-as, appended-within}
@@ -28,36 +28,36 @@ use Rattle.script.proofs.OneLineLaws.{one_of}
 use Rattle.script.proofs.PortionLaws.{split-some}
 
 -- where no line has begun the portion's lines are its own
-join-none : (ps : List (List ℕ)) → 1 ≤ length ps → joinFirst [] ps ≡ ps
-unfolding joinFirst
+join-none : (ps : List (List ℕ)) → 1 ≤ length ps → join_first [] ps ≡ ps
+unfolding join_first
 join-none [] some = absurd (omega arith)
 join-none (p ∷ ps) some = refl
 
-pub lines_none : (u : List ℕ) → (linesBehind [] u ≡ whole u) × (restBehind [] u ≡ begun u)
-unfolding linesBehind restBehind whole begun
+pub lines_none : (u : List ℕ) → (lines_behind [] u ≡ whole u) × (rest_behind [] u ≡ begun u)
+unfolding lines_behind rest_behind whole begun
 lines_none u =
     let e = join-none (split newline u) (split-some newline u) in
-    (ap allButLast e, ap lastPart e)
+    (ap all_but_last e, ap last_part e)
 
 pub fed-first : {m : List ℕ} {lines : ℕ} {input out m' out' : List ℕ} {f : Fed·rt} → LinesFed m input 0 out 0 lines m' out' f → BegunFed m [] lines input out m' out' f
 fed-first {m} {lines} {input} {f = f} g =
     let u = take f.used input in
     let e = lines_none u in
-    let w : whole (part input 0 f.used) ≡ linesBehind [] u = ap whole (part-front input f.used) ∙ sym e.0 in
+    let w : whole (part input 0 f.used) ≡ lines_behind [] u = ap whole (part-front input f.used) ∙ sym e.0 in
     record {
       inside = g.inside;
-      memory = g.memory ∙ ap (afterLines m) w;
-      listed = appended-as g.listed (ap (listMemory (lines + 1) m) w);
+      memory = g.memory ∙ ap (after_lines m) w;
+      listed = appended-as g.listed (ap (list_memory (lines + 1) m) w);
       counted = g.counted ∙ ap (λ (ls : List (List ℕ)). lines + length ls) w;
-      kept = g.kept ∙ ap (take keptRoom) (ap begun (part-front input f.used) ∙ sym e.1);
+      kept = g.kept ∙ ap (take kept_room) (ap begun (part-front input f.used) ∙ sym e.1);
       all-used = g.all-used;
       no_room = g.no_room;
       stops = g.stops;
     }
 
 -- where the count is 0 nothing is kept
-pub kept-empty : (st : State·rt) → st.count ≡ 0 → [] ≡ keptLine st
-unfolding keptLine line_of
+pub kept-empty : (st : State·rt) → st.count ≡ 0 → [] ≡ kept_line st
+unfolding kept_line line_of
 kept-empty st e = rw e
 
 -- where as many bytes are a line, it has begun exactly where the count is above 0
@@ -81,14 +81,14 @@ counts-written {n = n} a whole few =
     let e = a.end in
     record { whole = a.same_length ∙ whole; within = omega arith; text = a.written }
 
-pub fed-feedable : {m : List ℕ} {good : Bool} {input out digits : List ℕ} {len lines : ℕ} → good ≡ isMemory m → Counts digits len lines
-    → lines + length input < lastNumber → LinesFeedable m good input 0 out 0 digits len lines
+pub fed-feedable : {m : List ℕ} {good : Bool} {input out digits : List ℕ} {len lines : ℕ} → good ≡ is_memory m → Counts digits len lines
+    → lines + length input < last_number → LinesFeedable m good input 0 out 0 digits len lines
 fed-feedable known counts few =
     record { known = sym known; inside = omega arith; within = omega arith; counts = counts; few = omega arith }
 
 -- there are enough line numbers
-pub fed-enough : {m : List ℕ} {st : State·rt} {input out m' out' : List ℕ} {f : Fed·rt} {b : List ℕ} → st.lines + length input < lastNumber
-    → b ≡ keptLine st → BegunFed m b st.lines input out m' out' f → FedTo m st input out m' out' f
+pub fed-enough : {m : List ℕ} {st : State·rt} {input out m' out' : List ℕ} {f : Fed·rt} {b : List ℕ} → st.lines + length input < last_number
+    → b ≡ kept_line st → BegunFed m b st.lines input out m' out' f → FedTo m st input out m' out' f
 fed-enough {m} {st} {input} {out} {m'} {out'} {f} few e g =
     record {
       enough = λ h. subst (λ (b : List ℕ). BegunFed m b st.lines input out m' out' f) e g;
@@ -98,9 +98,9 @@ fed-enough {m} {st} {input} {out} {m'} {out'} {f} few e g =
 -- What any caller of `feed` needs to go on: where it did not run out of line numbers there were enough, what was used and written lies inside,
 -- and where the output has room for a line something is used.
 module _ {m : List ℕ} {st : State·rt} {input out m' out' : List ℕ} {f : Fed·rt} (g : FedTo m st input out m' out' f) (stop : f.stop ≡ 2 → ⊥) where
-  pub fed-numbers : st.lines + length input < lastNumber
+  pub fed-numbers : st.lines + length input < last_number
   fed-numbers =
-      elim (dec_lt (st.lines + length input) lastNumber) [
+      elim (dec_lt (st.lines + length input) last_number) [
         | yes h ↦ h
         | no h ↦ absurd (stop (ap (λ (x : Fed·rt). x.stop) (g.last-number (omega arith)).1.1))
       ]
@@ -111,18 +111,18 @@ module _ {m : List ℕ} {st : State·rt} {input out m' out' : List ℕ} {f : Fed
   pub fed-within : f.written ≤ length out
   fed-within = appended-within (g.enough fed-numbers).listed (omega arith)
 
-  pub fed-forward : 1 ≤ length input → lineRoom ≤ length out → 1 ≤ f.used
-  unfolding listMemory line_of
+  pub fed-forward : 1 ≤ length input → line_room ≤ length out → 1 ≤ f.used
+  unfolding list_memory line_of
   fed-forward some room =
       elim (dec_lt 0 f.used) [
         | yes h ↦ omega arith
         | no h ↦
             let b = g.enough fed-numbers in
             let z : f.used ≡ 0 = omega arith in
-            let none : linesBehind (keptLine st) (take f.used input) ≡ [] =
-            ap (λ (k : ℕ). linesBehind (keptLine st) (take k input)) z ∙ (behind-open (keptLine st) [] refl).0 in
-            let l : length (listMemory (st.lines + 1) m (linesBehind (keptLine st) (take f.used input))) ≡ 0 =
-            ap (λ (ls : List (List ℕ)). length (listMemory (st.lines + 1) m ls)) none in
+            let none : lines_behind (kept_line st) (take f.used input) ≡ [] =
+            ap (λ (k : ℕ). lines_behind (kept_line st) (take k input)) z ∙ (behind-open (kept_line st) [] refl).0 in
+            let l : length (list_memory (st.lines + 1) m (lines_behind (kept_line st) (take f.used input))) ≡ 0 =
+            ap (λ (ls : List (List ℕ)). length (list_memory (st.lines + 1) m ls)) none in
             let w = b.listed.end in
             absurd
             (elim (dec_lt f.stop 1) [
@@ -134,10 +134,10 @@ module _ {m : List ℕ} {st : State·rt} {input out m' out' : List ℕ} {f : Fed
 -- At the script's end a line that has begun gets its newline, and where none has nothing is fed.
 
 module _ {m : List ℕ} {st : State·rt} {out m' out' : List ℕ} {f : Fed·rt} where
-  pub feeds-newline : is_empty (keptLine st) ≡ false → FedTo m st (newline ∷ []) out m' out' f → FedTo m st (lastNewline st) out m' out' f
-  unfolding lastNewline
+  pub feeds-newline : is_empty (kept_line st) ≡ false → FedTo m st (newline ∷ []) out m' out' f → FedTo m st (last_newline st) out m' out' f
+  unfolding last_newline
   feeds-newline e g = rw e g
 
-  pub feeds-nothing : is_empty (keptLine st) ≡ true → FedTo m st [] out m' out' f → FedTo m st (lastNewline st) out m' out' f
-  unfolding lastNewline
+  pub feeds-nothing : is_empty (kept_line st) ≡ true → FedTo m st [] out m' out' f → FedTo m st (last_newline st) out m' out' f
+  unfolding last_newline
   feeds-nothing e g = rw e g

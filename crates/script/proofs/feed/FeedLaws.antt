@@ -9,15 +9,15 @@ use lib.ListN.{length, take, drop, get_or, length-drop, length-append}
 use lib.Seq.{drop_at, drop-cons, drop-drop, drop-length, get_or-drop, length-take-le, take-add, take_all, take-append-add, take-suc, take-take}
 use borrow.Author.Tests.{ne_eqb}
 use Rattle.rules.specs.Script.{newline}
-use Rattle.script.specs.Feeding.{whole, begun, afterLines, listMemory}
-use Rattle.script.specs.Feed.{keptRoom, keptLine, Cut, LinesFeedable, LinesFed}
+use Rattle.script.specs.Feeding.{whole, begun, after_lines, list_memory}
+use Rattle.script.specs.Feed.{kept_room, kept_line, Cut, LinesFeedable, LinesFed}
 use Rattle.script.specs.Play.{part, Playable, PlayedTo}
-use Rattle.script.specs.Read.{lineEnd, line_of}
+use Rattle.script.specs.Read.{line_end, line_of}
 use Rattle.script.specs.Written.{Appended}
 use Rattle.script.specs.declared.play.Played.{Played as Played·rt}
 use Rattle.script.proofs.write.AppendedLaws.{appended-as}
 use Rattle.script.proofs.read.LineEndLaws.{by-test, end-inside}
-use Rattle.script.proofs.PortionLaws.{whole-newline, whole-other, whole-nil, begun-nil, joinLines, joinRest, joins, begun_all}
+use Rattle.script.proofs.PortionLaws.{whole-newline, whole-other, whole-nil, begun-nil, join_lines, join_rest, joins, begun_all}
 use Rattle.script.proofs.play.CutLaws.{part_none}
 use Rattle.script.proofs.OneLineLaws.{end-first, line-front, one-begun, one-take}
 
@@ -31,26 +31,26 @@ kept-some xs ys k h =
     let e : length xs + (k - length xs) ≡ k = omega arith in
     ap (λ (n : ℕ). take n (xs ++ ys)) (sym e) ∙ take-append-add xs ys (k - length xs)
 
-pub appended-some : {kept kept' t : List ℕ} (text : List ℕ) {count end : ℕ} → Appended kept count kept' end t → t ≡ take (keptRoom - count) text
-    → keptRoom ≤ length kept → count ≤ keptRoom → keptRoom - count ≤ length text
-    → (take end kept' ≡ take keptRoom (take count kept ++ text)) × (end ≤ keptRoom)
+pub appended-some : {kept kept' t : List ℕ} (text : List ℕ) {count end : ℕ} → Appended kept count kept' end t → t ≡ take (kept_room - count) text
+    → kept_room ≤ length kept → count ≤ kept_room → kept_room - count ≤ length text
+    → (take end kept' ≡ take kept_room (take count kept ++ text)) × (end ≤ kept_room)
 appended-some {kept} text {count} a front whole few long =
     let l : length (take count kept) ≡ count = length-take-le count kept (omega arith) in
-    let r = ap length front ∙ length-take-le (keptRoom - count) text long in
+    let r = ap length front ∙ length-take-le (kept_room - count) text long in
     let e = a.end in
-    (a.written ∙ ap (λ (y : List ℕ). take count kept ++ y) front ∙ ap (λ (n : ℕ). take count kept ++ take (keptRoom - n) text) (sym l) ∙ sym (kept-some (take count kept) text keptRoom (omega arith)), omega arith)
+    (a.written ∙ ap (λ (y : List ℕ). take count kept ++ y) front ∙ ap (λ (n : ℕ). take count kept ++ take (kept_room - n) text) (sym l) ∙ sym (kept-some (take count kept) text kept_room (omega arith)), omega arith)
 
 pub appended-all : {kept kept' text : List ℕ} {count end : ℕ} → Appended kept count kept' end text
-    → keptRoom ≤ length kept → count ≤ keptRoom → length text ≤ keptRoom - count
-    → (take end kept' ≡ take keptRoom (take count kept ++ text)) × (end ≤ keptRoom)
+    → kept_room ≤ length kept → count ≤ kept_room → length text ≤ kept_room - count
+    → (take end kept' ≡ take kept_room (take count kept ++ text)) × (end ≤ kept_room)
 appended-all {kept} {text = text} {count = count} a whole few short =
     let l : length (take count kept) ≡ count = length-take-le count kept (omega arith) in
     let e = a.end in
-    (a.written ∙ sym (kept-all (take count kept) text keptRoom (omega arith)), omega arith)
+    (a.written ∙ sym (kept-all (take count kept) text kept_room (omega arith)), omega arith)
 
 -- What a state keeps: its bytes up to a newline.
-pub kept-counted : (kept : List ℕ) (count n : ℕ) {r : ℕ} → keptRoom ≤ length kept → take n kept ≡ take keptRoom (take count kept) → n ≤ keptRoom
-    → r ≡ lineEnd (take n kept) 0 → (r ≤ keptRoom) × (take r kept ≡ line_of (take keptRoom (take count kept)))
+pub kept-counted : (kept : List ℕ) (count n : ℕ) {r : ℕ} → kept_room ≤ length kept → take n kept ≡ take kept_room (take count kept) → n ≤ kept_room
+    → r ≡ line_end (take n kept) 0 → (r ≤ kept_room) × (take r kept ≡ line_of (take kept_room (take count kept)))
 kept-counted kept count n {r} room same few e =
     let t = take n kept in
     let l = length-take-le n kept (omega arith) in
@@ -72,7 +72,7 @@ behind-other s i some inside none other =
     let e : suc (i - 1) ≡ i = omega arith in
     let x = get_or s (i - 1) 0 in
     ap whole (drop-cons s (i - 1) 0 (omega arith) ∙ ap (λ (k : ℕ). x ∷ drop k s) e)
-    ∙ (whole-other x (drop i s) (ne_eqb x 10 other)).0 ∙ ap (joinLines x) none
+    ∙ (whole-other x (drop i s) (ne_eqb x 10 other)).0 ∙ ap (join_lines x) none
 
 -- behind a newline nothing has begun
 pub record Ended (c : List ℕ) : Type 0 where
@@ -95,8 +95,8 @@ ended-line (x ∷ c) = by-test (eqb x newline) (behind (ended-line c)) (joined (
     joined (l ∷ ls) w r q =
         let f = whole-other x (c ++ (newline ∷ [])) q in
         record {
-          some = let e = ap length (f.0 ∙ ap (joinLines x) w) in omega arith;
-          none = f.1 ∙ ap (λ (ks : List (List ℕ)). joinRest x ks (begun (c ++ (newline ∷ [])))) w ∙ r.none;
+          some = let e = ap length (f.0 ∙ ap (join_lines x) w) in omega arith;
+          none = f.1 ∙ ap (λ (ks : List (List ℕ)). join_rest x ks (begun (c ++ (newline ∷ [])))) w ∙ r.none;
         }
 
 pub cut-newline : (s : List ℕ) (from i : ℕ) → from < i → i ≤ length s → whole (drop i s) ≡ [] → get_or s (i - 1) 0 ≡ 10 → Cut s from i
@@ -189,24 +189,24 @@ module _ {m : List ℕ} {good : Bool} {s : List ℕ} {start : ℕ} {out : List �
     -- it stopped for want of room: nothing has begun
     pub lines-stopped : (p.stop ≡ 0 → ⊥) → (kept : List ℕ)
         → LinesFed m s start out at lines m' out' (record { state = record { lines = lines + p.lines; kept = kept; count = 0 }; used = p.used; written = p.at; stop = p.stop })
-    unfolding keptLine line_of
+    unfolding kept_line line_of
     lines-stopped stopped kept =
         record {
           forward = q.forward;
           inside = let u = used-inside in let i = c.inside in omega arith;
-          memory = q.memory ∙ ap (λ (t : List ℕ). afterLines m (whole t)) same-part;
-          listed = appended-as (q.listed lines h.counts) (ap (λ (t : List ℕ). listMemory (lines + 1) m (whole t)) same-part);
+          memory = q.memory ∙ ap (λ (t : List ℕ). after_lines m (whole t)) same-part;
+          listed = appended-as (q.listed lines h.counts) (ap (λ (t : List ℕ). list_memory (lines + 1) m (whole t)) same-part);
           counted = ap (λ (k : ℕ). lines + k) (q.lines ∙ ap (λ (t : List ℕ). length (whole t)) same-part);
-          kept = sym (ap (take keptRoom) (ap begun (sym same-part) ∙ q.cut));
+          kept = sym (ap (take kept_room) (ap begun (sym same-part) ∙ q.cut));
           all-used = λ e. absurd (stopped e);
           no_room = q.no_room;
           stops = q.stops;
         }
 
     -- all was used
-    pub lines-used : p.stop ≡ 0 → {kept : List ℕ} {count : ℕ} → take count kept ≡ take keptRoom (drop to s)
+    pub lines-used : p.stop ≡ 0 → {kept : List ℕ} {count : ℕ} → take count kept ≡ take kept_room (drop to s)
         → LinesFed m s start out at lines m' out' (record { state = record { lines = lines + p.lines; kept = kept; count = count }; used = length s; written = p.at; stop = 0 })
-    unfolding keptLine
+    unfolding kept_line
     lines-used all k =
         let e : p.used ≡ to = q.all-used all ∙ length-take-le to s c.inside in
         let l = cut-lines s start to c in
@@ -215,11 +215,11 @@ module _ {m : List ℕ} {good : Bool} {s : List ℕ} {start : ℕ} {out : List �
         record {
           forward = h.inside;
           inside = omega arith;
-          memory = q.memory ∙ ap (afterLines m) w;
-          listed = appended-as (q.listed lines h.counts) (ap (listMemory (lines + 1) m) w);
+          memory = q.memory ∙ ap (after_lines m) w;
+          listed = appended-as (q.listed lines h.counts) (ap (list_memory (lines + 1) m) w);
           counted = ap (λ (n : ℕ). lines + n) (q.lines ∙ ap length w);
-          kept = ap (λ (t : List ℕ). line_of (take keptRoom t)) k ∙ ap line_of (take-take keptRoom keptRoom (drop to s) (omega arith))
-              ∙ one-take keptRoom (drop to s) (one-begun (drop to s) c.rest) ∙ sym (ap (take keptRoom) l.rest);
+          kept = ap (λ (t : List ℕ). line_of (take kept_room t)) k ∙ ap line_of (take-take kept_room kept_room (drop to s) (omega arith))
+              ∙ one-take kept_room (drop to s) (one-begun (drop to s) c.rest) ∙ sym (ap (take kept_room) l.rest);
           all-used = λ e. refl;
           no_room = λ e. omega arith;
           stops = omega arith;

@@ -1,6 +1,6 @@
 -- `script::line` meets its contract: the words that are read are those of the operation. Assumes nothing.
 use mathlib.Core.Path.{◌∙◌, ap}
-use Rattle.rules.specs.Types.{operationOf}
+use Rattle.rules.specs.Types.{operation_of}
 use borrow.Author.Rules.{rules}
 use Rattle.script.proofs.play.PlayLaws.{as_read}
 use Rattle.script.proofs.line.Statement.{statement}
@@ -25,7 +25,7 @@ same_length : tie.Need-same-length
 same_length c = search rules
 
 returns : tie.Need-returns
-returns c = as_read _ (ap (operationOf c.before.before.before.before.before.before.before.read.result.op) c.before.before.before.words_of.ensures ∙ c.before.before.before.before.before.before.before.read.ensures.operation) c.before.before.step.ensures
+returns c = as_read _ (ap (operation_of c.before.before.before.before.before.before.before.read.result.op) c.before.before.before.words_of.ensures ∙ c.before.before.before.before.before.before.before.read.ensures.operation) c.before.before.step.ensures
 
 pub line-spec : {M : Type 1} → statement M
 line-spec =

@@ -13,7 +13,7 @@ use Rattle.script.specs.Play.{part}
 use Rattle.script.specs.Feeding.{begun, whole}
 use Rattle.script.specs.Read.{line_of}
 use Rattle.script.proofs.OneLineLaws.{line-newline, line_other}
-use Rattle.script.proofs.PortionLaws.{joinLines, joinRest, joins, whole-newline, whole-nil, whole-other, begun-nil}
+use Rattle.script.proofs.PortionLaws.{join_lines, join_rest, joins, whole-newline, whole-nil, whole-other, begun-nil}
 
 -- l is the first line of t, and whole lines follow it
 pub record First (t l : List ℕ) : Type 0 where
@@ -24,13 +24,13 @@ begun-tail : (x : ℕ) (xs : List ℕ) → eqb x newline ≡ false → begun (x 
 begun-tail x xs q e = go (whole xs) refl
   where
     go : (ls : List (List ℕ)) → whole xs ≡ ls → begun xs ≡ []
-    go [] w = absurd (let f = sym ((whole-other x xs q).1 ∙ ap (λ (ks : List (List ℕ)). joinRest x ks (begun xs)) w) ∙ e in let z : ◌≡◌ {A = ℕ} 0 1 = cc in omega arith)
-    go (l ∷ ls) w = sym ((whole-other x xs q).1 ∙ ap (λ (ks : List (List ℕ)). joinRest x ks (begun xs)) w) ∙ e
+    go [] w = absurd (let f = sym ((whole-other x xs q).1 ∙ ap (λ (ks : List (List ℕ)). join_rest x ks (begun xs)) w) ∙ e in let z : ◌≡◌ {A = ℕ} 0 1 = cc in omega arith)
+    go (l ∷ ls) w = sym ((whole-other x xs q).1 ∙ ap (λ (ks : List (List ℕ)). join_rest x ks (begun xs)) w) ∙ e
 
 -- a byte alone that is no newline has begun a line
 begun-alone : (x : ℕ) → eqb x newline ≡ false → begun (x ∷ []) ≡ [] → ⊥
 begun-alone x q e =
-    let f : x ∷ begun [] ≡ [] = sym ((whole-other x [] q).1 ∙ ap (λ (ks : List (List ℕ)). joinRest x ks (begun [])) whole-nil) ∙ e in
+    let f : x ∷ begun [] ≡ [] = sym ((whole-other x [] q).1 ∙ ap (λ (ks : List (List ℕ)). join_rest x ks (begun [])) whole-nil) ∙ e in
     let z : ◌≡◌ {A = ℕ} 0 1 = cc in omega arith
 
 -- a text of whole lines begins with a line and its newline
@@ -69,9 +69,9 @@ line-nil : line_of [] ≡ []
 unfolding line_of
 line-nil = refl
 
-pub one_line : (t : List ℕ) → OneLine (line_of t)
-one_line [] = subst OneLine (sym line-nil) empty-line
-one_line (x ∷ xs) = go (eqb x newline) refl (one_line xs)
+pub one-line : (t : List ℕ) → OneLine (line_of t)
+one-line [] = subst OneLine (sym line-nil) empty-line
+one-line (x ∷ xs) = go (eqb x newline) refl (one-line xs)
   where
     go : (t : Bool) → eqb x newline ≡ t → OneLine (line_of xs) → OneLine (line_of (x ∷ xs))
     go true q r = subst OneLine (sym (line-newline x xs q)) empty-line
@@ -79,16 +79,16 @@ one_line (x ∷ xs) = go (eqb x newline) refl (one_line xs)
         let f = whole-other x (line_of xs ++ (newline ∷ [])) q in
         subst OneLine (sym (line_other x xs q))
         (record {
-          lines = f.0 ∙ ap (joinLines x) r.lines;
-          rest = f.1 ∙ ap (λ (ls : List (List ℕ)). joinRest x ls (begun (line_of xs ++ (newline ∷ [])))) r.lines ∙ r.rest;
+          lines = f.0 ∙ ap (join_lines x) r.lines;
+          rest = f.1 ∙ ap (λ (ls : List (List ℕ)). join_rest x ls (begun (line_of xs ++ (newline ∷ [])))) r.lines ∙ r.rest;
         })
 
 -- whole lines, and one more behind them
-pub one_more : (c t : List ℕ) → begun c ≡ []
+pub one-more : (c t : List ℕ) → begun c ≡ []
     → (whole (c ++ (line_of t ++ (newline ∷ []))) ≡ whole c ++ (line_of t ∷ [])) × (begun (c ++ (line_of t ++ (newline ∷ []))) ≡ [])
-one_more c t none =
+one-more c t none =
     let j = joins c (line_of t ++ (newline ∷ [])) in
-    let o = one_line t in
+    let o = one-line t in
     (j.lines ∙ rw (none, o.lines), j.rest ∙ rw (none, o.rest))
 
 -- The part of a text between two positions grows by a line.

@@ -10,9 +10,9 @@ use mathlib.Core.Option.{Option, none, some}
 use lib.Dec.{eqb, leb, ltb}
 use lib.ListN.{length, take, drop, set, get_or, length-set}
 use lib.Seq.{take-suc-set, drop-drop}
-use Rattle.rules.specs.Text.{isDigit}
-use Rattle.rules.specs.Script.{lineLimit, is_number, number, andNumber}
-use Rattle.script.specs.Read.{line_of, lineEnd, digitsOf, numbersBehind, restOfLine, fieldsEnded, NumberRead, FieldsRead}
+use Rattle.rules.specs.Text.{is_digit}
+use Rattle.rules.specs.Script.{line_limit, is_number, number, and_number}
+use Rattle.script.specs.Read.{line_of, line_end, digits_of, numbers_behind, rest_of_line, fields_ended, NumberRead, FieldsRead}
 use Rattle.script.specs.declared.read.Digits.{Digits as Digits·rt}
 use Rattle.script.specs.declared.read.Fields.{Fields as Fields·rt}
 use Rattle.script.proofs.read.LineEndLaws.{by-test, line-newline, line-more, end_empty, end_more}
@@ -20,24 +20,24 @@ use Rattle.script.proofs.read.NumberLaws.{digit-range, digits-all}
 use Rattle.script.proofs.read.SplitLaws.{behind-comma}
 
 -- the digits that a text begins with stand in its line
-line-digits : (l : List ℕ) → line_of l ≡ digitsOf l ++ line_of (drop (length (digitsOf l)) l)
-unfolding line_of digitsOf
+line-digits : (l : List ℕ) → line_of l ≡ digits_of l ++ line_of (drop (length (digits_of l)) l)
+unfolding line_of digits_of
 line-digits [] = refl
 line-digits (x ∷ xs) =
     by-test
-    (isDigit x)
-    (λ e. let range = digit-range x e in rw (digitsOf, e, line_of, ne_eqb x 10 (λ q. omega arith)) (ap (λ (r : List ℕ). x ∷ r) (line-digits xs)))
-    (λ e. rw (digitsOf, e))
+    (is_digit x)
+    (λ e. let range = digit-range x e in rw (digits_of, e, line_of, ne_eqb x 10 (λ q. omega arith)) (ap (λ (r : List ℕ). x ∷ r) (line-digits xs)))
+    (λ e. rw (digits_of, e))
 
 -- and no digit behind them
-line_after : (l : List ℕ) → digitsOf (line_of (drop (length (digitsOf l)) l)) ≡ []
-unfolding line_of digitsOf
+line_after : (l : List ℕ) → digits_of (line_of (drop (length (digits_of l)) l)) ≡ []
+unfolding line_of digits_of
 line_after [] = refl
 line_after (x ∷ xs) =
     by-test
-    (isDigit x)
-    (λ e. rw (digitsOf, e) (line_after xs))
-    (λ e. by-test (eqb x 10) (λ t. rw (digitsOf, e, line_of, t)) (λ t. rw (digitsOf, e, line_of, t, digitsOf, e)))
+    (is_digit x)
+    (λ e. rw (digits_of, e) (line_after xs))
+    (λ e. by-test (eqb x 10) (λ t. rw (digits_of, e, line_of, t)) (λ t. rw (digits_of, e, line_of, t, digits_of, e)))
 
 -- numbers in front of those read behind them
 unfoldable pub following : List ℕ → Option (List ℕ) → Option (List ℕ)
@@ -45,16 +45,16 @@ following ns none = none
 following ns (some ms) = some (ns ++ ms)
 
 -- a number joins those in front
-following-more : (ns : List ℕ) (n : ℕ) (o : Option (List ℕ)) → following ns (andNumber (some n) o) ≡ following (ns ++ (n ∷ [])) o
-unfolding following andNumber
+following-more : (ns : List ℕ) (n : ℕ) (o : Option (List ℕ)) → following ns (and_number (some n) o) ≡ following (ns ++ (n ∷ [])) o
+unfolding following and_number
 following-more ns n none = refl
 following-more ns n (some ms) = rw append_assoc
 
 -- what is told where the fields cannot be read
 pub fields-unread :
     {s : List ℕ} {at : ℕ} {fields : List ℕ} {count i : ℕ}
-    → restOfLine (line_of (drop at s)) ≡ none → i ≤ length s → lineEnd s i ≡ lineEnd s at → count ≤ 64
-    → {f : Fields·rt} → f ≡ fieldsEnded false 0 count i → FieldsRead s at fields f
+    → rest_of_line (line_of (drop at s)) ≡ none → i ≤ length s → line_end s i ≡ line_end s at → count ≤ 64
+    → {f : Fields·rt} → f ≡ fields_ended false 0 count i → FieldsRead s at fields f
 fields-unread bad inside same counted e =
     rw e
     record {
@@ -71,8 +71,8 @@ pub record Fielding (s : List ℕ) (at count : ℕ) (fields : List ℕ) (i : ℕ
   pub room : at + 2 * count ≤ i
   pub counted : count ≤ 64
   pub fields-room : 64 ≤ length fields
-  pub found : following (take count fields) (numbersBehind (line_of (drop i s))) ≡ numbersBehind (line_of (drop at s))
-  pub same_line : lineEnd s i ≡ lineEnd s at
+  pub found : following (take count fields) (numbers_behind (line_of (drop i s))) ≡ numbers_behind (line_of (drop at s))
+  pub same_line : line_end s i ≡ line_end s at
 
 -- in front of none nothing changes
 following-none : (o : Option (List ℕ)) → following [] o ≡ o
@@ -88,7 +88,7 @@ fielding-none s at fields h l =
       room = omega arith;
       counted = omega arith;
       fields-room = l;
-      found = following-none (numbersBehind (line_of (drop at s)));
+      found = following-none (numbers_behind (line_of (drop at s)));
       same_line = refl;
     }
 
@@ -99,13 +99,13 @@ module _ (s : List ℕ) (i : ℕ) (inside : i < length s) (comma : get_or s i 0 
 
   -- at a comma: the number behind it, and those behind that
   at-comma :
-      numbersBehind (line_of (drop i s))
-      ≡ andNumber (number (digitsOf (drop (i + 1) s))) (numbersBehind (line_of (drop (i + 1 + length (digitsOf (drop (i + 1) s))) s)))
+      numbers_behind (line_of (drop i s))
+      ≡ and_number (number (digits_of (drop (i + 1) s))) (numbers_behind (line_of (drop (i + 1 + length (digits_of (drop (i + 1) s))) s)))
   at-comma =
       let l = drop (i + 1) s in
-      let n = length (digitsOf l) in
+      let n = length (digits_of l) in
       rw (line-more s i inside no-newline, comma, line-digits l, ← drop-drop n (i + 1) s)
-      (behind-comma (digitsOf l) (line_of (drop n l)) (digits-all l) (line_after l))
+      (behind-comma (digits_of l) (line_of (drop n l)) (digits-all l) (line_after l))
 
 -- a number has digits
 number_digits : (ds : List ℕ) {v : ℕ} → number ds ≡ some v → 0 < length ds
@@ -122,29 +122,29 @@ cond_same true = refl
 cond_same false = refl
 
 -- a line of 128 bytes behind its letter is over its limit
-over-limit : (r : List ℕ) → 128 ≤ length r → restOfLine r ≡ none
-unfolding restOfLine
+over-limit : (r : List ℕ) → 128 ≤ length r → rest_of_line r ≡ none
+unfolding rest_of_line
 over-limit r h = rw (le-leb 128 (length r) h)
 
 -- where no number is read, none is of the line
-pub rest-none : (r : List ℕ) → numbersBehind r ≡ none → restOfLine r ≡ none
-unfolding restOfLine
+pub rest-none : (r : List ℕ) → numbers_behind r ≡ none → rest_of_line r ≡ none
+unfolding rest_of_line
 rest-none r e = rw e (cond_same (leb 128 (length r)))
 
 module _ {s : List ℕ} {at count : ℕ} {fields : List ℕ} {i : ℕ} (r : Fielding s at count fields i) where
   -- how long the line behind the letter is
   rest-length : at + length (line_of (drop at s)) ≡ i + length (line_of (drop i s))
-  unfolding lineEnd
+  unfolding line_end
   rest-length = sym r.same_line
 
   -- a field that is bad makes all bad
-  none-behind : numbersBehind (line_of (drop i s)) ≡ none → restOfLine (line_of (drop at s)) ≡ none
+  none-behind : numbers_behind (line_of (drop i s)) ≡ none → rest_of_line (line_of (drop at s)) ≡ none
   unfolding following
   none-behind e = rest-none (line_of (drop at s)) (sym (rw e at r.found))
 
   module _ (inside : i < length s) (comma : get_or s i 0 ≡ 44) where
     -- a comma that ends the line's room
-    pub fielding-long : at + 127 ≤ i → restOfLine (line_of (drop at s)) ≡ none
+    pub fielding-long : at + 127 ≤ i → rest_of_line (line_of (drop at s)) ≡ none
     fielding-long h =
         let q = ap length (line-more s i inside (no-newline s i inside comma)) in
         let l = rest-length in
@@ -152,18 +152,18 @@ module _ {s : List ℕ} {at count : ℕ} {fields : List ℕ} {i : ℕ} (r : Fiel
 
     module _ {d : Digits·rt} (n : NumberRead s (i + 1) d) where
       -- the line goes on behind the number
-      pub fielding-same : lineEnd s d.next ≡ lineEnd s at
+      pub fielding-same : line_end s d.next ≡ line_end s at
       fielding-same = n.same_line ∙ end_more s i inside (no-newline s i inside comma) ∙ r.same_line
 
       -- a bad number
-      pub fielding-bad : d.ok ≡ false → restOfLine (line_of (drop at s)) ≡ none
-      unfolding andNumber
+      pub fielding-bad : d.ok ≡ false → rest_of_line (line_of (drop at s)) ≡ none
+      unfolding and_number
       fielding-bad e = none-behind (at-comma s i inside comma ∙ rw (← n.found, e))
 
       -- a good one
       pub fielding-more : d.ok ≡ true → count < 64 → Fielding s at (count + 1) (set fields count d.value) d.next
       fielding-more e less =
-          let ds = digitsOf (drop (i + 1) s) in
+          let ds = digits_of (drop (i + 1) s) in
           let v : number ds ≡ some d.value = rw e at (sym n.found) in
           let some-digits = number_digits ds v in
           let behind = n.behind e in
@@ -181,26 +181,26 @@ module _ {s : List ℕ} {at count : ℕ} {fields : List ℕ} {i : ℕ} (r : Fiel
           }
 
   -- a byte that is neither comma nor newline
-  fielding-stop : i < length s → (get_or s i 0 ≡ 44 → ⊥) → (get_or s i 0 ≡ 10 → ⊥) → restOfLine (line_of (drop at s)) ≡ none
-  unfolding numbersBehind
-  fielding-stop inside comma newline = none-behind (rw (line-more s i inside newline, numbersBehind, ne_eqb (get_or s i 0) 44 comma))
+  fielding-stop : i < length s → (get_or s i 0 ≡ 44 → ⊥) → (get_or s i 0 ≡ 10 → ⊥) → rest_of_line (line_of (drop at s)) ≡ none
+  unfolding numbers_behind
+  fielding-stop inside comma newline = none-behind (rw (line-more s i inside newline, numbers_behind, ne_eqb (get_or s i 0) 44 comma))
 
   module _ (stop : line_of (drop i s) ≡ []) where
     -- at the end of the line all numbers are read, and count where it is not over its limit
-    fielding-found : restOfLine (line_of (drop at s)) ≡ cond (ltb (i - at) lineLimit) (some (take count fields)) none
-    unfolding restOfLine numbersBehind following
+    fielding-found : rest_of_line (line_of (drop at s)) ≡ cond (ltb (i - at) line_limit) (some (take count fields)) none
+    unfolding rest_of_line numbers_behind following
     fielding-found =
         let line = line_of (drop at s) in
         let q = ap length stop in
         let l = rest-length in
-        let all : numbersBehind line ≡ some (take count fields) = sym (rw (stop, append-nil) at r.found) in
+        let all : numbers_behind line ≡ some (take count fields) = sym (rw (stop, append-nil) at r.found) in
         by-test
         (leb 128 (length line))
         (λ t. let over = leb-true 128 (length line) t in rw (t, le-ltb (i - at) 128 (omega arith)))
         (λ t. let under = leb-false 128 (length line) t in rw (t, all, lt-ltb (i - at) 128 (omega arith)))
 
     -- that is what is told there
-    pub fields-ended : {f : Fields·rt} → f ≡ fieldsEnded true (i - at) count i → FieldsRead s at fields f
+    pub fields-ended : {f : Fields·rt} → f ≡ fields_ended true (i - at) count i → FieldsRead s at fields f
     fields-ended e =
         rw e
         record {
@@ -212,7 +212,7 @@ module _ {s : List ℕ} {at count : ℕ} {fields : List ℕ} {i : ℕ} (r : Fiel
         }
 
   -- at a byte that is no comma the fields end, and with them the line or not
-  pub fields-byte : i < length s → (get_or s i 0 ≡ 44 → ⊥) → {f : Fields·rt} → f ≡ fieldsEnded (eqb (get_or s i 0) 10) (i - at) count i → FieldsRead s at fields f
+  pub fields-byte : i < length s → (get_or s i 0 ≡ 44 → ⊥) → {f : Fields·rt} → f ≡ fields_ended (eqb (get_or s i 0) 10) (i - at) count i → FieldsRead s at fields f
   fields-byte inside comma e =
       by-test
       (eqb (get_or s i 0) 10)

@@ -9,9 +9,9 @@ use mathlib.Core.Option.{some}
 use lib.Dec.{eqb}
 use Rattle.rules.specs.Lists.{Every}
 use Rattle.rules.specs.Operation.{unknown}
-use Rattle.rules.specs.Script.{Letter, letters, lettered, groupAndWords, oneField, no_field, yesOrNo, forceField}
+use Rattle.rules.specs.Script.{Letter, letters, lettered, group_and_words, one_field, no_field, yes_or_no, force_field}
 use Rattle.rules.specs.Script as script
-use Rattle.rules.specs.Types.{operationOf}
+use Rattle.rules.specs.Types.{operation_of}
 use Rattle.rules.specs.declared.Operation.{Operation as Operation·rt}
 use Rattle.rules.specs.declared.Operation.TheVariants.{Arrive, Unknown}
 use Rattle.script.specs.Read.{Alone, BeginRead, Lettered, WithNumber}
@@ -49,45 +49,45 @@ pub record NotOne (c : ℕ) : Type 0 where
 module _ (c : ℕ) where
   -- any other without a field
   none-unknown : NotAlone c → lettered c letters [] ≡ unknown
-  unfolding letters groupAndWords oneField no_field forceField
+  unfolding letters group_and_words one_field no_field force_field
   none-unknown other = passed c [] letters (λ q. refl, (λ q. refl, (λ q. absurd (other.no-preempt q), (λ q. refl, (λ q. refl, (λ q. absurd (other.no-turn q), (λ q. absurd (other.no-poll q), (λ q. refl, (λ q. absurd (other.no-dispose q), (λ q. absurd (other.no-begin q), (λ q. absurd (other.no_end q), (λ q. refl, (λ q. refl, tt)))))))))))))
 
   -- any other with one field
   one-unknown : (n : ℕ) → NotOne c → lettered c letters (n ∷ []) ≡ unknown
-  unfolding letters groupAndWords oneField no_field forceField
+  unfolding letters group_and_words one_field no_field force_field
   one-unknown n other = passed c (n ∷ []) letters (λ q. absurd (other.no-arrive q), (λ q. absurd (other.no-schedule q), (λ q. refl, (λ q. absurd (other.no-dispatch q), (λ q. absurd (other.no-tick q), (λ q. refl, (λ q. refl, (λ q. absurd (other.no-peek q), (λ q. refl, (λ q. absurd (other.no-begin q), (λ q. refl, (λ q. absurd (other.no-describe q), (λ q. absurd (other.no-launch q), tt)))))))))))))
 
   -- any other with more
   more-unknown : (n m : ℕ) (ns : List ℕ) → (c ≡ 65 → ⊥) → lettered c letters (n ∷ m ∷ ns) ≡ unknown
-  unfolding letters groupAndWords oneField no_field forceField
+  unfolding letters group_and_words one_field no_field force_field
   more-unknown n m ns other = passed c (n ∷ m ∷ ns) letters (λ q. absurd (other q), (λ q. refl, (λ q. refl, (λ q. refl, (λ q. refl, (λ q. refl, (λ q. refl, (λ q. refl, (λ q. refl, (λ q. refl, (λ q. refl, (λ q. refl, (λ q. refl, tt)))))))))))))
 
 -- a number that tells neither no nor yes
 pub begins-not : (force : ℕ) → force ≢ 0 → force ≢ 1 → BeginRead force Unknown
-unfolding BeginRead operationOf yesOrNo
+unfolding BeginRead operation_of yes_or_no
 begins-not zero none one = absurd (none refl)
 begins-not (suc zero) none one = absurd (one refl)
 begins-not (suc (suc k)) none one = refl
 
 module _ (letter : ℕ) (op : Operation·rt) where
   -- a letter of the table without numbers
-  pub reads-alone : (c : ℕ) → letter ≡ c → operationOf op [] ≡ script.operationOf c (some []) → Alone letter op
+  pub reads-alone : (c : ℕ) → letter ≡ c → operation_of op [] ≡ script.operation_of c (some []) → Alone letter op
   unfolding Alone
   reads-alone c e same = rw e same
 
   -- and with one
-  pub reads-number : (number c : ℕ) → letter ≡ c → operationOf op [] ≡ script.operationOf c (some (number ∷ [])) → WithNumber letter number op
+  pub reads-number : (number c : ℕ) → letter ≡ c → operation_of op [] ≡ script.operation_of c (some (number ∷ [])) → WithNumber letter number op
   unfolding WithNumber
   reads-number number c e same other = rw e same
 
 -- any other without numbers
 pub reads-not-alone : (letter : ℕ) → NotAlone letter → Alone letter Unknown
-unfolding Alone operationOf script.operationOf
+unfolding Alone operation_of script.operation_of
 reads-not-alone letter other = sym (none-unknown letter other)
 
 -- and with one
 pub reads-not-one : (letter number : ℕ) → (letter ≢ 65 → NotOne letter) → WithNumber letter number Unknown
-unfolding WithNumber operationOf script.operationOf
+unfolding WithNumber operation_of script.operation_of
 reads-not-one letter number other no-arrive = sym (one-unknown letter number (other no-arrive))
 
 module _ (letter count first : ℕ) where
@@ -106,13 +106,13 @@ module _ (letter count first : ℕ) where
 
   -- an arrival
   pub reads-arrival : letter ≡ 65 → 0 < count → Lettered letter count first (Arrive first)
-  unfolding Lettered operationOf script.operationOf lettered letters groupAndWords
+  unfolding Lettered operation_of script.operation_of lettered letters group_and_words
   reads-arrival e h [] l f = absurd (omega arith)
   reads-arrival e h (n ∷ ns) l f = rw (e, f)
 
   -- several fields
   pub reads-many : 1 < count → (letter ≡ 65 → ⊥) → Lettered letter count first Unknown
-  unfolding Lettered operationOf script.operationOf
+  unfolding Lettered operation_of script.operation_of
   reads-many h other [] l f = absurd (omega arith)
   reads-many h other (n ∷ []) l f = absurd (omega arith)
   reads-many h other (n ∷ m ∷ ns) l f = sym (more-unknown letter n m ns other)

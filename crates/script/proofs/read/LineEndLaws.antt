@@ -9,7 +9,7 @@ use mathlib.Core.List.{List, [], ◌∷◌}
 use lib.Dec.{eqb}
 use lib.ListN.{length, drop, get_or, length-drop, drop_of_length-le}
 use lib.Seq.{drop-cons}
-use Rattle.script.specs.Read.{line_of, lineEnd}
+use Rattle.script.specs.Read.{line_of, line_end}
 
 -- either way of a test
 pub by-test : {P : Type 0} (t : Bool) → (t ≡ true → P) → (t ≡ false → P) → P
@@ -24,8 +24,8 @@ line-short (x ∷ xs) = by-test (eqb x 10) (λ e. rw (line_of, e) (omega arith))
 
 module _ (s : List ℕ) (i : ℕ) where
   -- a line ends in its text
-  pub end-inside : i ≤ length s → lineEnd s i ≤ length s
-  unfolding lineEnd
+  pub end-inside : i ≤ length s → line_end s i ≤ length s
+  unfolding line_end
   end-inside h = omega (arith, line-short (drop i s), length-drop i s)
 
   -- at the end of the text the line is empty
@@ -44,11 +44,11 @@ module _ (s : List ℕ) (i : ℕ) where
   line-more h e = rw (add-one, drop-cons s i 0 h, line_of, ne_eqb (get_or s i 0) 10 e)
 
   -- a line that begins at its end ends there
-  pub end_empty : line_of (drop i s) ≡ [] → lineEnd s i ≡ i
-  unfolding lineEnd
+  pub end_empty : line_of (drop i s) ≡ [] → line_end s i ≡ i
+  unfolding line_end
   end_empty e = rw e (omega arith)
 
   -- a byte that is no newline leaves the end where it is
-  pub end_more : i < length s → (get_or s i 0 ≡ 10 → ⊥) → lineEnd s (i + 1) ≡ lineEnd s i
-  unfolding lineEnd
+  pub end_more : i < length s → (get_or s i 0 ≡ 10 → ⊥) → line_end s (i + 1) ≡ line_end s i
+  unfolding line_end
   end_more h e = rw (line-more h e) (omega arith)

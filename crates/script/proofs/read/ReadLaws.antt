@@ -10,45 +10,45 @@ use lib.Dec.{eqb, leb, leb-suc-suc}
 use lib.ListN.{length, take, drop, get_or}
 use lib.Seq.{length-take-le, take-nil}
 use Rattle.rules.specs.Operation.{unknown}
-use Rattle.rules.specs.Text.{extendFirst, split}
-use Rattle.rules.specs.Script.{letters, lettered, onlyByte, numbers, readFields, readLine}
+use Rattle.rules.specs.Text.{extend_first, split}
+use Rattle.rules.specs.Script.{letters, lettered, only_byte, numbers, read_fields, read_line}
 use Rattle.rules.specs.Script as script
-use Rattle.rules.specs.Types.{operationOf}
+use Rattle.rules.specs.Types.{operation_of}
 use Rattle.rules.specs.declared.Operation.{Operation as Operation·rt}
-use Rattle.script.specs.Read.{line_of, lineEnd, numbersBehind, restOfLine, unreadableLine, FieldsRead, Lettered, LineRead}
+use Rattle.script.specs.Read.{line_of, line_end, numbers_behind, rest_of_line, unreadable_line, FieldsRead, Lettered, LineRead}
 use Rattle.script.specs.declared.read.Fields.{Fields as Fields·rt}
 use Rattle.script.proofs.read.LineEndLaws.{by-test, line-newline, line-more, end_empty, end_more}
 
 -- a byte that is no letter reads to no operation
-pub no-letter : (c : ℕ) → ((ns : List ℕ) → lettered c letters ns ≡ unknown) → (o : Option (List ℕ)) → script.operationOf c o ≡ unknown
-unfolding script.operationOf
+pub no-letter : (c : ℕ) → ((ns : List ℕ) → lettered c letters ns ≡ unknown) → (o : Option (List ℕ)) → script.operation_of c o ≡ unknown
+unfolding script.operation_of
 no-letter c h none = refl
 no-letter c h (some ns) = h ns
 
 -- several bytes in front of the first comma are no letter
-several : (k x : ℕ) (ps : List (List ℕ)) → readFields (extendFirst k (extendFirst x ps)) ≡ unknown
-unfolding extendFirst readFields onlyByte lettered letters
+several : (k x : ℕ) (ps : List (List ℕ)) → read_fields (extend_first k (extend_first x ps)) ≡ unknown
+unfolding extend_first read_fields only_byte lettered letters
 several k x [] = no-letter 0 (λ ns. refl) (numbers [])
 several k x (p ∷ ps) = no-letter 0 (λ ns. refl) (numbers ps)
 
 -- a letter, and the numbers behind it
-letter-alone : (k : ℕ) (r : List ℕ) → readFields (extendFirst k (split 44 r)) ≡ script.operationOf k (numbersBehind r)
-unfolding split extendFirst readFields onlyByte numbers numbersBehind script.operationOf
+letter-alone : (k : ℕ) (r : List ℕ) → read_fields (extend_first k (split 44 r)) ≡ script.operation_of k (numbers_behind r)
+unfolding split extend_first read_fields only_byte numbers numbers_behind script.operation_of
 letter-alone k [] = refl
-letter-alone k (x ∷ xs) = by-test (eqb x 44) (λ e. rw (split, numbersBehind, e)) (λ e. rw (split, numbersBehind, e) (several k x (split 44 xs)))
+letter-alone k (x ∷ xs) = by-test (eqb x 44) (λ e. rw (split, numbers_behind, e)) (λ e. rw (split, numbers_behind, e) (several k x (split 44 xs)))
 
 -- the same where the first byte is a comma, which is no letter either
-letter-fields : (k : ℕ) (r : List ℕ) → readFields (split 44 (k ∷ r)) ≡ script.operationOf k (numbersBehind r)
-unfolding split readFields onlyByte lettered letters
+letter-fields : (k : ℕ) (r : List ℕ) → read_fields (split 44 (k ∷ r)) ≡ script.operation_of k (numbers_behind r)
+unfolding split read_fields only_byte lettered letters
 letter-fields k r =
     by-test
     (eqb k 44)
-    (λ e. rw (split, e, eqb-true k 44 e) (no-letter 0 (λ ns. refl) (numbers (split 44 r)) ∙ sym (no-letter 44 (λ ns. refl) (numbersBehind r))))
+    (λ e. rw (split, e, eqb-true k 44 e) (no-letter 0 (λ ns. refl) (numbers (split 44 r)) ∙ sym (no-letter 44 (λ ns. refl) (numbers_behind r))))
     (λ e. rw (split, e) (letter-alone k r))
 
 -- a line that is not empty
-pub reads-letter : (k : ℕ) (r : List ℕ) → readLine (k ∷ r) ≡ script.operationOf k (restOfLine r)
-unfolding readLine restOfLine script.operationOf
+pub reads-letter : (k : ℕ) (r : List ℕ) → read_line (k ∷ r) ≡ script.operation_of k (rest_of_line r)
+unfolding read_line rest_of_line script.operation_of
 reads-letter k r =
     by-test
     (leb 128 (length r))
@@ -56,13 +56,13 @@ reads-letter k r =
     (λ e. rw (leb-suc-suc 128 (length r), e) (letter-fields k r))
 
 -- an empty one
-pub reads-empty : readLine [] ≡ unknown
-unfolding readLine readFields split onlyByte numbers script.operationOf lettered letters
+pub reads-empty : read_line [] ≡ unknown
+unfolding read_line read_fields split only_byte numbers script.operation_of lettered letters
 reads-empty = refl
 
 -- one over its limit, however long
-pub reads-long : (l : List ℕ) → 128 < length l → readLine l ≡ unknown
-unfolding readLine
+pub reads-long : (l : List ℕ) → 128 < length l → read_line l ≡ unknown
+unfolding read_line
 reads-long l h = rw (lt-ltb 128 (length l) h)
 
 -- the numbers behind the first
@@ -79,8 +79,8 @@ first_of (suc n) (x ∷ xs) = refl
 
 module _ {s : List ℕ} {at : ℕ} (inside : at < length s) where
   -- a line that is empty
-  pub line-is-empty : get_or s at 0 ≡ 10 → {fields : List ℕ} → LineRead s at fields (unreadableLine (at + 1))
-  unfolding operationOf
+  pub line-is-empty : get_or s at 0 ≡ 10 → {fields : List ℕ} → LineRead s at fields (unreadable_line (at + 1))
+  unfolding operation_of
   line-is-empty e =
       let l = line-newline s at inside e in
       record {
@@ -91,16 +91,16 @@ module _ {s : List ℕ} {at : ℕ} (inside : at < length s) where
 
   module _ (letter : get_or s at 0 ≡ 10 → ⊥) {fields : List ℕ} {f : Fields·rt} (r : FieldsRead s (at + 1) fields f) where
     -- what the line reads to
-    reads-to : readLine (line_of (drop at s)) ≡ script.operationOf (get_or s at 0) (cond f.ok (some (take f.count fields)) none)
+    reads-to : read_line (line_of (drop at s)) ≡ script.operation_of (get_or s at 0) (cond f.ok (some (take f.count fields)) none)
     reads-to = rw (line-more s at inside letter, r.found) (reads-letter (get_or s at 0) (line_of (drop (at + 1) s)))
 
     -- where it ends
-    ends_at : lineEnd s f.next ≡ lineEnd s at
+    ends_at : line_end s f.next ≡ line_end s at
     ends_at = r.same_line ∙ end_more s at inside letter
 
     -- a line that cannot be read
-    pub line-unread : f.ok ≡ false → {e : ℕ} → e ≡ lineEnd s f.next → LineRead s at fields (unreadableLine (e + 1))
-    unfolding operationOf script.operationOf
+    pub line-unread : f.ok ≡ false → {e : ℕ} → e ≡ line_end s f.next → LineRead s at fields (unreadable_line (e + 1))
+    unfolding operation_of script.operation_of
     line-unread bad h =
         record {
           operation = sym (reads-to ∙ rw bad);
@@ -120,7 +120,7 @@ module _ {s : List ℕ} {at : ℕ} (inside : at < length s) where
         let ends = end_more s at inside letter in
         record {
           operation =
-              ap (operationOf op) (behind-first n fields)
+              ap (operation_of op) (behind-first n fields)
               ∙ l (take n fields) (length-take-le n fields (omega arith)) (first_of n fields)
               ∙ sym (reads-to ∙ rw good);
           next = omega arith;

@@ -8,9 +8,9 @@ use mathlib.Core.Path.{◌≡◌, refl, sym, subst, ap, ◌∙◌}
 use lib.ListN.{length, get_or, replicate, length-append}
 use lib.Seq.{length-take-le}
 use Rattle.rules.specs.Lists.{Every}
-use Rattle.rules.specs.Text.{valueFrom, decimal}
+use Rattle.rules.specs.Text.{value_from, decimal}
 use Rattle.rules.proofs.Steps.EveryLaws.{every_append, every-replicate}
-use Rattle.script.specs.Written.{Counts, Countable, places, lastCount}
+use Rattle.script.specs.Written.{Counts, Countable, places, last_count}
 use Rattle.script.proofs.write.DecimalLaws.{Digit, decimal-small, decimal-some, decimal-digits, decimal-leads, decimal-led, value-append, value-decimal}
 
 -- k nines
@@ -22,20 +22,20 @@ abbrev pub zeros : ℕ → List ℕ
 zeros k = replicate k 48
 
 -- one more than a number that ends in nines
-value-carry : (a k : ℕ) → valueFrom a (nines k) + 1 ≡ valueFrom (a + 1) (zeros k)
-unfolding valueFrom
+value-carry : (a k : ℕ) → value_from a (nines k) + 1 ≡ value_from (a + 1) (zeros k)
+unfolding value_from
 value-carry a zero = refl
 value-carry a (suc k) =
     let e : a * 10 + 9 + 1 ≡ (a + 1) * 10 + 0 = omega arith in
-    value-carry (a * 10 + 9) k ∙ ap (λ (b : ℕ). valueFrom b (zeros k)) e
+    value-carry (a * 10 + 9) k ∙ ap (λ (b : ℕ). value_from b (zeros k)) e
 
 -- the same behind other digits
-value-carried : (a c k : ℕ) (ys : List ℕ) → 48 ≤ c → valueFrom a (ys ++ (c ∷ nines k)) + 1 ≡ valueFrom a (ys ++ ((c + 1) ∷ zeros k))
-unfolding valueFrom
+value-carried : (a c k : ℕ) (ys : List ℕ) → 48 ≤ c → value_from a (ys ++ (c ∷ nines k)) + 1 ≡ value_from a (ys ++ ((c + 1) ∷ zeros k))
+unfolding value_from
 value-carried a c k ys h =
-    let v : ℕ = valueFrom a ys in
+    let v : ℕ = value_from a ys in
     let e : v * 10 + (c - 48) + 1 ≡ v * 10 + (c + 1 - 48) = omega arith in
-    ap (λ (x : ℕ). x + 1) (value-append a ys (c ∷ nines k)) ∙ value-carry (v * 10 + (c - 48)) k ∙ ap (λ (b : ℕ). valueFrom b (zeros k)) e
+    ap (λ (x : ℕ). x + 1) (value-append a ys (c ∷ nines k)) ∙ value-carry (v * 10 + (c - 48)) k ∙ ap (λ (b : ℕ). value_from b (zeros k)) e
     ∙ sym (value-append a ys ((c + 1) ∷ zeros k))
 
 -- the digits of the next number, where not all are nines
@@ -47,12 +47,12 @@ decimal-next ys c k n e not-nine =
     let high = parts.1.0.1 in
     let below : c + 1 ≤ 57 = elim (dec_lt c 57) [ yes l ↦ omega arith | no l ↦ absurd (not-nine (omega arith)) ] in
     let new = (every_append Digit ys ((c + 1) ∷ zeros k)).1 (parts.0, ((omega arith, below), every-replicate Digit k 48 (omega arith))) in
-    let v : n + 1 ≡ valueFrom 0 (ys ++ ((c + 1) ∷ zeros k)) =
-    ap (λ (x : ℕ). x + 1) (sym (value-decimal n) ∙ ap (valueFrom 0) e) ∙ value-carried 0 c k ys low in
+    let v : n + 1 ≡ value_from 0 (ys ++ ((c + 1) ∷ zeros k)) =
+    ap (λ (x : ℕ). x + 1) (sym (value-decimal n) ∙ ap (value_from 0) e) ∙ value-carried 0 c k ys low in
     ap decimal v ∙ led ys e low new
   where
     led : (ys : List ℕ) → decimal n ≡ ys ++ (c ∷ nines k) → 48 ≤ c → Every Digit (ys ++ ((c + 1) ∷ zeros k))
-        → decimal (valueFrom 0 (ys ++ ((c + 1) ∷ zeros k))) ≡ ys ++ ((c + 1) ∷ zeros k)
+        → decimal (value_from 0 (ys ++ ((c + 1) ∷ zeros k))) ≡ ys ++ ((c + 1) ∷ zeros k)
     led [] e low new = decimal-led (c + 1) (zeros k) (λ z. omega arith) new
     led (y ∷ ys) e low new =
         let long : 2 ≤ length (decimal n) = rw (e, length-append) (omega arith) in
@@ -61,15 +61,15 @@ decimal-next ys c k n e not-nine =
 
 -- and where all are
 pub decimal-grown : (k n : ℕ) → decimal n ≡ nines k → decimal (n + 1) ≡ 49 ∷ zeros k
-unfolding valueFrom
+unfolding value_from
 decimal-grown k n e =
-    let v : n + 1 ≡ valueFrom 0 (49 ∷ zeros k) = ap (λ (x : ℕ). x + 1) (sym (value-decimal n) ∙ ap (valueFrom 0) e) ∙ value-carry 0 k in
+    let v : n + 1 ≡ value_from 0 (49 ∷ zeros k) = ap (λ (x : ℕ). x + 1) (sym (value-decimal n) ∙ ap (value_from 0) e) ∙ value-carry 0 k in
     ap decimal v ∙ decimal-led 49 (zeros k) (λ z. omega arith) (omega arith, every-replicate Digit k 48 (omega arith))
 
 -- the number of twenty nines is the largest
-pub nines-last : (n : ℕ) → decimal n ≡ nines places → n ≡ lastCount
-unfolding valueFrom
-nines-last n e = sym (value-decimal n) ∙ ap (valueFrom 0) e
+pub nines-last : (n : ℕ) → decimal n ≡ nines places → n ≡ last_count
+unfolding value_from
+nines-last n e = sym (value-decimal n) ∙ ap (value_from 0) e
 
 module _ {d : List ℕ} {l n : ℕ} (h : Counts d l n) where
   -- as many digits count as the number has

@@ -9,22 +9,22 @@ use mathlib.Core.Path.{◌≡◌, refl, sym, ap, ◌∙◌}
 use lib.ListN.{length, get_or, length-append, get_or-append}
 use borrow.Author.Tests.{lt-ltb, le-ltb}
 use Rattle.rules.specs.Lists.{Every}
-use Rattle.rules.specs.Text.{valueFrom, decimalBefore, decimal}
+use Rattle.rules.specs.Text.{value_from, decimal_before, decimal}
 use Rattle.rules.proofs.Steps.EveryLaws.{every_append}
 
 -- one digit
-before_small : (d n : ℕ) (rest : List ℕ) → n < 10 → decimalBefore (suc d) n rest ≡ (48 + n) ∷ rest
-unfolding decimalBefore
-before_small d n rest h = rw (lt-ltb n 10 h, decimalBefore)
+before_small : (d n : ℕ) (rest : List ℕ) → n < 10 → decimal_before (suc d) n rest ≡ (48 + n) ∷ rest
+unfolding decimal_before
+before_small d n rest h = rw (lt-ltb n 10 h, decimal_before)
 
 -- one digit more
-before_more : (d n : ℕ) (rest : List ℕ) → 10 ≤ n → decimalBefore (suc d) n rest ≡ decimalBefore d (n / 10) ((48 + n % 10) ∷ rest)
-unfolding decimalBefore
-before_more d n rest h = rw (le-ltb n 10 h, decimalBefore)
+before_more : (d n : ℕ) (rest : List ℕ) → 10 ≤ n → decimal_before (suc d) n rest ≡ decimal_before d (n / 10) ((48 + n % 10) ∷ rest)
+unfolding decimal_before
+before_more d n rest h = rw (le-ltb n 10 h, decimal_before)
 
 -- the digits in front of a text
-before-append : (d n : ℕ) (rest : List ℕ) → decimalBefore d n rest ≡ decimalBefore d n [] ++ rest
-unfolding decimalBefore
+before-append : (d n : ℕ) (rest : List ℕ) → decimal_before d n rest ≡ decimal_before d n [] ++ rest
+unfolding decimal_before
 before-append zero n rest = refl
 before-append (suc d) n rest =
     elim (dec_lt n 10) [
@@ -33,12 +33,12 @@ before-append (suc d) n rest =
           let h : 10 ≤ n = omega arith in
           let x : ℕ = 48 + n % 10 in
           before_more d n rest h ∙ before-append d (n / 10) (x ∷ rest)
-          ∙ sym (append_assoc (decimalBefore d (n / 10) []) (x ∷ []) rest)
+          ∙ sym (append_assoc (decimal_before d (n / 10) []) (x ∷ []) rest)
           ∙ ap (λ (t : List ℕ). t ++ rest) (sym (before-append d (n / 10) (x ∷ [])) ∙ sym (before_more d n [] h))
     ]
 
 -- any bound above the number serves
-before-bound : (d e n : ℕ) (rest : List ℕ) → n < d → n < e → decimalBefore d n rest ≡ decimalBefore e n rest
+before-bound : (d e n : ℕ) (rest : List ℕ) → n < d → n < e → decimal_before d n rest ≡ decimal_before e n rest
 before-bound zero e n rest p q = absurd (omega arith)
 before-bound (suc d) zero n rest p q = absurd (omega arith)
 before-bound (suc d) (suc e) n rest p q =
@@ -103,15 +103,15 @@ decimal-digits = by-tenths (λ n. Every Digit (decimal n)) (λ n h. rw (decimal-
     (λ n h k. rw (decimal-more n h) ((every_append Digit (decimal (n / 10)) ((48 + n % 10) ∷ [])).1 (k, (omega arith, tt))))
 
 -- digits read behind digits
-pub value-append : (a : ℕ) (xs ys : List ℕ) → valueFrom a (xs ++ ys) ≡ valueFrom (valueFrom a xs) ys
-unfolding valueFrom
+pub value-append : (a : ℕ) (xs ys : List ℕ) → value_from a (xs ++ ys) ≡ value_from (value_from a xs) ys
+unfolding value_from
 value-append a [] ys = refl
 value-append a (x ∷ xs) ys = value-append (a * 10 + (x - 48)) xs ys
 
 -- a number's digits write it
-pub value-decimal : (n : ℕ) → valueFrom 0 (decimal n) ≡ n
-unfolding valueFrom
-value-decimal = by-tenths (λ n. valueFrom 0 (decimal n) ≡ n) (λ n h. rw (decimal-small n h) (omega arith))
+pub value-decimal : (n : ℕ) → value_from 0 (decimal n) ≡ n
+unfolding value_from
+value-decimal = by-tenths (λ n. value_from 0 (decimal n) ≡ n) (λ n h. rw (decimal-small n h) (omega arith))
     (λ n h k. rw (decimal-more n h, value-append, k) (omega arith))
 
 -- its first is not 0, unless the number is
@@ -120,8 +120,8 @@ decimal-leads = by-tenths (λ n. 1 ≤ n → get_or (decimal n) 0 0 ≡ 48 → �
     (λ n h k l e. k (omega arith) (sym (get_or-append (decimal (n / 10)) ((48 + n % 10) ∷ []) 0 0 (decimal-some (n / 10))) ∙ rw (decimal-more n h) at e))
 
 -- digits behind a number that is not 0 are the last digits of what both write
-pub decimal-behind : (a : ℕ) (cs : List ℕ) → 1 ≤ a → Every Digit cs → decimal (valueFrom a cs) ≡ decimal a ++ cs
-unfolding valueFrom
+pub decimal-behind : (a : ℕ) (cs : List ℕ) → 1 ≤ a → Every Digit cs → decimal (value_from a cs) ≡ decimal a ++ cs
+unfolding value_from
 decimal-behind a [] h d = sym (append-nil (decimal a))
 decimal-behind a (c ∷ cs) h d =
     let x : ℕ = a * 10 + (c - 48) in
@@ -133,8 +133,8 @@ decimal-behind a (c ∷ cs) h d =
     decimal-behind x cs (omega arith) d.1 ∙ ap (λ (y : List ℕ). y ++ cs) e ∙ append_assoc (decimal a) (c ∷ []) cs
 
 -- digits that do not begin with 0 are those of the number that they write
-pub decimal-led : (c : ℕ) (cs : List ℕ) → (c ≡ 48 → ⊥) → Every Digit (c ∷ cs) → decimal (valueFrom 0 (c ∷ cs)) ≡ c ∷ cs
-unfolding valueFrom
+pub decimal-led : (c : ℕ) (cs : List ℕ) → (c ≡ 48 → ⊥) → Every Digit (c ∷ cs) → decimal (value_from 0 (c ∷ cs)) ≡ c ∷ cs
+unfolding value_from
 decimal-led c cs n d =
     let low = d.0.0 in
     let high = d.0.1 in

@@ -10,15 +10,15 @@ use lib.Dec.{eqb}
 use lib.ListN.{length, take, get_or}
 use lib.Seq.{take-suc}
 use borrow.Author.Tests.{eq-eqb, ne_eqb}
-use Rattle.rules.specs.Build.{Build, wordLimit}
+use Rattle.rules.specs.Build.{Build, word_limit}
 use Rattle.rules.specs.Lists.{pad}
-use Rattle.rules.specs.Node.{Node, group_of, timerRuns, emptyGroup}
-use Rattle.rules.specs.Operation.{Request, poll, peek, dispose, beginAtomic, endAtomic, describe, launch, Operation, arrive, schedule, preempt, dispatch, tick, turn, user, unknown, Report}
-use Rattle.rules.specs.Refusal.{refusal, refuseRequest, refuseLaunch}
-use Rattle.rules.specs.Script.{newline, header, reportLine}
-use Rattle.rules.specs.Step.{Effect, valued, extending, launched, serve, act, finish, inARow, step, ticks, oneTick, timedOut, counted}
+use Rattle.rules.specs.Node.{Node, group_of, timer_runs, empty_group}
+use Rattle.rules.specs.Operation.{Request, poll, peek, dispose, begin_atomic, end_atomic, describe, launch, Operation, arrive, schedule, preempt, dispatch, tick, turn, user, unknown, Report}
+use Rattle.rules.specs.Refusal.{refusal, refuse_request, refuse_launch}
+use Rattle.rules.specs.Script.{newline, header, report_line}
+use Rattle.rules.specs.Step.{Effect, valued, extending, launched, serve, act, finish, in_arow, step, ticks, one_tick, timed_out, counted}
 use Rattle.rules.specs.Text.{decimal, row}
-use Rattle.rules.specs.Types.{sentOf, reportOf}
+use Rattle.rules.specs.Types.{sent_of, report_of}
 use Rattle.rules.specs.Valid.{GoodGroup, Valid}
 use Rattle.rules.specs.declared.Report.{Report as Report·rt}
 use Rattle.rules.specs.declared.Sent.{Sent as Sent·rt}
@@ -26,7 +26,7 @@ use Rattle.rules.proofs.Steps.ActLaws.{user-accepted}
 use Rattle.rules.proofs.Steps.EveryLaws.{every-getD}
 use Rattle.rules.proofs.Steps.ListLaws.{take-pad}
 use Rattle.rules.proofs.Steps.StepLaws.{step-law}
-use Rattle.script.specs.Written.{field, fields, sentNumbers, behindNumber, Listed, silent, sending}
+use Rattle.script.specs.Written.{field, fields, sent_numbers, behind_number, Listed, silent, sending}
 
 -- how long the header is
 pub header-length : length header ≡ 36
@@ -62,48 +62,48 @@ row-fields n [] = sym (append-nil (decimal n))
 row-fields n (m ∷ ns) = ap (λ (t : List ℕ). decimal n ++ (44 ∷ t)) (row-fields m ns)
 
 -- nothing was sent
-pub sent-none : (s : Sent·rt) → s.len ≡ 0 → sentNumbers s ≡ []
-unfolding sentNumbers
+pub sent-none : (s : Sent·rt) → s.len ≡ 0 → sent_numbers s ≡ []
+unfolding sent_numbers
 sent-none s e = ap (λ (t : Bool). cond t [] (s.node ∷ s.group ∷ take s.len s.words)) (eq-eqb s.len 0 e)
 
 -- node, group and words were
-pub sent-some : (s : Sent·rt) → (s.len ≡ 0 → ⊥) → sentNumbers s ≡ s.node ∷ s.group ∷ take s.len s.words
-unfolding sentNumbers
+pub sent-some : (s : Sent·rt) → (s.len ≡ 0 → ⊥) → sent_numbers s ≡ s.node ∷ s.group ∷ take s.len s.words
+unfolding sent_numbers
 sent-some s e = ap (λ (t : Bool). cond t [] (s.node ∷ s.group ∷ take s.len s.words)) (ne_eqb s.len 0 e)
 
 -- they are fields
 pub sent-fields : (s : Sent·rt) → (s.len ≡ 0 → ⊥)
-    → (field s.node ++ field s.group) ++ fields (take s.len s.words) ≡ fields (sentNumbers s)
+    → (field s.node ++ field s.group) ++ fields (take s.len s.words) ≡ fields (sent_numbers s)
 unfolding fields
 sent-fields s e = append_assoc (field s.node) (field s.group) (fields (take s.len s.words)) ∙ ap fields (sym (sent-some s e))
 
 -- what stands behind a line's number is fields and the newline
 pub behind-fields : (r : Report·rt)
-    → ((((((field r.answer ++ field r.value) ++ field r.trap) ++ field r.upcall) ++ field r.moved) ++ fields (sentNumbers r.sent)) ++ (newline ∷ []))
-    ≡ behindNumber r
-unfolding behindNumber fields
+    → ((((((field r.answer ++ field r.value) ++ field r.trap) ++ field r.upcall) ++ field r.moved) ++ fields (sent_numbers r.sent)) ++ (newline ∷ []))
+    ≡ behind_number r
+unfolding behind_number fields
 behind-fields r = simp append_assoc
 
 -- what was sent is read back from the report
-pub listed-sent : {q : Report} → Listed q → sentNumbers (sentOf q.sent) ≡ q.sent
-unfolding sentNumbers
-listed-sent {q} (silent e) = ap (λ (s : List ℕ). sentNumbers (sentOf s)) e ∙ sym e
-listed-sent {q} (sending k g ws e some few) = ap (λ (s : List ℕ). sentNumbers (sentOf s)) e ∙ whole ∙ sym e
+pub listed-sent : {q : Report} → Listed q → sent_numbers (sent_of q.sent) ≡ q.sent
+unfolding sent_numbers
+listed-sent {q} (silent e) = ap (λ (s : List ℕ). sent_numbers (sent_of s)) e ∙ sym e
+listed-sent {q} (sending k g ws e some few) = ap (λ (s : List ℕ). sent_numbers (sent_of s)) e ∙ whole ∙ sym e
   where
-    whole : sentNumbers (sentOf (k ∷ g ∷ ws)) ≡ k ∷ g ∷ ws
+    whole : sent_numbers (sent_of (k ∷ g ∷ ws)) ≡ k ∷ g ∷ ws
     whole =
         let l : length (k ∷ g ∷ ws) - 2 ≡ length ws = omega arith in
-        sent-some (sentOf (k ∷ g ∷ ws)) (λ z. omega arith) ∙ ap (λ (m : ℕ). k ∷ g ∷ take m (pad wordLimit ws)) l
-        ∙ ap (λ (t : List ℕ). k ∷ g ∷ t) (take-pad wordLimit ws few)
+        sent-some (sent_of (k ∷ g ∷ ws)) (λ z. omega arith) ∙ ap (λ (m : ℕ). k ∷ g ∷ take m (pad word_limit ws)) l
+        ∙ ap (λ (t : List ℕ). k ∷ g ∷ t) (take-pad word_limit ws few)
 
 -- it is at most eight words
-pub listed-few : {q : Report} → Listed q → (reportOf q).sent.len ≤ wordLimit
+pub listed-few : {q : Report} → Listed q → (report_of q).sent.len ≤ word_limit
 listed-few {q} (silent e) = let l : length q.sent ≡ 0 = ap length e in omega arith
 listed-few {q} (sending k g ws e some few) = let l : length q.sent ≡ suc (suc (length ws)) = ap length e in omega arith
 
 -- a line is its number and what stands behind it
-pub line-behind : {q : Report} → Listed q → (i : ℕ) → decimal i ++ behindNumber (reportOf q) ≡ reportLine i q
-unfolding behindNumber reportLine
+pub line-behind : {q : Report} → Listed q → (i : ℕ) → decimal i ++ behind_number (report_of q) ≡ report_line i q
+unfolding behind_number report_line
 line-behind {q} h i =
     let before : List ℕ → List ℕ = λ s. q.answer ∷ q.value ∷ q.trap ∷ q.upcall ∷ q.moved ∷ s in
     ap (λ (s : List ℕ). decimal i ++ (fields (before s) ++ (newline ∷ []))) (listed-sent h)
@@ -111,11 +111,11 @@ line-behind {q} h i =
     ∙ ap (λ (t : List ℕ). t ++ (newline ∷ [])) (sym (row-fields i (before q.sent)))
 
 -- a tick sends nothing
-tick-sent : (b : Build) (e : Effect) → (oneTick b e).sent ≡ e.sent
-unfolding oneTick timedOut counted
-tick-sent b e = either (timerRuns e.node) (eqb (e.node.timer + 1) b.timeout)
+tick-sent : (b : Build) (e : Effect) → (one_tick b e).sent ≡ e.sent
+unfolding one_tick timed_out counted
+tick-sent b e = either (timer_runs e.node) (eqb (e.node.timer + 1) b.timeout)
   where
-    either : (runs t : Bool) → (cond runs (cond t (timedOut b e) (counted e)) e).sent ≡ e.sent
+    either : (runs t : Bool) → (cond runs (cond t (timed_out b e) (counted e)) e).sent ≡ e.sent
     either true true = refl
     either true false = refl
     either false t = refl
@@ -124,26 +124,26 @@ tick-sent b e = either (timerRuns e.node) (eqb (e.node.timer + 1) b.timeout)
 ticks-sent : (b : Build) (k : ℕ) (e : Effect) → (ticks b k e).sent ≡ e.sent
 unfolding ticks
 ticks-sent b zero e = refl
-ticks-sent b (suc k) e = ticks-sent b k (oneTick b e) ∙ tick-sent b e
+ticks-sent b (suc k) e = ticks-sent b k (one_tick b e) ∙ tick-sent b e
 
 module _ {b : Build} {n : Node} (v : Valid b n) where
   -- an accepted request
-  served-listed : (r : Request) → 1 ≤ n.running → refuseRequest n r ≡ 0 → Listed (finish b (serve b n r)).report
-  unfolding serve valued extending launched refuseRequest refuseLaunch finish group_of
+  served-listed : (r : Request) → 1 ≤ n.running → refuse_request n r ≡ 0 → Listed (finish b (serve b n r)).report
+  unfolding serve valued extending launched refuse_request refuse_launch finish group_of
   served-listed poll runs e = silent refl
   served-listed (peek i) runs e = silent refl
   served-listed dispose runs e = silent refl
-  served-listed (beginAtomic force) runs e = silent refl
-  served-listed endAtomic runs e = silent refl
+  served-listed (begin_atomic force) runs e = silent refl
+  served-listed end_atomic runs e = silent refl
   served-listed (describe w) runs e = silent refl
   served-listed (launch k) runs e = sending k n.running (group_of n n.running).descriptor refl (some (group_of n n.running).descriptor e) few
     where
-      some : (d : List ℕ) → refuseLaunch d k ≡ 0 → 1 ≤ length d
+      some : (d : List ℕ) → refuse_launch d k ≡ 0 → 1 ≤ length d
       some [] z = absurd (omega arith)
       some (w ∷ d) z = omega arith
 
-      few : length (group_of n n.running).descriptor ≤ wordLimit
-      few = (every-getD (GoodGroup b) n.groups (pred n.running) emptyGroup v.groups-good (omega (arith, v.running-bound, v.group-count))).descriptor
+      few : length (group_of n n.running).descriptor ≤ word_limit
+      few = (every-getD (GoodGroup b) n.groups (pred n.running) empty_group v.groups-good (omega (arith, v.running-bound, v.group-count))).descriptor
 
   -- an operation that acts
   acts-listed : (op : Operation) → refusal b n op ≡ 0 → Listed (finish b (act b n op)).report
@@ -159,7 +159,7 @@ module _ {b : Build} {n : Node} (v : Valid b n) where
 
 -- what a step reports can be listed
 pub step-listed : {b : Build} {n : Node} → Valid b n → (op : Operation) → Listed (step b n op).report
-unfolding act valued finish inARow
+unfolding act valued finish in_arow
 step-listed {b} =
     step-law (λ n op s. Listed s.report)
     (record {

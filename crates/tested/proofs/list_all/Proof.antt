@@ -3,7 +3,7 @@ use Prim.Native.Nat.{ℕ, ◌+◌, ◌-◌, ◌≤◌}
 use native.Mathlib.Omega.{arith}
 use mathlib.Core.Path.{◌≡◌, ◌∙◌, refl}
 use lib.ListN.{length}
-use Rattle.script.specs.Read.{lineEnd}
+use Rattle.script.specs.Read.{line_end}
 use Rattle.script.proofs.read.LineEndLaws.{end-inside}
 use Rattle.tested.specs.Counted.{CountsTo}
 use Rattle.tested.proofs.CountedLaws.{counts-countable, counts-one, counts-within}
@@ -31,7 +31,7 @@ end-of-line-requires : tie.Need-end-of-line-requires invariant-loop decreases-lo
 end-of-line-requires c κs = search rules
 
 sub-list : tie.Need-overflow-sub-list invariant-loop decreases-loop
-unfolding lineEnd
+unfolding line_end
 sub-list c = let e = c.before.end-of-line.ensures in omega arith
 
 part-list-start : tie.Need-slice-bounds-list-start invariant-loop decreases-loop
@@ -61,11 +61,11 @@ add-used c =
     omega arith
 
 loop-less : tie.Need-loop-smaller invariant-loop decreases-loop
-unfolding lineEnd
+unfolding line_end
 loop-less c = let e = c.before.before.before.before.before.before.before.before.before.end-of-line.ensures in let t = c.before.before.before.before.before.before.before.before.before.before.before.before.loop-test.true in omega arith
 
 loop-again : tie.Need-loop-preserved invariant-loop decreases-loop
-unfolding lineEnd
+unfolding line_end
 loop-again c =
     let e = c.before.before.before.before.before.before.before.before.before.end-of-line.ensures in
     let t = c.before.before.before.before.before.before.before.before.before.before.before.before.loop-test.true in

@@ -6,31 +6,31 @@ use mathlib.Core.List.{List, [], ◌∷◌, ◌++◌, append-nil, append_assoc}
 use native.Mathlib.Omega.{arith}
 use native.Mathlib.Nat.{add-zero, zero-add, suc-add}
 use lib.ListN.{length, length-append}
-use Rattle.rules.specs.Lists.{concatMap, up_from}
-use Rattle.rules.specs.Valid.{frameList, idle, frameNumbers, frameOrder}
-use Rattle.rules.specs.Memory.{freeAt, freeCountAt, swap_at, swapCountAt, entered_at, enteredCountAt, listOffset, heldOffset, size, word, wordsAt, listAt, bufferAt, groupAt, groupsFrom, groupAddress, pagingFrom, nodeAt}
-use Rattle.rules.proofs.Steps.ListLaws.{upFrom-append}
-use Rattle.rules.proofs.Map.MapWords.{length-wordsAt}
-use Rattle.validate.specs.Clauses.{listStart, listCount, listNumbers, listed}
+use Rattle.rules.specs.Lists.{concat_map, up_from}
+use Rattle.rules.specs.Valid.{frame_list, idle, frame_numbers, frame_order}
+use Rattle.rules.specs.Memory.{free_at, free_count_at, swap_at, swap_count_at, entered_at, entered_count_at, list_offset, held_offset, size, word, words_at, list_at, buffer_at, group_at, groups_from, group_address, paging_from, node_at}
+use Rattle.rules.proofs.Steps.ListLaws.{up_from-append}
+use Rattle.rules.proofs.Map.MapWords.{length-words_at}
+use Rattle.validate.specs.Clauses.{list_start, list_count, list_numbers, listed}
 use Rattle.validate.specs.Known.{Counted}
 
 -- lists joined in two parts
-concat-append : {A B : Type 0} (f : A → List B) (xs ys : List A) → concatMap f (xs ++ ys) ≡ concatMap f xs ++ concatMap f ys
+concat-append : {A B : Type 0} (f : A → List B) (xs ys : List A) → concat_map f (xs ++ ys) ≡ concat_map f xs ++ concat_map f ys
 concat-append f [] ys = refl
 concat-append f (x ∷ xs) ys = rw (concat-append f xs ys, append_assoc)
 
 module _ (m : List ℕ) where
   -- words in two parts
-  pub words-split : (a j k : ℕ) → wordsAt m a (j + k) ≡ wordsAt m a j ++ wordsAt m (a + j) k
-  unfolding wordsAt
+  pub words-split : (a j k : ℕ) → words_at m a (j + k) ≡ words_at m a j ++ words_at m (a + j) k
+  unfolding words_at
   words-split a zero k = rw (zero-add, add-zero)
   words-split a (suc j) k =
       let e : a + 1 + j ≡ a + suc j = omega arith in
       rw (suc-add, ← e) (ap (λ (r : List ℕ). word m a ∷ r) (words-split (a + 1) j k))
 
   -- one word more
-  pub words_more : (a j : ℕ) → wordsAt m a (j + 1) ≡ wordsAt m a j ++ (word m (a + j) ∷ [])
-  unfolding wordsAt
+  pub words_more : (a j : ℕ) → words_at m a (j + 1) ≡ words_at m a j ++ (word m (a + j) ∷ [])
+  unfolding words_at
   words_more a j = words-split a j 1
 
   -- Lists from list a on.
@@ -44,10 +44,10 @@ module _ (m : List ℕ) where
   listed-split : (a j k : ℕ) → listed m a (j + k) ≡ listed m a j ++ listed m (a + j) k
   unfolding listed
   listed-split a j k =
-      ap (concatMap (listNumbers m)) (upFrom-append a j k) ∙ concat-append (listNumbers m) (up_from a j) (up_from (a + j) k)
+      ap (concat_map (list_numbers m)) (up_from-append a j k) ∙ concat-append (list_numbers m) (up_from a j) (up_from (a + j) k)
 
   -- one list more
-  pub listed_more : (a l : ℕ) → a ≤ l → listed m a (l + 1 - a) ≡ listed m a (l - a) ++ listNumbers m l
+  pub listed_more : (a l : ℕ) → a ≤ l → listed m a (l + 1 - a) ≡ listed m a (l - a) ++ list_numbers m l
   unfolding listed
   listed_more a l h =
       let e : l + 1 - a ≡ (l - a) + 1 = omega arith in
@@ -55,40 +55,40 @@ module _ (m : List ℕ) where
       ap (listed m a) e ∙ listed-split a (l - a) 1 ∙ rw (here, append-nil)
 
   -- as many numbers more as the list has
-  pub listed-length : (a l : ℕ) → a ≤ l → length (listed m a (l + 1 - a)) ≡ length (listed m a (l - a)) + listCount m l
-  unfolding listNumbers
+  pub listed-length : (a l : ℕ) → a ≤ l → length (listed m a (l + 1 - a)) ≡ length (listed m a (l - a)) + list_count m l
+  unfolding list_numbers
   listed-length a l h =
       ap length (listed_more a l h)
-      ∙ length-append (listed m a (l - a)) (listNumbers m l)
-      ∙ ap (λ (k : ℕ). length (listed m a (l - a)) + k) (length-wordsAt m (listStart l) (listCount m l))
+      ∙ length-append (listed m a (l - a)) (list_numbers m l)
+      ∙ ap (λ (k : ℕ). length (listed m a (l - a)) + k) (length-words_at m (list_start l) (list_count m l))
 
   -- those of the lists from the free line on are those of the node
-  pub numbers-listed : frameNumbers (nodeAt m) ≡ listed m 1 10
-  unfolding frameNumbers idle nodeAt pagingFrom listed listNumbers listStart listCount groupsFrom groupAt bufferAt listAt frameList groupAddress
-  numbers-listed = append_assoc (wordsAt m freeAt (word m freeCountAt)) (wordsAt m swap_at (word m swapCountAt)) _
+  pub numbers-listed : frame_numbers (node_at m) ≡ listed m 1 10
+  unfolding frame_numbers idle node_at paging_from listed list_numbers list_start list_count groups_from group_at buffer_at list_at frame_list group_address
+  numbers-listed = append_assoc (words_at m free_at (word m free_count_at)) (words_at m swap_at (word m swap_count_at)) _
 
   -- those of the order of entry and the free line are its frames, in another order
-  pub order-listed : (P : List ℕ → Type 0) → ((xs ys : List ℕ) → P (ys ++ xs) → P (xs ++ ys)) → P (listed m 0 2) → P (frameOrder (nodeAt m))
-  unfolding frameOrder nodeAt pagingFrom listed listNumbers listStart listCount
+  pub order-listed : (P : List ℕ → Type 0) → ((xs ys : List ℕ) → P (ys ++ xs) → P (xs ++ ys)) → P (listed m 0 2) → P (frame_order (node_at m))
+  unfolding frame_order node_at paging_from listed list_numbers list_start list_count
   order-listed P turn h =
-      let free = wordsAt m freeAt (word m freeCountAt) in
-      turn free (wordsAt m entered_at (word m enteredCountAt)) (rw (append-nil free) at h)
+      let free = words_at m free_at (word m free_count_at) in
+      turn free (words_at m entered_at (word m entered_count_at)) (rw (append-nil free) at h)
 
   -- what stands behind number i of list l, up to list b
   unfoldable pub behind : ℕ → ℕ → ℕ → List ℕ
-  behind b l i = wordsAt m (listStart l + i + 1) (listCount m l - (i + 1)) ++ listed m (l + 1) (b - (l + 1))
+  behind b l i = words_at m (list_start l + i + 1) (list_count m l - (i + 1)) ++ listed m (l + 1) (b - (l + 1))
 
   -- a list, from its number i on
-  list-split : (l i : ℕ) → i < listCount m l
-      → listNumbers m l ≡ wordsAt m (listStart l) i ++ (word m (listStart l + i) ∷ wordsAt m (listStart l + i + 1) (listCount m l - (i + 1)))
-  unfolding listNumbers wordsAt
+  list-split : (l i : ℕ) → i < list_count m l
+      → list_numbers m l ≡ words_at m (list_start l) i ++ (word m (list_start l + i) ∷ words_at m (list_start l + i + 1) (list_count m l - (i + 1)))
+  unfolding list_numbers words_at
   list-split l i h =
-      let e : listCount m l ≡ i + suc (listCount m l - (i + 1)) = omega arith in
-      ap (wordsAt m (listStart l)) e ∙ words-split (listStart l) i (suc (listCount m l - (i + 1)))
+      let e : list_count m l ≡ i + suc (list_count m l - (i + 1)) = omega arith in
+      ap (words_at m (list_start l)) e ∙ words-split (list_start l) i (suc (list_count m l - (i + 1)))
 
   -- all numbers of the lists from a up to b, from number i of list l on
-  pub numbers-split : (a b l i : ℕ) → a ≤ l → l < b → i < listCount m l
-      → listed m a (b - a) ≡ (listed m a (l - a) ++ wordsAt m (listStart l) i) ++ (word m (listStart l + i) ∷ behind b l i)
+  pub numbers-split : (a b l i : ℕ) → a ≤ l → l < b → i < list_count m l
+      → listed m a (b - a) ≡ (listed m a (l - a) ++ words_at m (list_start l) i) ++ (word m (list_start l + i) ∷ behind b l i)
   unfolding behind
   numbers-split a b l i low high h =
       let e : b - a ≡ (l + 1 - a) + (b - (l + 1)) = omega arith in
@@ -98,8 +98,8 @@ module _ (m : List ℕ) where
       ∙ rw (next, listed_more a l low, list-split l i h) (simp append_assoc)
 
   -- a list has at most 96 numbers, and they are within the memory
-  pub list-bound : Counted m → (l : ℕ) → l < 11 → (listCount m l ≤ 96) × (listStart l + listCount m l ≤ size)
-  unfolding listCount listStart groupAddress
+  pub list-bound : Counted m → (l : ℕ) → l < 11 → (list_count m l ≤ 96) × (list_start l + list_count m l ≤ size)
+  unfolding list_count list_start group_address
   list-bound c zero h = (omega (arith, c.entered), omega (arith, c.entered))
   list-bound c (suc zero) h = (omega (arith, c.free), omega (arith, c.free))
   list-bound c (suc (suc zero)) h = (omega (arith, c.swap), omega (arith, c.swap))
@@ -111,23 +111,23 @@ module _ (m : List ℕ) where
 
 module _ (l : ℕ) where
   -- the order of entry
-  pub entered-start : l ≡ 0 → listStart l ≡ entered_at
-  unfolding listStart
+  pub entered-start : l ≡ 0 → list_start l ≡ entered_at
+  unfolding list_start
   entered-start e = rw e
 
   -- the free line
-  pub free-start : l ≡ 1 → listStart l ≡ freeAt
-  unfolding listStart
+  pub free-start : l ≡ 1 → list_start l ≡ free_at
+  unfolding list_start
   free-start e = rw e
 
   -- the swap line
-  pub swap-start : l ≡ 2 → listStart l ≡ swap_at
-  unfolding listStart
+  pub swap-start : l ≡ 2 → list_start l ≡ swap_at
+  unfolding list_start
   swap-start e = rw e
 
 -- a group's
-pub group-start : (l : ℕ) → 2 < l → listStart l ≡ groupAddress (l - 2) + listOffset
-unfolding listStart
+pub group-start : (l : ℕ) → 2 < l → list_start l ≡ group_address (l - 2) + list_offset
+unfolding list_start
 group-start zero h = absurd (omega arith)
 group-start (suc zero) h = absurd (omega arith)
 group-start (suc (suc zero)) h = absurd (omega arith)
@@ -137,23 +137,23 @@ group-start (suc (suc (suc g))) h = let e : suc (suc (suc g)) - 2 ≡ suc g = om
 
 module _ (m : List ℕ) (l : ℕ) where
   -- the order of entry
-  pub entered-count : l ≡ 0 → listCount m l ≡ word m enteredCountAt
-  unfolding listCount
+  pub entered-count : l ≡ 0 → list_count m l ≡ word m entered_count_at
+  unfolding list_count
   entered-count e = rw e
 
   -- the free line
-  pub free-count : l ≡ 1 → listCount m l ≡ word m freeCountAt
-  unfolding listCount
+  pub free-count : l ≡ 1 → list_count m l ≡ word m free_count_at
+  unfolding list_count
   free-count e = rw e
 
   -- the swap line
-  pub swap-count : l ≡ 2 → listCount m l ≡ word m swapCountAt
-  unfolding listCount
+  pub swap-count : l ≡ 2 → list_count m l ≡ word m swap_count_at
+  unfolding list_count
   swap-count e = rw e
 
 -- a group's
-pub group-count : (m : List ℕ) (l : ℕ) → 2 < l → listCount m l ≡ word m (groupAddress (l - 2) + heldOffset)
-unfolding listCount
+pub group-count : (m : List ℕ) (l : ℕ) → 2 < l → list_count m l ≡ word m (group_address (l - 2) + held_offset)
+unfolding list_count
 group-count m zero h = absurd (omega arith)
 group-count m (suc zero) h = absurd (omega arith)
 group-count m (suc (suc zero)) h = absurd (omega arith)

@@ -10,30 +10,30 @@ use lib.Dec.{eqb}
 use lib.ListN.{get_or-append, get_or, get_or-replicate, replicate}
 use lib.Seq.{get_or-append-add}
 use Rattle.rules.specs.Memory.{word}
-use Rattle.rules.specs.MemoryTest.{zeroAt}
+use Rattle.rules.specs.MemoryTest.{zero_at}
 use Rattle.memory.proofs.words.ZeroLaws.{zero-gathered}
-use Rattle.validate.specs.Masks.{pastMasks}
+use Rattle.validate.specs.Masks.{past_masks}
 
 -- nothing of a word is left under one of the first eight masks
-mask-hides : (w i : ℕ) → i < 8 → bit_and w (get_or pastMasks i 0) ≡ 0
-unfolding pastMasks
+mask-hides : (w i : ℕ) → i < 8 → bit_and w (get_or past_masks i 0) ≡ 0
+unfolding past_masks
 mask-hides w i h =
     rw (get_or-append {A = ℕ} (replicate 8 0) (replicate 8 4294967295) 0 i h, get_or-replicate {A = ℕ} 8 i 0 0 h) (and_zero_r w)
 
 -- all of it under one of the others
-mask-shows : (w i : ℕ) → i < 8 → w < 4294967296 → bit_and w (get_or pastMasks (8 + i) 0) ≡ w
-unfolding pastMasks
+mask-shows : (w i : ℕ) → i < 8 → w < 4294967296 → bit_and w (get_or past_masks (8 + i) 0) ≡ w
+unfolding past_masks
 mask-shows w i h f =
     rw (get_or-append-add {A = ℕ} (replicate 8 0) (replicate 8 4294967295) i 0, get_or-replicate {A = ℕ} 8 i 4294967295 0 h)
     (and_mask w 32 ∙ mod-eq_of_lt f)
 
 -- word j of the eight at address a, of which those past the first k are tested
-pub past-gathered : (m : List ℕ) (a k j s : ℕ) → k ≤ 8 → j < 8 → word m (a + j) < 4294967296 → zeroAt m (a + k) (j - k) ≡ eqb s 0
-    → zeroAt m (a + k) (j + 1 - k) ≡ eqb (bit_or s (bit_and (word m (a + j)) (get_or pastMasks (8 - k + j) 0))) 0
+pub past-gathered : (m : List ℕ) (a k j s : ℕ) → k ≤ 8 → j < 8 → word m (a + j) < 4294967296 → zero_at m (a + k) (j - k) ≡ eqb s 0
+    → zero_at m (a + k) (j + 1 - k) ≡ eqb (bit_or s (bit_and (word m (a + j)) (get_or past_masks (8 - k + j) 0))) 0
 past-gathered m a k j s few h f e = go (eq-zero-or-pos (k - j))
   where
     go : (k - j ≡ 0) ⊎ (0 < k - j)
-        → zeroAt m (a + k) (j + 1 - k) ≡ eqb (bit_or s (bit_and (word m (a + j)) (get_or pastMasks (8 - k + j) 0))) 0
+        → zero_at m (a + k) (j + 1 - k) ≡ eqb (bit_or s (bit_and (word m (a + j)) (get_or past_masks (8 - k + j) 0))) 0
     go (inl past) =
         let i : 8 - k + j ≡ 8 + (j - k) = omega arith in
         let n : j + 1 - k ≡ j - k + 1 = omega arith in

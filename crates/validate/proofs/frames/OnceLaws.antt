@@ -13,15 +13,15 @@ use lib.ListN.{length, get_or, set, replicate, length-set, length-replicate, get
 use lib.Seq.{get_or-set_same, get_or-set_other}
 use borrow.Author.Tests.{eqb-true, eq-eqb, ne_eqb}
 use Rattle.rules.specs.Lists.{Every, all, sum, count_of, up_from}
-use Rattle.rules.specs.Valid.{standsOnce}
+use Rattle.rules.specs.Valid.{stands_once}
 use Rattle.rules.proofs.Map.TestLaws.{range-tells}
 use Rattle.rules.proofs.Steps.EveryLaws.{every_append}
 use Rattle.rules.proofs.Steps.ListLaws.{count-append, count-within, once-bounded, sum_lt}
 use Rattle.validate.proofs.RangeLaws.{fails, failed-all}
 
 -- in which order does not matter
-pub once-turned : (xs ys fs : List ℕ) → all (standsOnce (xs ++ ys)) fs ≡ all (standsOnce (ys ++ xs)) fs
-unfolding standsOnce
+pub once-turned : (xs ys fs : List ℕ) → all (stands_once (xs ++ ys)) fs ≡ all (stands_once (ys ++ xs)) fs
+unfolding stands_once
 once-turned xs ys [] = refl
 once-turned xs ys (f ∷ fs) =
     let turned : count_of f (xs ++ ys) ≡ count_of f (ys ++ xs) = omega (arith, count-append f xs ys, count-append f ys xs) in
@@ -77,10 +77,10 @@ module _ {n : ℕ} (seen xs : List ℕ) (k : Marked n seen xs) (x : ℕ) where
       once f l (no d) = rw (count-append f xs (x ∷ []), ne_eqb x f d) (omega (arith, k.few f l))
 
   -- one that was met
-  pub twice-fails : (rest : List ℕ) → x < n → get_or seen x 0 ≢ 0 → all (standsOnce (xs ++ (x ∷ rest))) (up_from 0 n) ≡ false
-  unfolding standsOnce
+  pub twice-fails : (rest : List ℕ) → x < n → get_or seen x 0 ≢ 0 → all (stands_once (xs ++ (x ∷ rest))) (up_from 0 n) ≡ false
+  unfolding stands_once
   twice-fails rest h d =
-      failed-all (standsOnce (xs ++ (x ∷ rest))) 0 x n (omega arith) (omega arith) (ne_eqb (count_of x (xs ++ (x ∷ rest))) 1 more)
+      failed-all (stands_once (xs ++ (x ∷ rest))) 0 x n (omega arith) (omega arith) (ne_eqb (count_of x (xs ++ (x ∷ rest))) 1 more)
     where
       more : count_of x (xs ++ (x ∷ rest)) ≢ 1
       more e =
@@ -90,11 +90,11 @@ module _ {n : ℕ} (seen xs : List ℕ) (k : Marked n seen xs) (x : ℕ) where
 
 -- one that is too large
 pub over-fails : (n : ℕ) (xs rest : List ℕ) (x : ℕ) → n ≤ x → length (xs ++ (x ∷ rest)) ≡ n
-    → all (standsOnce (xs ++ (x ∷ rest))) (up_from 0 n) ≡ false
-unfolding standsOnce
+    → all (stands_once (xs ++ (x ∷ rest))) (up_from 0 n) ≡ false
+unfolding stands_once
 over-fails n xs rest x h l =
-    fails (all (standsOnce (xs ++ (x ∷ rest))) (up_from 0 n)) (λ e.
-    let each = (range-tells (standsOnce (xs ++ (x ∷ rest))) 0 n).0 e in
+    fails (all (stands_once (xs ++ (x ∷ rest))) (up_from 0 n)) (λ e.
+    let each = (range-tells (stands_once (xs ++ (x ∷ rest))) 0 n).0 e in
     let small = once-bounded n (xs ++ (x ∷ rest)) (λ f b. eqb-true _ 1 (each f (omega arith) (omega arith))) l in
     let here = ((every_append (λ y. y < n) xs (x ∷ rest)).0 small).1.0 in
     omega arith)
@@ -133,10 +133,10 @@ sum_ones a zero = refl
 sum_ones a (suc n) = omega (arith, sum_ones (suc a) n)
 
 -- n numbers below n of which none stands twice are each of them once
-pub marked_all : {n : ℕ} (seen xs : List ℕ) → Marked n seen xs → length xs ≡ n → all (standsOnce xs) (up_from 0 n) ≡ true
-unfolding standsOnce tally
+pub marked_all : {n : ℕ} (seen xs : List ℕ) → Marked n seen xs → length xs ≡ n → all (stands_once xs) (up_from 0 n) ≡ true
+unfolding stands_once tally
 marked_all {n} seen xs k l =
-    (range-tells (standsOnce xs) 0 n).1 (λ f low high. eq-eqb (count_of f xs) 1 (go f (omega arith) (ℕ_discrete (count_of f xs) 0)))
+    (range-tells (stands_once xs) 0 n).1 (λ f low high. eq-eqb (count_of f xs) 1 (go f (omega arith) (ℕ_discrete (count_of f xs) 0)))
   where
     go : (f : ℕ) → f < n → Dec (count_of f xs ≡ 0) → count_of f xs ≡ 1
     go f h (yes z) =

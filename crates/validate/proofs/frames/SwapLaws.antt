@@ -10,7 +10,7 @@ use borrow.Author.Tests.{le-leb, lt-leb}
 use lib.Dec.{leb}
 use Rattle.rules.specs.Lists.{all, up_from}
 use Rattle.rules.specs.Memory.{word, swap_at}
-use Rattle.validate.specs.Clauses.{swapPage}
+use Rattle.validate.specs.Clauses.{swap_page}
 use Rattle.validate.proofs.RangeLaws.{all_more}
 
 -- two bounds are that of the less
@@ -21,13 +21,13 @@ less-decides n l w h =
       | no b ↦ rw (le-leb n l (omega arith))
     ]
 
-module _ (m : List ℕ) (i l w : ℕ) (e : all (swapPage m) (up_from 0 i) ≡ leb 32 l) (at : w ≡ word m (swap_at + i)) where
+module _ (m : List ℕ) (i l w : ℕ) (e : all (swap_page m) (up_from 0 i) ≡ leb 32 l) (at : w ≡ word m (swap_at + i)) where
   -- a number that is less
-  pub least-falls : w < l → all (swapPage m) (up_from 0 (i + 1)) ≡ leb 32 w
-  unfolding swapPage
-  least-falls h = all_more (swapPage m) 0 i ∙ rw (zero-add i, ← at, e) (less-decides 32 l w (omega arith))
+  pub least-falls : w < l → all (swap_page m) (up_from 0 (i + 1)) ≡ leb 32 w
+  unfolding swap_page
+  least-falls h = all_more (swap_page m) 0 i ∙ rw (zero-add i, ← at, e) (less-decides 32 l w (omega arith))
 
   -- one that is not
-  pub least_stays : l ≤ w → all (swapPage m) (up_from 0 (i + 1)) ≡ leb 32 l
-  unfolding swapPage
-  least_stays h = all_more (swapPage m) 0 i ∙ rw (zero-add i, ← at, e, and_comm (leb 32 l) (leb 32 w)) (less-decides 32 w l h)
+  pub least_stays : l ≤ w → all (swap_page m) (up_from 0 (i + 1)) ≡ leb 32 l
+  unfolding swap_page
+  least_stays h = all_more (swap_page m) 0 i ∙ rw (zero-add i, ← at, e, and_comm (leb 32 l) (leb 32 w)) (less-decides 32 w l h)

@@ -8,10 +8,10 @@ use borrow.Author.Tests.{le-leb, lt-leb}
 use lib.Dec.{leb}
 use lib.ListN.{length}
 use Rattle.rules.specs.Lists.{all, up_from}
-use Rattle.rules.specs.Build.{groupCount}
+use Rattle.rules.specs.Build.{group_count}
 use Rattle.rules.specs.Memory.{size}
-use Rattle.rules.specs.MemoryTest.{flagsAreFlags}
-use Rattle.validate.specs.Clauses.{flagsAtomic}
+use Rattle.rules.specs.MemoryTest.{flags_are_flags}
+use Rattle.validate.specs.Clauses.{flags_atomic}
 use Rattle.validate.specs.Known.{Counted}
 use Rattle.validate.proofs.RangeLaws.{refused, accepted}
 use Rattle.validate.proofs.TestLaws.{flags-tell, flags-fail, memory-tested}
@@ -53,7 +53,7 @@ returns-3 c =
 -- what the flags do: those of the words, and those of the groups
 flags : (c : tie.Else3)
     → let m = c.before.before.before.before.before.before.args.memory.now in
-    (flagsAreFlags m ≡ true) × (all (flagsAtomic m) (up_from 1 groupCount) ≡ true)
+    (flags_are_flags m ≡ true) × (all (flags_atomic m) (up_from 1 group_count) ≡ true)
 flags c =
     (flags-tell c.before.before.before.before.before.before.args.memory.now).0 (accepted c.before.flags-good.ensures c.if3.false)
 

@@ -12,14 +12,14 @@ use lib.ListN.{length, get_or, set, replicate, length-append, length-set, length
 use lib.Seq.{get_or-set_same, get_or-set_other}
 use borrow.Author.Tests.{eq-eqb, ne_eqb}
 use Rattle.rules.specs.Lists.{filter, sum, up_from}
-use Rattle.rules.specs.Build.{paper01, groupCount}
-use Rattle.rules.specs.Node.{Message, emptyGroup, group_of, is_of, inQueue}
-use Rattle.rules.specs.Frames.{ceilDiv, pledge, pledges}
-use Rattle.rules.specs.Memory.{queued_at, queueAt, queueStride, groupsAt, groupStride, usedOffset, countOffset, word, messageAt, messagesAt, bufferAt, groupAt, groupAddress, nodeAt}
+use Rattle.rules.specs.Build.{paper01, group_count}
+use Rattle.rules.specs.Node.{Message, empty_group, group_of, is_of, in_queue}
+use Rattle.rules.specs.Frames.{ceil_div, pledge, pledges}
+use Rattle.rules.specs.Memory.{queued_at, queue_at, queue_stride, groups_at, group_stride, used_offset, count_offset, word, message_at, messages_at, buffer_at, group_at, group_address, node_at}
 use Rattle.rules.proofs.Steps.ListLaws.{filter-append, filter-pass, filter-fail}
 use Rattle.rules.proofs.Map.MapWords.{length-records, record-at}
 use Rattle.rules.proofs.Map.MapParts.{messages, groups}
-use Rattle.validate.specs.Known.{queuedOf, QueueCounts, Lined}
+use Rattle.validate.specs.Known.{queued_of, QueueCounts, Lined}
 
 -- no more elements pass a test than there are
 filter-short : {A : Type 0} (p : A → Bool) (xs : List A) → length (filter p xs) ≤ length xs
@@ -32,48 +32,48 @@ filter-short p (x ∷ xs) = go (p x) refl (filter-short p xs)
 
 module _ (m : List ℕ) where
   -- one message more
-  messages-more : (a i : ℕ) → messagesAt m a (i + 1) ≡ messagesAt m a i ++ (messageAt m (a + queueStride * i) ∷ [])
-  unfolding messagesAt
-  messages-more a zero = let e : a + queueStride * 0 ≡ a = omega arith in rw e
+  messages-more : (a i : ℕ) → messages_at m a (i + 1) ≡ messages_at m a i ++ (message_at m (a + queue_stride * i) ∷ [])
+  unfolding messages_at
+  messages-more a zero = let e : a + queue_stride * 0 ≡ a = omega arith in rw e
   messages-more a (suc i) =
-      let e : a + queueStride + queueStride * i ≡ a + queueStride * suc i = omega arith in
-      rw (suc-add, ← e) (ap (λ (r : List Message). messageAt m a ∷ r) (messages-more (a + queueStride) i))
+      let e : a + queue_stride + queue_stride * i ≡ a + queue_stride * suc i = omega arith in
+      rw (suc-add, ← e) (ap (λ (r : List Message). message_at m a ∷ r) (messages-more (a + queue_stride) i))
 
   -- of one group more or of another
-  queued-more : (i g : ℕ) → queuedOf m (i + 1) g ≡ queuedOf m i g + cond (eqb (word m (queueAt + queueStride * i)) g) 1 0
-  unfolding queuedOf is_of messageAt
+  queued-more : (i g : ℕ) → queued_of m (i + 1) g ≡ queued_of m i g + cond (eqb (word m (queue_at + queue_stride * i)) g) 1 0
+  unfolding queued_of is_of message_at
   queued-more i g =
-      let x = messageAt m (queueAt + queueStride * i) in
-      ap (λ (xs : List Message). length (filter (is_of g) xs)) (messages-more queueAt i)
-      ∙ ap length (filter-append (is_of g) (messagesAt m queueAt i) (x ∷ []))
-      ∙ length-append (filter (is_of g) (messagesAt m queueAt i)) (filter (is_of g) (x ∷ []))
-      ∙ ap (λ (k : ℕ). length (filter (is_of g) (messagesAt m queueAt i)) + k) (one (eqb (word m (queueAt + queueStride * i)) g) refl)
+      let x = message_at m (queue_at + queue_stride * i) in
+      ap (λ (xs : List Message). length (filter (is_of g) xs)) (messages-more queue_at i)
+      ∙ ap length (filter-append (is_of g) (messages_at m queue_at i) (x ∷ []))
+      ∙ length-append (filter (is_of g) (messages_at m queue_at i)) (filter (is_of g) (x ∷ []))
+      ∙ ap (λ (k : ℕ). length (filter (is_of g) (messages_at m queue_at i)) + k) (one (eqb (word m (queue_at + queue_stride * i)) g) refl)
     where
-      one : (t : Bool) → eqb (word m (queueAt + queueStride * i)) g ≡ t
-          → length (filter (is_of g) (messageAt m (queueAt + queueStride * i) ∷ [])) ≡ cond (eqb (word m (queueAt + queueStride * i)) g) 1 0
-      one true e = ap length (filter-pass (is_of g) (messageAt m (queueAt + queueStride * i)) [] e) ∙ rw e
-      one false e = ap length (filter-fail (is_of g) (messageAt m (queueAt + queueStride * i)) [] e) ∙ rw e
+      one : (t : Bool) → eqb (word m (queue_at + queue_stride * i)) g ≡ t
+          → length (filter (is_of g) (message_at m (queue_at + queue_stride * i) ∷ [])) ≡ cond (eqb (word m (queue_at + queue_stride * i)) g) 1 0
+      one true e = ap length (filter-pass (is_of g) (message_at m (queue_at + queue_stride * i)) [] e) ∙ rw e
+      one false e = ap length (filter-fail (is_of g) (message_at m (queue_at + queue_stride * i)) [] e) ∙ rw e
 
   -- no more than there are
-  pub queued-few : (i g : ℕ) → queuedOf m i g ≤ i
-  unfolding queuedOf
-  queued-few i g = omega (arith, filter-short (is_of g) (messagesAt m queueAt i), length-records (messages m) queueAt i)
+  pub queued-few : (i g : ℕ) → queued_of m i g ≤ i
+  unfolding queued_of
+  queued-few i g = omega (arith, filter-short (is_of g) (messages_at m queue_at i), length-records (messages m) queue_at i)
 
   -- at first none
   pub counts-none : QueueCounts m 0 (replicate 9 0)
-  unfolding queuedOf messagesAt
+  unfolding queued_of messages_at
   counts-none = record { sized = length-replicate {A = ℕ} 9 0; each = λ g h. get_or-replicate 9 g 0 0 h }
 
   -- one message more
-  pub counts-more : (i w : ℕ) (counts : List ℕ) → QueueCounts m i counts → w ≡ word m (queueAt + queueStride * i + 0) → w < 9
+  pub counts-more : (i w : ℕ) (counts : List ℕ) → QueueCounts m i counts → w ≡ word m (queue_at + queue_stride * i + 0) → w < 9
       → QueueCounts m (i + 1) (set counts w (get_or counts w 0 + 1))
   counts-more i w counts k e h =
       record { sized = length-set counts w (get_or counts w 0 + 1) ∙ k.sized; each = λ g l. one g l (ℕ_discrete w g) }
     where
-      here : word m (queueAt + queueStride * i) ≡ w
-      here = let z : queueAt + queueStride * i + 0 ≡ queueAt + queueStride * i = omega arith in sym (rw z at e)
+      here : word m (queue_at + queue_stride * i) ≡ w
+      here = let z : queue_at + queue_stride * i + 0 ≡ queue_at + queue_stride * i = omega arith in sym (rw z at e)
 
-      one : (g : ℕ) → g < 9 → Dec (w ≡ g) → get_or (set counts w (get_or counts w 0 + 1)) g 0 ≡ queuedOf m (i + 1) g
+      one : (g : ℕ) → g < 9 → Dec (w ≡ g) → get_or (set counts w (get_or counts w 0 + 1)) g 0 ≡ queued_of m (i + 1) g
       one g l (yes q) =
           rw (← q, get_or-set_same counts w (get_or counts w 0 + 1) 0 (rw k.sized h), queued-more i w, here, eq-eqb w w refl)
           (omega (arith, k.each w h))
@@ -82,26 +82,26 @@ module _ (m : List ℕ) where
           (omega (arith, k.each g l))
 
   -- a message in the queue is of one of the groups
-  pub known-group : Lined m → (i w : ℕ) → i < word m queued_at → w ≡ word m (queueAt + queueStride * i + 0) → w < 9
+  pub known-group : Lined m → (i w : ℕ) → i < word m queued_at → w ≡ word m (queue_at + queue_stride * i + 0) → w < 9
   known-group l i w h e =
-      let z : queueAt + queueStride * i + 0 ≡ queueAt + queueStride * i = omega arith in
+      let z : queue_at + queue_stride * i + 0 ≡ queue_at + queue_stride * i = omega arith in
       let here = rw z at e in
       omega (arith, l.groups i h)
 
   -- Group g of the node.
 
-  module _ (g : ℕ) (low : 1 ≤ g) (high : g ≤ groupCount) where
+  module _ (g : ℕ) (low : 1 ≤ g) (high : g ≤ group_count) where
     -- is read at its address
-    pub group-read : group_of (nodeAt m) g ≡ groupAt m (groupAddress g)
-    unfolding group_of nodeAt groupAddress
+    pub group-read : group_of (node_at m) g ≡ group_at m (group_address g)
+    unfolding group_of node_at group_address
     group-read =
         let e : pred g ≡ g - 1 = omega arith in
-        record-at (groups m) emptyGroup groupsAt groupCount (pred g) (omega arith) ∙ ap (λ (i : ℕ). groupAt m (groupsAt + groupStride * i)) e
+        record-at (groups m) empty_group groups_at group_count (pred g) (omega arith) ∙ ap (λ (i : ℕ). group_at m (groups_at + group_stride * i)) e
 
     -- its pledge
-    pub pledge-words : pledge paper01 (nodeAt m) g
-        ≡ ceilDiv (word m (groupAddress g + usedOffset) + word m (groupAddress g + countOffset) + queuedOf m (word m queued_at) g) 8
-    unfolding pledge groupAt bufferAt inQueue nodeAt queuedOf
+    pub pledge-words : pledge paper01 (node_at m) g
+        ≡ ceil_div (word m (group_address g + used_offset) + word m (group_address g + count_offset) + queued_of m (word m queued_at) g) 8
+    unfolding pledge group_at buffer_at in_queue node_at queued_of
     pledge-words = rw group-read
 
 -- the sum over a range and one more
@@ -110,21 +110,21 @@ sum_more f a zero = let e : a + 0 ≡ a = omega arith in rw e (omega arith)
 sum_more f a (suc k) = let e : suc a + k ≡ a + suc k = omega arith in rw (suc-add, ← e) (omega (arith, sum_more f (suc a) k))
 
 -- the pledges of the groups below g, summed
-unfoldable pub pledgedTo : List ℕ → ℕ → ℕ
-pledgedTo m g = sum (map (pledge paper01 (nodeAt m)) (up_from 1 (g - 1)))
+unfoldable pub pledged_to : List ℕ → ℕ → ℕ
+pledged_to m g = sum (map (pledge paper01 (node_at m)) (up_from 1 (g - 1)))
 
 module _ (m : List ℕ) where
-  pub pledged-none : 0 ≡ pledgedTo m 1
-  unfolding pledgedTo
+  pub pledged-none : 0 ≡ pledged_to m 1
+  unfolding pledged_to
   pledged-none = refl
 
-  pub pledged-more : (g p : ℕ) → 1 ≤ g → p ≡ pledge paper01 (nodeAt m) g → pledgedTo m (g + 1) ≡ pledgedTo m g + p
-  unfolding pledgedTo
+  pub pledged-more : (g p : ℕ) → 1 ≤ g → p ≡ pledge paper01 (node_at m) g → pledged_to m (g + 1) ≡ pledged_to m g + p
+  unfolding pledged_to
   pledged-more g p low e =
       let k : g + 1 - 1 ≡ (g - 1) + 1 = omega arith in
       let here : 1 + (g - 1) ≡ g = omega arith in
-      rw (e, k) (sum_more (pledge paper01 (nodeAt m)) 1 (g - 1) ∙ rw here)
+      rw (e, k) (sum_more (pledge paper01 (node_at m)) 1 (g - 1) ∙ rw here)
 
-  pub pledged-all : (g : ℕ) → g ≡ 9 → pledges paper01 (nodeAt m) ≡ pledgedTo m g
-  unfolding pledgedTo pledges
+  pub pledged-all : (g : ℕ) → g ≡ 9 → pledges paper01 (node_at m) ≡ pledged_to m g
+  unfolding pledged_to pledges
   pledged-all g e = rw e

@@ -7,11 +7,11 @@ use native.Mathlib.Omega.{arith}
 use borrow.Author.Tests.{le-leb, lt-leb}
 use lib.Dec.{leb, eqb}
 use Rattle.rules.specs.Lists.{all, up_from}
-use Rattle.rules.specs.Build.{groupCount}
-use Rattle.rules.specs.Valid.{onlyAtomic}
-use Rattle.rules.specs.Memory.{word, groupAddress, queueAt, queueStride, queued_at, freeCountAt, swapCountAt, enteredCountAt, heldOffset, describedOffset, atomicOffset, pendingOffset, forceOffset, revokedOffset, flagAt, groupAt}
-use Rattle.rules.specs.MemoryTest.{lengthInBounds, groupCounts, countsInBounds, groupFlags}
-use Rattle.validate.specs.Clauses.{flagsAtomic, flagsGood}
+use Rattle.rules.specs.Build.{group_count}
+use Rattle.rules.specs.Valid.{only_atomic}
+use Rattle.rules.specs.Memory.{word, group_address, queue_at, queue_stride, queued_at, free_count_at, swap_count_at, entered_count_at, held_offset, described_offset, atomic_offset, pending_offset, force_offset, revoked_offset, flag_at, group_at}
+use Rattle.rules.specs.MemoryTest.{length_in_bounds, group_counts, counts_in_bounds, group_flags}
+use Rattle.validate.specs.Clauses.{flags_atomic, flags_good}
 use Rattle.validate.proofs.RangeLaws.{and-fails, and-passes}
 
 -- a bound that does not hold decides
@@ -40,102 +40,102 @@ only-parted false false q r s = refl
 
 module _ (m : List ℕ) where
   -- a list of more than 96 pages
-  pub held-over : (g : ℕ) → 96 < word m (groupAddress g + heldOffset) → groupCounts m g ≡ false
-  unfolding groupCounts
+  pub held-over : (g : ℕ) → 96 < word m (group_address g + held_offset) → group_counts m g ≡ false
+  unfolding group_counts
   held-over g h = over _ 96 _ h
 
   -- else the descriptor's length
-  pub held-within : (g d : ℕ) → word m (groupAddress g + heldOffset) ≤ 96 → d ≡ word m (groupAddress g + describedOffset)
-      → groupCounts m g ≡ leb d 8
-  unfolding groupCounts
+  pub held-within : (g d : ℕ) → word m (group_address g + held_offset) ≤ 96 → d ≡ word m (group_address g + described_offset)
+      → group_counts m g ≡ leb d 8
+  unfolding group_counts
   held-within g d h e = rw e (within _ 96 _ _ h refl)
 
   -- The flags of group g: all that is asked of them is that none is above atomic, whose word is a, and that a is at most 1.
 
   module _ (g a : ℕ) where
     -- the timer's flags, force above atomic
-    pub force-over : a < word m (groupAddress g + forceOffset)
-        → leb (word m (groupAddress g + forceOffset)) a && leb (word m (groupAddress g + revokedOffset)) a ≡ false
+    pub force-over : a < word m (group_address g + force_offset)
+        → leb (word m (group_address g + force_offset)) a && leb (word m (group_address g + revoked_offset)) a ≡ false
     force-over h = over _ a _ h
 
     -- else revoked
-    pub force-within : (r : ℕ) → word m (groupAddress g + forceOffset) ≤ a → r ≡ word m (groupAddress g + revokedOffset)
-        → leb (word m (groupAddress g + forceOffset)) a && leb (word m (groupAddress g + revokedOffset)) a ≡ leb r a
+    pub force-within : (r : ℕ) → word m (group_address g + force_offset) ≤ a → r ≡ word m (group_address g + revoked_offset)
+        → leb (word m (group_address g + force_offset)) a && leb (word m (group_address g + revoked_offset)) a ≡ leb r a
     force-within r h e = rw e (within _ a _ _ h refl)
 
-    module _ (atomic : a ≡ word m (groupAddress g + atomicOffset)) where
+    module _ (atomic : a ≡ word m (group_address g + atomic_offset)) where
       -- atomic above 1
-      pub atomic-over : 1 < a → flagsGood m g ≡ false
-      unfolding flagsGood groupFlags
+      pub atomic-over : 1 < a → flags_good m g ≡ false
+      unfolding flags_good group_flags
       atomic-over h = rw (← atomic, lt-leb a 1 h)
 
       -- else the others
       others : a ≤ 1
-          → flagsGood m g
-          ≡ leb (word m (groupAddress g + pendingOffset)) a
-          && (leb (word m (groupAddress g + forceOffset)) a && leb (word m (groupAddress g + revokedOffset)) a)
-      unfolding flagsGood groupFlags flagsAtomic onlyAtomic groupAt flagAt
+          → flags_good m g
+          ≡ leb (word m (group_address g + pending_offset)) a
+          && (leb (word m (group_address g + force_offset)) a && leb (word m (group_address g + revoked_offset)) a)
+      unfolding flags_good group_flags flags_atomic only_atomic group_at flag_at
       others h =
-          let p = word m (groupAddress g + pendingOffset) in
-          let f = word m (groupAddress g + forceOffset) in
-          let r = word m (groupAddress g + revokedOffset) in
+          let p = word m (group_address g + pending_offset) in
+          let f = word m (group_address g + force_offset) in
+          let r = word m (group_address g + revoked_offset) in
           rw (← atomic, le-leb a 1 h)
           (only-parted (eqb a 1) (leb p 1) (eqb p 1) (leb f 1 && leb r 1) (eqb f 1 || eqb r 1)
           ∙ rw (only-parted (eqb a 1) (leb f 1) (eqb f 1) (leb r 1) (eqb r 1), only_one a p h, only_one a f h, only_one a r h))
 
       -- pending above atomic
-      pub pending-over : a ≤ 1 → a < word m (groupAddress g + pendingOffset) → flagsGood m g ≡ false
+      pub pending-over : a ≤ 1 → a < word m (group_address g + pending_offset) → flags_good m g ≡ false
       pending-over h p = others h ∙ over _ a _ p
 
       -- else the timer's flags
-      pub pending-within : (t : Bool) → a ≤ 1 → word m (groupAddress g + pendingOffset) ≤ a
-          → leb (word m (groupAddress g + forceOffset)) a && leb (word m (groupAddress g + revokedOffset)) a ≡ t → flagsGood m g ≡ t
+      pub pending-within : (t : Bool) → a ≤ 1 → word m (group_address g + pending_offset) ≤ a
+          → leb (word m (group_address g + force_offset)) a && leb (word m (group_address g + revoked_offset)) a ≡ t → flags_good m g ≡ t
       pending-within t h p e = others h ∙ within _ a _ t p e
 
   -- the length of message i
-  pub length_over : (i : ℕ) → 8 < word m (queueAt + queueStride * i + 1) → lengthInBounds m i ≡ false
-  unfolding lengthInBounds
+  pub length_over : (i : ℕ) → 8 < word m (queue_at + queue_stride * i + 1) → length_in_bounds m i ≡ false
+  unfolding length_in_bounds
   length_over i h = lt-leb _ 8 h
 
-  pub length-within : (i : ℕ) → word m (queueAt + queueStride * i + 1) ≤ 8 → lengthInBounds m i ≡ true
-  unfolding lengthInBounds
+  pub length-within : (i : ℕ) → word m (queue_at + queue_stride * i + 1) ≤ 8 → length_in_bounds m i ≡ true
+  unfolding length_in_bounds
   length-within i h = le-leb _ 8 h
 
   -- the counts, one after the other
-  pub queued-over : 16 < word m queued_at → countsInBounds m ≡ false
-  unfolding countsInBounds
+  pub queued-over : 16 < word m queued_at → counts_in_bounds m ≡ false
+  unfolding counts_in_bounds
   queued-over h = over _ 16 _ h
 
-  pub free-over : word m queued_at ≤ 16 → 32 < word m freeCountAt → countsInBounds m ≡ false
-  unfolding countsInBounds
+  pub free-over : word m queued_at ≤ 16 → 32 < word m free_count_at → counts_in_bounds m ≡ false
+  unfolding counts_in_bounds
   free-over q h = within _ 16 _ _ q (over _ 32 _ h)
 
   -- a swap line of more than 64
-  pub swap-over : 64 < word m swapCountAt → leb (word m swapCountAt) 64 && leb (word m enteredCountAt) 32 ≡ false
+  pub swap-over : 64 < word m swap_count_at → leb (word m swap_count_at) 64 && leb (word m entered_count_at) 32 ≡ false
   swap-over h = over _ 64 _ h
 
   -- else the order of entry
-  pub swap-within : word m swapCountAt ≤ 64 → leb (word m swapCountAt) 64 && leb (word m enteredCountAt) 32 ≡ leb (word m enteredCountAt) 32
+  pub swap-within : word m swap_count_at ≤ 64 → leb (word m swap_count_at) 64 && leb (word m entered_count_at) 32 ≡ leb (word m entered_count_at) 32
   swap-within h = within _ 64 _ _ h refl
 
-  module _ (q : word m queued_at ≤ 16) (f : word m freeCountAt ≤ 32) where
-    pub paging-over : leb (word m swapCountAt) 64 && leb (word m enteredCountAt) 32 ≡ false → countsInBounds m ≡ false
-    unfolding countsInBounds
-    paging-over h = within _ 16 _ _ q (within _ 32 _ _ f (sym (and_assoc (leb (word m swapCountAt) 64) (leb (word m enteredCountAt) 32) _) ∙ and-fails _ _ h))
+  module _ (q : word m queued_at ≤ 16) (f : word m free_count_at ≤ 32) where
+    pub paging-over : leb (word m swap_count_at) 64 && leb (word m entered_count_at) 32 ≡ false → counts_in_bounds m ≡ false
+    unfolding counts_in_bounds
+    paging-over h = within _ 16 _ _ q (within _ 32 _ _ f (sym (and_assoc (leb (word m swap_count_at) 64) (leb (word m entered_count_at) 32) _) ∙ and-fails _ _ h))
 
-    module _ (p : leb (word m swapCountAt) 64 && leb (word m enteredCountAt) 32 ≡ true) where
+    module _ (p : leb (word m swap_count_at) 64 && leb (word m entered_count_at) 32 ≡ true) where
       -- the lines' within their bounds leave it to the others
-      lines-within : (t : Bool) → all (groupCounts m) (up_from 1 groupCount) && all (lengthInBounds m) (up_from 0 (word m queued_at)) ≡ t
-          → countsInBounds m ≡ t
-      unfolding countsInBounds
+      lines-within : (t : Bool) → all (group_counts m) (up_from 1 group_count) && all (length_in_bounds m) (up_from 0 (word m queued_at)) ≡ t
+          → counts_in_bounds m ≡ t
+      unfolding counts_in_bounds
       lines-within t h =
           within _ 16 _ _ q
           (within _ 32 _ _ f
-          (sym (and_assoc (leb (word m swapCountAt) 64) (leb (word m enteredCountAt) 32) _) ∙ and-passes _ _ t p h))
+          (sym (and_assoc (leb (word m swap_count_at) 64) (leb (word m entered_count_at) 32) _) ∙ and-passes _ _ t p h))
 
-      pub groups-over : all (groupCounts m) (up_from 1 groupCount) ≡ false → countsInBounds m ≡ false
+      pub groups-over : all (group_counts m) (up_from 1 group_count) ≡ false → counts_in_bounds m ≡ false
       groups-over h = lines-within false (and-fails _ _ h)
 
-      pub counts-within : (t : Bool) → all (groupCounts m) (up_from 1 groupCount) ≡ true
-          → all (lengthInBounds m) (up_from 0 (word m queued_at)) ≡ t → countsInBounds m ≡ t
+      pub counts-within : (t : Bool) → all (group_counts m) (up_from 1 group_count) ≡ true
+          → all (length_in_bounds m) (up_from 0 (word m queued_at)) ≡ t → counts_in_bounds m ≡ t
       counts-within t h l = lines-within t (and-passes _ _ _ h l)

@@ -4,7 +4,7 @@ use mathlib.Core.List.{List, ◌++◌}
 use mathlib.Core.Path.{ap}
 use lib.ListN.{drop}
 use borrow.Author.Rules.{rules}
-use Rattle.capi.specs.Carried.{lineRoom}
+use Rattle.capi.specs.Carried.{line_room}
 use Rattle.capi.proofs.CarriedLaws.{text-copied}
 use Rattle.capi.proofs.carried.put_kept.Statement.{statement}
 use Rattle.capi.proofs.carried.put_kept.Tie as tie
@@ -30,7 +30,7 @@ same_length c = search rules
 returns : tie.Need-returns
 returns c =
     let start = c.before.before.before.before.before.before in
-    (ap (λ (t : List ℕ). t ++ drop lineRoom start.args.bytes.now) (text-copied c.before.before.put-text.ensures (search rules)), search rules)
+    (ap (λ (t : List ℕ). t ++ drop line_room start.args.bytes.now) (text-copied c.before.before.put-text.ensures (search rules)), search rules)
 
 pub put-kept-spec : {M : Type 1} → statement M
 put-kept-spec =

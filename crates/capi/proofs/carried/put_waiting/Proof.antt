@@ -4,7 +4,7 @@ use mathlib.Core.List.{List, ◌++◌}
 use mathlib.Core.Path.{◌∙◌, ap}
 use lib.ListN.{drop, take}
 use lib.Seq.{drop-drop}
-use Rattle.capi.specs.Carried.{waitingAt}
+use Rattle.capi.specs.Carried.{waiting_at}
 use borrow.Author.Rules.{rules}
 use Rattle.capi.proofs.carried.put_waiting.Statement.{statement}
 use Rattle.capi.proofs.carried.put_waiting.Tie as tie
@@ -31,8 +31,8 @@ returns : tie.Need-returns
 returns c =
     let start = c.before.before.before.before.before.before in
     let w = start.args.words.now in (
-      ap (λ (x : List ℕ). take waitingAt w ++ (x ++ drop 16 (drop waitingAt w))) c.before.before.copy.ensures
-          ∙ ap (λ (x : List ℕ). take waitingAt w ++ (start.args.t2 ++ x)) (drop-drop 16 waitingAt w),
+      ap (λ (x : List ℕ). take waiting_at w ++ (x ++ drop 16 (drop waiting_at w))) c.before.before.copy.ensures
+          ∙ ap (λ (x : List ℕ). take waiting_at w ++ (start.args.t2 ++ x)) (drop-drop 16 waiting_at w),
       search rules,
     )
 

@@ -5,7 +5,7 @@ use native.Mathlib.Omega.{arith}
 use mathlib.Core.Path.{◌≡◌, refl}
 use lib.ListN.{length}
 use Rattle.rules.specs.Build.{paper01}
-use Rattle.script.specs.Feed.{keptLine}
+use Rattle.script.specs.Feed.{kept_line}
 use Rattle.script.proofs.feed.FeedLaws.{drop_all}
 use Rattle.follow.proofs.every.EveryLaws.{portion-tellable, told-stopped, told-used, waiting_few}
 use Rattle.follow.proofs.waiting.TellLaws.{fewer-said}
@@ -54,7 +54,7 @@ slice-aggregate-tell-lines-2 : tie.Need-slice-aggregate-tell-lines-2
 slice-aggregate-tell-lines-2 c = search rules
 
 tell-lines-requires : tie.Need-tell-lines-requires
-unfolding keptLine
+unfolding kept_line
 tell-lines-requires c κs = let z : c.before.before.before.before.before.behind-last.result - 0 ≡ c.before.before.before.before.before.behind-last.result = omega arith in rw z (portion-tellable c.before.before.before.before.before.before.before.before.before.before.before.before.before.before.before.before.before.before.args.memory.now c.before.before.before.before.before.before.before.before.before.before.before.before.before.before.before.before.before.before.args.state c.before.before.before.before.before.before.before.before.kept-count.result (let t = c.before.before.before.before.before.before.before.before.before.before.before.before.before.if1.false in omega arith) c.before.before.before.before.before.behind-last.ensures c.before.before.before.before.before.before.before.before.kept-count.ensures.1 c.before.before.before.before.before.before.before.before.before.before.before.is-node.ensures (let l : 130 ≡ length c.before.before.before.before.before.before.before.before.before.before.before.before.before.before.before.before.before.before.args.state.script.kept = slice-aggregate-tell-lines c.before.before.before in omega arith) c.before.before.before.before.before.before.before.before.kept-count.ensures.0 c.before.before.before.before.before.before.fewer.result (let l : 16 ≡ length c.before.before.before.before.before.before.before.before.before.before.before.before.before.before.before.before.before.before.args.state.waiting = slice-aggregate-tell-lines-2 c.before in omega arith) (waiting_few c.before.before.before.before.before.before.before.before.before.before.before.before.before.before.before.before.before.before.args.state c.before.before.before.before.before.before.fewer.result (let l : 16 ≡ length c.before.before.before.before.before.before.before.before.before.before.before.before.before.before.before.before.before.before.args.state.waiting = slice-aggregate-tell-lines-2 c.before in omega arith) (fewer-said c.before.before.before.before.before.before.before.before.before.before.before.before.before.before.before.before.before.before.args.state.count paper01.places c.before.before.before.before.before.before.fewer.ensures)).1)
 
 portion-told-requires : tie.Need-portion-told-requires
@@ -67,7 +67,7 @@ same-length-2 : tie.Need-same-length-2
 same-length-2 c = search rules
 
 returns-2 : tie.Need-returns-2
-unfolding keptLine
+unfolding kept_line
 returns-2 c = let z : c.before.before.before.before.before.before.before.before.before.before.before.before.before.before.before.behind-last.result - 0 ≡ c.before.before.before.before.before.before.before.before.before.before.before.before.before.before.before.behind-last.result = omega arith in
     rw c.portion-told.ensures (told-stopped c.before.before.before.before.before.before.before.before.before.before.before.before.before.before.before.before.before.before.before.before.before.before.before.before.before.before.before.before.args.memory.now c.before.before.before.before.before.before.before.before.before.before.before.before.before.before.before.before.before.before.before.before.before.before.before.before.before.before.before.before.args.state c.before.before.before.before.before.before.before.before.before.before.before.before.before.before.before.before.before.before.kept-count.result (let t = c.before.before.before.before.before.before.before.before.before.before.before.before.before.before.before.before.before.before.before.before.before.before.before.if1.false in omega arith) c.before.before.before.before.before.before.before.before.before.before.before.before.before.before.before.behind-last.ensures c.before.before.before.before.before.before.before.before.before.before.before.before.before.before.before.before.before.before.kept-count.ensures.1 c.before.before.before.before.before.before.before.before.before.before.before.before.before.before.before.before.fewer.result (waiting_few c.before.before.before.before.before.before.before.before.before.before.before.before.before.before.before.before.before.before.before.before.before.before.before.before.before.before.before.before.args.state c.before.before.before.before.before.before.before.before.before.before.before.before.before.before.before.before.fewer.result (let l : 16 ≡ length c.before.before.before.before.before.before.before.before.before.before.before.before.before.before.before.before.before.before.before.before.before.before.before.before.before.before.before.before.args.state.waiting = slice-aggregate-tell-lines-2 c.before.before.before.before.before.before.before.before.before.before.before in omega arith) (fewer-said c.before.before.before.before.before.before.before.before.before.before.before.before.before.before.before.before.before.before.before.before.before.before.before.before.before.before.before.before.args.state.count paper01.places c.before.before.before.before.before.before.before.before.before.before.before.before.before.before.before.before.fewer.ensures)).0 (rw z at c.before.before.before.before.before.before.before.before.before.tell-lines.ensures) c.before.if2.true)
 
@@ -96,7 +96,7 @@ same-length-4 : tie.Need-same-length-4
 same-length-4 c = search rules
 
 returns-3 : tie.Need-returns-3
-unfolding keptLine
+unfolding kept_line
 returns-3 c = let z : c.before.before.before.before.before.before.before.before.before.before.before.before.before.before.before.before.before.before.before.behind-last.result - 0 ≡ c.before.before.before.before.before.before.before.before.before.before.before.before.before.before.before.before.before.before.before.behind-last.result = omega arith in
     rw c.portion-told2.ensures (told-used c.before.before.before.before.before.before.before.before.before.before.before.before.before.before.before.before.before.before.before.before.before.before.before.before.before.before.before.before.before.before.before.before.args.memory.now c.before.before.before.before.before.before.before.before.before.before.before.before.before.before.before.before.before.before.before.before.before.before.before.before.before.before.before.before.before.before.before.before.args.state c.before.before.before.before.before.before.before.before.before.before.before.before.before.before.before.before.before.before.before.before.before.before.kept-count.result (let t = c.before.before.before.before.before.before.before.before.before.before.before.before.before.before.before.before.before.before.before.before.before.before.before.before.before.before.before.if1.false in omega arith) c.before.before.before.before.before.before.before.before.before.before.before.before.before.before.before.before.before.before.before.behind-last.ensures c.before.before.before.before.before.before.before.before.before.before.before.before.before.before.before.before.before.before.before.before.before.before.kept-count.ensures.1 c.before.before.before.before.before.before.before.before.before.before.before.before.before.before.before.before.before.before.before.before.fewer.result (waiting_few c.before.before.before.before.before.before.before.before.before.before.before.before.before.before.before.before.before.before.before.before.before.before.before.before.before.before.before.before.before.before.before.before.args.state c.before.before.before.before.before.before.before.before.before.before.before.before.before.before.before.before.before.before.before.before.fewer.result (let l : 16 ≡ length c.before.before.before.before.before.before.before.before.before.before.before.before.before.before.before.before.before.before.before.before.before.before.before.before.before.before.before.before.before.before.before.before.args.state.waiting = slice-aggregate-tell-lines-2 c.before.before.before.before.before.before.before.before.before.before.before.before.before.before.before in omega arith) (fewer-said c.before.before.before.before.before.before.before.before.before.before.before.before.before.before.before.before.before.before.before.before.before.before.before.before.before.before.before.before.before.before.before.before.args.state.count paper01.places c.before.before.before.before.before.before.before.before.before.before.before.before.before.before.before.before.before.before.before.before.fewer.ensures)).0 (rw z at c.before.before.before.before.before.before.before.before.before.before.before.before.before.tell-lines.ensures) c.before.before.before.before.before.if2.false c.before.before.keep.new.0 c.before.before.keep.result (rw (drop_all c.before.before.before.before.before.before.before.before.before.before.before.before.before.before.before.before.before.before.before.before.before.before.before.before.before.before.before.before.before.before.before.before.args.input.now c.before.before.before.before.before.before.before.before.before.before.before.before.before.before.before.before.before.before.before.behind-last.result) at c.before.before.keep.ensures.0))
 

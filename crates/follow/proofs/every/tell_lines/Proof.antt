@@ -4,7 +4,7 @@ use Prim.Native.Nat.{◌-◌}
 use native.Mathlib.Omega.{arith}
 use mathlib.Core.Path.{◌≡◌, ◌∙◌, refl}
 use lib.ListN.{length, take}
-use Rattle.script.specs.Read.{fieldLimit}
+use Rattle.script.specs.Read.{field_limit}
 use Rattle.follow.proofs.every.EveryLaws.{Telling-lines, telling-end, telling-more, telling-start}
 use Rattle.follow.proofs.portion.NextLaws.{next-forward}
 use Rattle.follow.proofs.portion.PassedLaws.{passed-next}
@@ -24,7 +24,7 @@ invariant-loop memory₀ good kept₀ begun whole lines waiting₀ count out₀ 
     × ((length kept ≡ length kept₀)
     × ((length waiting ≡ length waiting₀)
     × ((length out ≡ length out₀)
-    × ((length fields ≡ fieldLimit)
+    × ((length fields ≡ field_limit)
     × ((r.stop ≡ 0) × Telling-lines memory₀ (take begun kept₀) whole lines (take count waiting₀) out₀ memory kept waiting out r)))))
 
 abbrev decreases-loop : tie.decreases-loop

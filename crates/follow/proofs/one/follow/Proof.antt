@@ -4,7 +4,7 @@ use Prim.Native.Nat.{◌-◌}
 use native.Mathlib.Omega.{arith}
 use mathlib.Core.Path.{◌≡◌, refl}
 use lib.ListN.{length}
-use Rattle.script.specs.Feed.{keptLine}
+use Rattle.script.specs.Feed.{kept_line}
 use Rattle.script.proofs.feed.FeedLaws.{drop_all}
 use Rattle.follow.proofs.one.FollowLaws.{portion-followed}
 use Rattle.follow.proofs.portion.PassedLaws.{portion-ahead}
@@ -47,7 +47,7 @@ part-follow-lines-end : tie.Need-slice-bounds-follow-lines-end
 part-follow-lines-end c = search rules
 
 follow-lines-requires : tie.Need-follow-lines-requires
-unfolding keptLine
+unfolding kept_line
 follow-lines-requires c κs = let z : c.before.before.before.before.behind-last.result - 0 ≡ c.before.before.before.before.behind-last.result = omega arith in rw z (portion-ahead c.before.before.before.before.before.before.before.before.before.before.before.before.before.before.args.memory.now c.before.before.before.before.before.before.before.before.before.before.before.before.before.before.args.state.script c.before.before.before.before.before.kept-count.result (let t = c.before.before.before.before.before.before.before.before.before.before.if1.false in omega arith) c.before.before.before.before.behind-last.ensures c.before.before.before.before.before.kept-count.ensures.1 c.before.before.before.before.before.before.before.before.is-node.ensures (let l : 130 ≡ length c.before.before.before.before.before.before.before.before.before.before.before.before.before.before.args.state.script.kept = slice-aggregate-follow-lines c.before in omega arith) c.before.before.before.before.before.kept-count.ensures.0)
 
 slice-aggregate-keep : tie.Need-slice-aggregate-keep
@@ -69,7 +69,7 @@ same_length : tie.Need-same-length
 same_length c = search rules
 
 returns-2 : tie.Need-returns-2
-unfolding keptLine
+unfolding kept_line
 returns-2 c = let z : c.before.before.before.before.before.before.before.before.before.before.before.before.before.behind-last.result - 0 ≡ c.before.before.before.before.before.before.before.before.before.before.before.before.before.behind-last.result = omega arith in
     portion-followed c.before.before.before.before.before.before.before.before.before.before.before.before.before.before.before.before.before.before.before.before.before.before.before.args.memory.now c.before.before.before.before.before.before.before.before.before.before.before.before.before.before.before.before.before.before.before.before.before.before.before.args.state c.before.before.before.before.before.before.before.before.before.before.before.before.before.before.kept-count.result (let t = c.before.before.before.before.before.before.before.before.before.before.before.before.before.before.before.before.before.before.before.if1.false in omega arith) c.before.before.before.before.before.before.before.before.before.before.before.before.before.behind-last.ensures c.before.before.before.before.before.before.before.before.before.before.before.before.before.before.kept-count.ensures.1 (rw z at c.before.before.before.before.before.before.before.before.follow-lines.ensures) c.before.before.keep.new.0 c.before.before.keep.result
     (rw (drop_all c.before.before.before.before.before.before.before.before.before.before.before.before.before.before.before.before.before.before.before.before.before.before.before.args.input.now c.before.before.before.before.before.before.before.before.before.before.before.before.before.behind-last.result) at c.before.before.keep.ensures.0)

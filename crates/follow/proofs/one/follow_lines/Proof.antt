@@ -4,7 +4,7 @@ use Prim.Native.Nat.{◌-◌}
 use native.Mathlib.Omega.{arith}
 use mathlib.Core.Path.{◌≡◌, ◌∙◌, refl}
 use lib.ListN.{length, take}
-use Rattle.script.specs.Read.{fieldLimit}
+use Rattle.script.specs.Read.{field_limit}
 use Rattle.follow.proofs.one.FollowLaws.{Going, going_end, going_more, going_start}
 use Rattle.follow.proofs.portion.PassedLaws.{passed-next}
 use Rattle.follow.proofs.portion.NextLaws.{next-forward}
@@ -24,7 +24,7 @@ abbrev invariant-loop : tie.invariant-loop
 invariant-loop memory₀ good kept₀ count whole lines wanted fields₀ at₀ r₀ memory kept fields at r =
     (length memory ≡ length memory₀)
     × ((length kept ≡ length kept₀)
-    × ((length fields ≡ fieldLimit) × Going memory₀ (take count kept₀) whole lines wanted r₀.followed memory kept at r))
+    × ((length fields ≡ field_limit) × Going memory₀ (take count kept₀) whole lines wanted r₀.followed memory kept at r))
 
 abbrev decreases-loop : tie.decreases-loop
 decreases-loop memory₀ good kept₀ count whole lines wanted fields₀ at₀ r₀ memory kept fields at r = length whole - at

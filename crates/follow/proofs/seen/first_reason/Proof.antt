@@ -1,8 +1,8 @@
 -- `follow::seen::first_reason` meets its contract: each arm has the reason of its operation. Assumes nothing.
 use native.Mathlib.Omega.{arith}
 use mathlib.Core.Path.{refl}
-use Rattle.rules.specs.Types.{operationOf}
-use Rattle.reasons.specs.ByPlace.{firstReason}
+use Rattle.rules.specs.Types.{operation_of}
+use Rattle.reasons.specs.ByPlace.{first_reason}
 use Rattle.follow.proofs.seen.ReasonLaws.{arrival-known, first-none, first-named, first-quiet}
 use borrow.Author.Rules.{rules}
 use Rattle.follow.proofs.seen.first_reason.Statement.{statement}
@@ -30,23 +30,23 @@ enum-told-4 : tie.Need-enum-told-4
 enum-told-4 c = search rules
 
 returns-2 : tie.Need-returns-2
-unfolding operationOf firstReason
+unfolding operation_of first_reason
 returns-2 c = first-named c.before.before.before.before.before.before.args.memory.now c.before.before.before.before.before.before.args.op c.before.before.op.given.1 c.before.before.before.before.before.before.args.left (λ ws. c.own-reason.ensures)
 
 returns-3 : tie.Need-returns-3
-unfolding operationOf firstReason
+unfolding operation_of first_reason
 returns-3 c = first-named c.before.before.before.before.args.memory.now c.before.before.before.before.args.op c.enum_told.given.1 c.before.before.before.before.args.left (λ ws. refl)
 
 returns-4 : tie.Need-returns-4
-unfolding operationOf firstReason
+unfolding operation_of first_reason
 returns-4 c = first-named c.before.before.before.before.args.memory.now c.before.before.before.before.args.op c.enum-told2.given.1 c.before.before.before.before.args.left (λ ws. refl)
 
 returns-5 : tie.Need-returns-5
-unfolding operationOf firstReason
+unfolding operation_of first_reason
 returns-5 c = first-named c.before.before.before.before.args.memory.now c.before.before.before.before.args.op c.enum-told3.given.1 c.before.before.before.before.args.left (λ ws. refl)
 
 returns-6 : tie.Need-returns-6
-unfolding operationOf firstReason
+unfolding operation_of first_reason
 returns-6 c = first-named c.before.before.before.before.args.memory.now c.before.before.before.before.args.op c.enum-told4.given.1 c.before.before.before.before.args.left (λ ws. refl)
 
 returns-7 : tie.Need-returns-7

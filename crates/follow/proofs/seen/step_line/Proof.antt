@@ -1,6 +1,6 @@
 -- `follow::seen::step_line` meets its contract: the line is read and stepped, and what is seen of it is told by its operation, its report and the memory after it. Assumes nothing.
 use mathlib.Core.Path.{ap, ◌∙◌}
-use Rattle.rules.specs.Types.{operationOf}
+use Rattle.rules.specs.Types.{operation_of}
 use Rattle.follow.proofs.seen.SeenLaws.{line-stepped, step-known-arrival, step-known-node}
 use borrow.Author.Rules.{rules}
 use Rattle.follow.proofs.seen.step_line.Statement.{statement}
@@ -37,7 +37,7 @@ same-length-2 : tie.Need-same-length-2
 same-length-2 c = search rules
 
 returns : tie.Need-returns
-returns c = line-stepped _ _ _ c.before.before.before.before.before.before.before.before.before.before.step-known.ensures c.before.before.before.before.before.before.is-arrival.ensures (ap (operationOf c.before.before.before.before.before.before.before.before.before.before.before.before.before.before.before.before.read_at.result.op) c.before.before.before.before.before.before.before.before.before.before.before.words_of.ensures ∙ c.before.before.before.before.before.before.before.before.before.before.before.before.before.before.before.before.read_at.ensures.operation) c.before.before.before.before.before.before.before.before.before.before.before.before.before.before.before.before.read_at.ensures.next c.before.before.before.before.before.left_by.ensures.0 c.before.before.before.before.before.left_by.ensures.1 c.before.before.before.queued-after.ensures c.before.first-reason.ensures c.later-reason.ensures
+returns c = line-stepped _ _ _ c.before.before.before.before.before.before.before.before.before.before.step-known.ensures c.before.before.before.before.before.before.is-arrival.ensures (ap (operation_of c.before.before.before.before.before.before.before.before.before.before.before.before.before.before.before.before.read_at.result.op) c.before.before.before.before.before.before.before.before.before.before.before.words_of.ensures ∙ c.before.before.before.before.before.before.before.before.before.before.before.before.before.before.before.before.read_at.ensures.operation) c.before.before.before.before.before.before.before.before.before.before.before.before.before.before.before.before.read_at.ensures.next c.before.before.before.before.before.left_by.ensures.0 c.before.before.before.before.before.left_by.ensures.1 c.before.before.before.queued-after.ensures c.before.first-reason.ensures c.later-reason.ensures
 
 pub step-line-spec : {M : Type 1} → statement M
 step-line-spec =

@@ -1,8 +1,8 @@
 -- `follow::text::put_reason` meets its contract: each arm has the words of its reason. Assumes nothing.
 use native.Mathlib.Omega.{arith}
 use mathlib.Core.Path.{refl}
-use Rattle.reasons.specs.Why.{reasonWords}
-use Rattle.follow.specs.Text.{wordsRoom}
+use Rattle.reasons.specs.Why.{reason_words}
+use Rattle.follow.specs.Text.{words_room}
 use Rattle.follow.proofs.text.WhyLaws.{words-else, words-none, words-put}
 use borrow.Author.Rules.{rules}
 use Rattle.follow.proofs.text.put_reason.Statement.{statement}
@@ -51,57 +51,57 @@ put-text-requires-7 : tie.Need-put-text-requires-7
 put-text-requires-7 c κs = search rules
 
 returns : tie.Need-returns
-unfolding reasonWords
-returns c = words-none c.before.before.args.out.now c.before.before.args.at c.before.before.args.reason wordsRoom c.match.keys1
+unfolding reason_words
+returns c = words-none c.before.before.args.out.now c.before.before.args.at c.before.before.args.reason words_room c.match.keys1
 
 same_length : tie.Need-same-length
 same_length c = search rules
 
 returns-2 : tie.Need-returns-2
-unfolding reasonWords
-returns-2 c = words-put c.before.before.before.before.before.before.before.args.reason 1 wordsRoom c.before.before.before.before.before.match.keys2 refl (omega arith) c.before.before.put-text.ensures
+unfolding reason_words
+returns-2 c = words-put c.before.before.before.before.before.before.before.args.reason 1 words_room c.before.before.before.before.before.match.keys2 refl (omega arith) c.before.before.put-text.ensures
 
 same-length-2 : tie.Need-same-length-2
 same-length-2 c = search rules
 
 returns-3 : tie.Need-returns-3
-unfolding reasonWords
-returns-3 c = words-put c.before.before.before.before.before.before.before.args.reason 2 wordsRoom c.before.before.before.before.before.match.keys3 refl (omega arith) c.before.before.put-text2.ensures
+unfolding reason_words
+returns-3 c = words-put c.before.before.before.before.before.before.before.args.reason 2 words_room c.before.before.before.before.before.match.keys3 refl (omega arith) c.before.before.put-text2.ensures
 
 same-length-3 : tie.Need-same-length-3
 same-length-3 c = search rules
 
 returns-4 : tie.Need-returns-4
-unfolding reasonWords
-returns-4 c = words-put c.before.before.before.before.before.before.before.args.reason 3 wordsRoom c.before.before.before.before.before.match.keys4 refl (omega arith) c.before.before.put-text3.ensures
+unfolding reason_words
+returns-4 c = words-put c.before.before.before.before.before.before.before.args.reason 3 words_room c.before.before.before.before.before.match.keys4 refl (omega arith) c.before.before.put-text3.ensures
 
 same-length-4 : tie.Need-same-length-4
 same-length-4 c = search rules
 
 returns-5 : tie.Need-returns-5
-unfolding reasonWords
-returns-5 c = words-put c.before.before.before.before.before.before.before.args.reason 4 wordsRoom c.before.before.before.before.before.match.keys5 refl (omega arith) c.before.before.put-text4.ensures
+unfolding reason_words
+returns-5 c = words-put c.before.before.before.before.before.before.before.args.reason 4 words_room c.before.before.before.before.before.match.keys5 refl (omega arith) c.before.before.put-text4.ensures
 
 same-length-5 : tie.Need-same-length-5
 same-length-5 c = search rules
 
 returns-6 : tie.Need-returns-6
-unfolding reasonWords
-returns-6 c = words-put c.before.before.before.before.before.before.before.args.reason 5 wordsRoom c.before.before.before.before.before.match.keys6 refl (omega arith) c.before.before.put-text5.ensures
+unfolding reason_words
+returns-6 c = words-put c.before.before.before.before.before.before.before.args.reason 5 words_room c.before.before.before.before.before.match.keys6 refl (omega arith) c.before.before.put-text5.ensures
 
 same-length-6 : tie.Need-same-length-6
 same-length-6 c = search rules
 
 returns-7 : tie.Need-returns-7
-unfolding reasonWords
-returns-7 c = words-put c.before.before.before.before.before.before.before.args.reason 6 wordsRoom c.before.before.before.before.before.match.keys7 refl (omega arith) c.before.before.put-text6.ensures
+unfolding reason_words
+returns-7 c = words-put c.before.before.before.before.before.before.before.args.reason 6 words_room c.before.before.before.before.before.match.keys7 refl (omega arith) c.before.before.put-text6.ensures
 
 same-length-7 : tie.Need-same-length-7
 same-length-7 c = search rules
 
 returns-8 : tie.Need-returns-8
-unfolding reasonWords
-returns-8 c = let r = c.before.before.before.before.before.match.rest in words-put c.before.before.before.before.before.before.before.args.reason c.before.before.before.before.before.before.before.args.reason wordsRoom refl (words-else c.before.before.before.before.before.before.before.args.reason r.0.0.0.0.0.0.1 r.0.0.0.0.0.1 r.0.0.0.0.1 r.0.0.0.1 r.0.0.1 r.0.1 r.1) (omega arith) c.before.before.put-text7.ensures
+unfolding reason_words
+returns-8 c = let r = c.before.before.before.before.before.match.rest in words-put c.before.before.before.before.before.before.before.args.reason c.before.before.before.before.before.before.before.args.reason words_room refl (words-else c.before.before.before.before.before.before.before.args.reason r.0.0.0.0.0.0.1 r.0.0.0.0.0.1 r.0.0.0.0.1 r.0.0.0.1 r.0.0.1 r.0.1 r.1) (omega arith) c.before.before.put-text7.ensures
 
 pub put-reason-spec : {M : Type 1} → statement M
 put-reason-spec =

@@ -3,7 +3,7 @@ use native.Mathlib.Omega.{arith}
 use mathlib.Core.Path.{◌∙◌}
 use lib.ListN.{length-set}
 use borrow.Author.Rules.{rules}
-use Rattle.rules.specs.Memory.{freeCountAt, swapCountAt}
+use Rattle.rules.specs.Memory.{free_count_at, swap_count_at}
 use Rattle.memory.proofs.WriteLaws.{wrote-set}
 use Rattle.memory.proofs.PowerOnLaws.{powered}
 use Rattle.memory.proofs.Node.start.Statement.{statement}
@@ -33,7 +33,7 @@ returns c =
     let w₁ = c.before.before.before.before.before.before.before.before.before.before.clear.ensures in
     let w₃ = c.before.before.before.before.before.before.count-up.ensures in
     let l = simp length-set at w₃.same_length in
-    powered long w₁ (wrote-set _ freeCountAt 32 (omega (arith, w₁.same_length))) w₃ (wrote-set _ swapCountAt 64 (omega (arith, w₁.same_length))) c.before.before.count-up2.ensures
+    powered long w₁ (wrote-set _ free_count_at 32 (omega (arith, w₁.same_length))) w₃ (wrote-set _ swap_count_at 64 (omega (arith, w₁.same_length))) c.before.before.count-up2.ensures
 
 pub start_spec : {M : Type 1} → statement M
 start_spec =

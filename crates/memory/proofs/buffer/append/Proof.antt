@@ -5,7 +5,7 @@ use mathlib.Core.List.{List}
 use mathlib.Core.Logic.{⊎_elim}
 use mathlib.Core.Path.{◌≡◌, sym, ap, ◌∙◌, subst}
 use lib.ListN.{length}
-use Rattle.rules.specs.Memory.{word, groupAddress, groupStride, usedOffset, countOffset, heldOffset}
+use Rattle.rules.specs.Memory.{word, group_address, group_stride, used_offset, count_offset, held_offset}
 use Rattle.rules.specs.Node.{Node}
 use Rattle.memory.specs.Holds.{Holds, Storable}
 use Rattle.memory.specs.Writes.{InGroup}
@@ -16,15 +16,15 @@ use Rattle.memory.proofs.buffer.append.Tie as tie
 facts : (c : tie.Start) → Ends c.args.m.now c.args.g
 facts c = ends c.requires.1.holds c.args.g c.requires.0.0 c.requires.0.1 c.requires.1.fact.0
 
-in_group : (c : tie.Start) (k : ℕ) → k < groupStride → InGroup c.args.m.now c.args.g k
+in_group : (c : tie.Start) (k : ℕ) → k < group_stride → InGroup c.args.m.now c.args.g k
 in_group c k h = record { long = (facts c).long; low = c.requires.0.0; high = c.requires.0.1; inside = h }
 
 -- what is read
 abbrev Read : tie.After-group-word3 → Type 0
 Read c =
-    (c.group-word3.result ≡ word c.before.before.before.before.before.before.before.args.m.now (groupAddress c.before.before.before.before.before.before.before.args.g + heldOffset))
-    × ((c.before.before.group-word2.result ≡ word c.before.before.before.before.before.before.before.args.m.now (groupAddress c.before.before.before.before.before.before.before.args.g + countOffset))
-    × (c.before.before.before.before.group-word.result ≡ word c.before.before.before.before.before.before.before.args.m.now (groupAddress c.before.before.before.before.before.before.before.args.g + usedOffset)))
+    (c.group-word3.result ≡ word c.before.before.before.before.before.before.before.args.m.now (group_address c.before.before.before.before.before.before.before.args.g + held_offset))
+    × ((c.before.before.group-word2.result ≡ word c.before.before.before.before.before.before.before.args.m.now (group_address c.before.before.before.before.before.before.before.args.g + count_offset))
+    × (c.before.before.before.before.group-word.result ≡ word c.before.before.before.before.before.before.before.args.m.now (group_address c.before.before.before.before.before.before.before.args.g + used_offset)))
 
 reads : (c : tie.After-group-word3) → Read c
 reads c = (c.group-word3.ensures, (c.before.before.group-word2.ensures, c.before.before.before.before.group-word.ensures))
@@ -39,7 +39,7 @@ ready c n r h fit =
     let q = reads c.before in
     ⊎_elim
     (λ w.
-    let full : 8 * word s.args.m.now (groupAddress g + heldOffset) ≤ word s.args.m.now (groupAddress g + usedOffset) + word s.args.m.now (groupAddress g + countOffset) =
+    let full : 8 * word s.args.m.now (group_address g + held_offset) ≤ word s.args.m.now (group_address g + used_offset) + word s.args.m.now (group_address g + count_offset) =
     omega (arith, w.0.taken) in
     subst (λ (k : List ℕ). Ready k g n r) (sym w.5)
     (ready-taken h g low high fit full (w.2.ensures n r h (full-left h g low high fit full))))
@@ -50,16 +50,16 @@ ready-length : (c : tie.Joined1) → length c.if1.m ≡ length c.before.before.b
 ready-length c = ⊎_elim (λ w. ap length w.5 ∙ w.2.kept.0) (λ w. ap length w.1) c.if1.branch
 
 group-word-requires : tie.Need-group-word-requires
-group-word-requires c κs = in_group c.before.before usedOffset (omega arith)
+group-word-requires c κs = in_group c.before.before used_offset (omega arith)
 
 group-word-requires-2 : tie.Need-group-word-requires-2
-group-word-requires-2 c κs = in_group c.before.before.before.before countOffset (omega arith)
+group-word-requires-2 c κs = in_group c.before.before.before.before count_offset (omega arith)
 
 add-end : tie.Need-overflow-add-end
 add-end c = let f = facts c.before.before.before.before.before in omega (arith, c.group-word2.ensures, c.before.before.group-word.ensures)
 
 group-word-requires-3 : tie.Need-group-word-requires-3
-group-word-requires-3 c κs = in_group c.before.before.before.before.before.before heldOffset (omega arith)
+group-word-requires-3 c κs = in_group c.before.before.before.before.before.before held_offset (omega arith)
 
 mul-places : tie.Need-overflow-mul-places
 mul-places c = let f = facts c.before.before.before.before.before.before.before in omega (arith, c.group-word3.ensures)
@@ -69,8 +69,8 @@ extend-requires c κs =
     let s = c.before.before.before.before.before.before.before.before.before in
     let p = s.requires.1 in
     let q = reads c.before.before in
-    let full : 8 * word s.args.m.now (groupAddress s.args.g + heldOffset)
-    ≤ word s.args.m.now (groupAddress s.args.g + usedOffset) + word s.args.m.now (groupAddress s.args.g + countOffset) =
+    let full : 8 * word s.args.m.now (group_address s.args.g + held_offset)
+    ≤ word s.args.m.now (group_address s.args.g + used_offset) + word s.args.m.now (group_address s.args.g + count_offset) =
     omega (arith, c.before.if1.true) in (
       s.requires.0,
       record {

@@ -6,7 +6,7 @@ use mathlib.Core.List.{List}
 use mathlib.Core.Logic.{◌≢◌, ◌⊎◌, inl, inr}
 use mathlib.Core.Path.{◌≡◌, sym, subst, ◌∙◌}
 use borrow.Author.Rules.{rules}
-use Rattle.rules.specs.Memory.{groupStride, usedOffset, countOffset}
+use Rattle.rules.specs.Memory.{group_stride, used_offset, count_offset}
 use Rattle.rules.specs.Node.{Node, group_of}
 use Rattle.memory.specs.Holds.{Emptied, Holds, Waits, wiping}
 use Rattle.memory.specs.Writes.{InGroup}
@@ -37,7 +37,7 @@ entry c = ((start c).requires.1.holds, (start c).requires.1.fact)
 held : (c : tie.After-wipe-first) {n : Node} {r : List ℕ} → Entry c n r → Holds c.wipe-first.new.0 (wiping (start c).args.g n) r
 held c {n} {r} e = c.wipe-first.ensures n r e.0 e.1
 
-within : (c : tie.After-wipe-first) (k : ℕ) → k < groupStride → InGroup c.wipe-first.new.0 (start c).args.g k
+within : (c : tie.After-wipe-first) (k : ℕ) → k < group_stride → InGroup c.wipe-first.new.0 (start c).args.g k
 within c k h = record { long = (holds-pieces (held c (entry c))).long; low = (start c).requires.0.0; high = (start c).requires.0.1; inside = h }
 
 -- what is read then is n, and h
@@ -73,7 +73,7 @@ wipe-first-requires : tie.Need-wipe-first-requires
 wipe-first-requires c κs = search rules
 
 group-word-requires : tie.Need-group-word-requires
-group-word-requires c κs = within c.before.before.before countOffset (omega arith)
+group-word-requires c κs = within c.before.before.before count_offset (omega arith)
 
 free-first-requires : tie.Need-free-first-requires
 free-first-requires c κs =
@@ -101,7 +101,7 @@ returns c n r h waits =
     (c.before.before.free-first.ensures (wiping s.args.g n) r (held (at-wipe d) (h, waits)) (emptied (at-wipe d) (h, waits) (inl one)))
 
 group-word-requires-2 : tie.Need-group-word-requires-2
-group-word-requires-2 c κs = within (at-wipe c.before.before) usedOffset (omega arith)
+group-word-requires-2 c κs = within (at-wipe c.before.before) used_offset (omega arith)
 
 free-first-requires-2 : tie.Need-free-first-requires-2
 free-first-requires-2 c κs =

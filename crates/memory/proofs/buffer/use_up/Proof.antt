@@ -5,7 +5,7 @@ use mathlib.Core.List.{List}
 use mathlib.Core.Path.{◌≡◌, ap, refl}
 use lib.ListN.{length}
 use borrow.Author.Rules.{rules}
-use Rattle.rules.specs.Memory.{countOffset, groupStride}
+use Rattle.rules.specs.Memory.{count_offset, group_stride}
 use Rattle.memory.specs.declared.group.Group.{Group as Group·rt}
 use Rattle.memory.specs.Writes.{InGroup}
 use Rattle.memory.proofs.buffer.FreeLaws.{Reads, reads, using-up-held}
@@ -15,11 +15,11 @@ use Rattle.memory.proofs.buffer.use_up.Tie as tie
 facts : (c : tie.Start) → Reads c.args.m.now c.args.g
 facts c = reads c.requires.1.holds c.args.g c.requires.0.0 c.requires.0.1 c.requires.1.fact
 
-in_group : (c : tie.Start) (m : List ℕ) (k : ℕ) → length m ≡ length c.args.m.now → k < groupStride → InGroup m c.args.g k
+in_group : (c : tie.Start) (m : List ℕ) (k : ℕ) → length m ≡ length c.args.m.now → k < group_stride → InGroup m c.args.g k
 in_group c m k l h = record { long = omega (arith, (facts c).long); low = c.requires.0.0; high = c.requires.0.1; inside = h }
 
 read-requires : tie.Need-read-requires
-read-requires c κs = in_group c.before.before _ countOffset refl (omega arith)
+read-requires c κs = in_group c.before.before _ count_offset refl (omega arith)
 
 add-set-counts : tie.Need-overflow-add-set-counts
 add-set-counts c = let e = ap (λ (x : Group·rt). x.used) c.before.before.read.ensures in let f = facts c.before.before.before.before.before in omega arith
@@ -28,7 +28,7 @@ sub-set-counts : tie.Need-overflow-sub-set-counts
 sub-set-counts c = let e = ap (λ (x : Group·rt). x.count) c.before.before.before.read.ensures in let f = facts c.before.before.before.before.before.before in omega arith
 
 set-counts-requires : tie.Need-set-counts-requires
-set-counts-requires c κs = in_group c.before.before.before.before.before.before _ countOffset refl (omega arith)
+set-counts-requires c κs = in_group c.before.before.before.before.before.before _ count_offset refl (omega arith)
 
 same_length : tie.Need-same-length
 same_length c = search rules

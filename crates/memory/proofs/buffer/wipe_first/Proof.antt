@@ -6,8 +6,8 @@ use mathlib.Core.List.{List}
 use mathlib.Core.Path.{◌∙◌, ◌≡◌, refl}
 use lib.ListN.{length}
 use borrow.Author.Rules.{rules}
-use Rattle.rules.specs.Build.{pageCount, paper01}
-use Rattle.rules.specs.Memory.{frameAddress, groupStride, listOffset, placeStride, usedOffset}
+use Rattle.rules.specs.Build.{page_count, paper01}
+use Rattle.rules.specs.Memory.{frame_address, group_stride, list_offset, place_stride, used_offset}
 use Rattle.memory.specs.Writes.{InGroup}
 use Rattle.memory.proofs.buffer.FreeLaws.{Reads, reads}
 use Rattle.memory.proofs.buffer.WipeLaws.{first-place, first_at, wiping-held}
@@ -18,7 +18,7 @@ use Rattle.memory.proofs.buffer.wipe_first.Tie as tie
 facts : (c : tie.Start) → Reads c.args.m.now c.args.g
 facts c = reads c.requires.1.holds c.args.g c.requires.0.0 c.requires.0.1 c.requires.1.fact
 
-in_group : (c : tie.Start) (m : List ℕ) (k : ℕ) → length m ≡ length c.args.m.now → k < groupStride → InGroup m c.args.g k
+in_group : (c : tie.Start) (m : List ℕ) (k : ℕ) → length m ≡ length c.args.m.now → k < group_stride → InGroup m c.args.g k
 in_group c m k l h = record { long = omega (arith, (facts c).long); low = c.requires.0.0; high = c.requires.0.1; inside = h }
 
 -- The place, as it is read.
@@ -26,25 +26,25 @@ in_group c m k l h = record { long = omega (arith, (facts c).long); low = c.requ
 abbrev start : tie.After-group-word2 → tie.Start
 start c = c.before.before.before.before.before
 
-placed : (c : tie.After-group-word2) → (c.before.before.group-word.result < pageCount paper01) × (c.group-word2.result < paper01.perFrame)
+placed : (c : tie.After-group-word2) → (c.before.before.group-word.result < page_count paper01) × (c.group-word2.result < paper01.per_frame)
 placed c =
     let s = start c in
     rw (c.before.before.group-word.ensures, c.group-word2.ensures) (first-place s.pre.1.holds s.args.g s.pre.0.0 s.pre.0.1 s.pre.1.fact)
 
 at_first : (c : tie.After-place-at) → c.place_at.result ≡ first_at (start c.before).args.m.now (start c.before).args.g
-at_first c = c.place_at.ensures ∙ λ i. frameAddress (c.before.before.before.group-word.ensures i) + placeStride * c.before.group-word2.ensures i
+at_first c = c.place_at.ensures ∙ λ i. frame_address (c.before.before.before.group-word.ensures i) + place_stride * c.before.group-word2.ensures i
 
 inside : (c : tie.After-place-at) → c.place_at.result + 9 ≤ length (start c.before).args.m.now
-unfolding frameAddress
+unfolding frame_address
 inside c = let p = placed c.before in let f = facts (start c.before) in omega (arith, c.place_at.ensures)
 
 -- The needs.
 
 group-word-requires : tie.Need-group-word-requires
-group-word-requires c κs = in_group c.before.before _ listOffset refl (omega arith)
+group-word-requires c κs = in_group c.before.before _ list_offset refl (omega arith)
 
 group-word-requires-2 : tie.Need-group-word-requires-2
-group-word-requires-2 c κs = in_group c.before.before.before.before _ usedOffset refl (omega arith)
+group-word-requires-2 c κs = in_group c.before.before.before.before _ used_offset refl (omega arith)
 
 place-at-requires : tie.Need-place-at-requires
 place-at-requires c κs = placed c

@@ -2,14 +2,14 @@
 use Prim.Native.Nat.{◌+◌, ◌≤◌}
 use native.Mathlib.Omega.{arith}
 use borrow.Author.Rules.{rules}
-use Rattle.rules.specs.Memory.{framesAt, groupStride}
+use Rattle.rules.specs.Memory.{frames_at, group_stride}
 use Rattle.memory.proofs.descriptor.DescriptorLaws.{descriptor-read}
 use Rattle.memory.proofs.group.GroupLaws.{record-within}
 use Rattle.memory.proofs.descriptor.read.Statement.{statement}
 use Rattle.memory.proofs.descriptor.read.Tie as tie
 
 -- the record is within the memory
-inside : (c : tie.After-group-at) → c.group_at.result + groupStride ≤ framesAt
+inside : (c : tie.After-group-at) → c.group_at.result + group_stride ≤ frames_at
 inside c = rw c.group_at.ensures (record-within c.before.before.before.args.g c.before.before.before.requires.0.1)
 
 group-word-requires : tie.Need-group-word-requires

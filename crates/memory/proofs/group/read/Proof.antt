@@ -2,7 +2,7 @@
 use native.Mathlib.Nat.{add-zero}
 use native.Mathlib.Omega.{arith}
 use borrow.Author.Rules.{rules}
-use Rattle.rules.specs.Memory.{groupAddress, word}
+use Rattle.rules.specs.Memory.{group_address, word}
 use Rattle.memory.proofs.group.read.Statement.{statement}
 use Rattle.memory.proofs.group.read.Tie as tie
 
@@ -10,71 +10,71 @@ group-at-requires : tie.Need-group-at-requires
 group-at-requires c κs = search rules
 
 mul-t4 : tie.Need-overflow-mul-t4
-unfolding groupAddress
+unfolding group_address
 mul-t4 c = omega arith
 
 shared-slice-read-t6 : tie.Need-shared-slice-read-t6
-unfolding groupAddress
+unfolding group_address
 shared-slice-read-t6 c = omega arith
 
 add-t7 : tie.Need-overflow-add-t7
-unfolding groupAddress
+unfolding group_address
 add-t7 c = omega arith
 
 mul-t8 : tie.Need-overflow-mul-t8
-unfolding groupAddress
+unfolding group_address
 mul-t8 c = omega arith
 
 shared-slice-read-t10 : tie.Need-shared-slice-read-t10
-unfolding groupAddress
+unfolding group_address
 shared-slice-read-t10 c = omega arith
 
 add-t11 : tie.Need-overflow-add-t11
-unfolding groupAddress
+unfolding group_address
 add-t11 c = omega arith
 
 mul-t12 : tie.Need-overflow-mul-t12
-unfolding groupAddress
+unfolding group_address
 mul-t12 c = omega arith
 
 shared-slice-read-t14 : tie.Need-shared-slice-read-t14
-unfolding groupAddress
+unfolding group_address
 shared-slice-read-t14 c = omega arith
 
 add-t15 : tie.Need-overflow-add-t15
-unfolding groupAddress
+unfolding group_address
 add-t15 c = omega arith
 
 mul-t16 : tie.Need-overflow-mul-t16
-unfolding groupAddress
+unfolding group_address
 mul-t16 c = omega arith
 
 shared-slice-read-t18 : tie.Need-shared-slice-read-t18
-unfolding groupAddress
+unfolding group_address
 shared-slice-read-t18 c = omega arith
 
 add-t19 : tie.Need-overflow-add-t19
-unfolding groupAddress
+unfolding group_address
 add-t19 c = omega arith
 
 mul-t20 : tie.Need-overflow-mul-t20
-unfolding groupAddress
+unfolding group_address
 mul-t20 c = omega arith
 
 shared-slice-read-t22 : tie.Need-shared-slice-read-t22
-unfolding groupAddress
+unfolding group_address
 shared-slice-read-t22 c = omega arith
 
 add-t23 : tie.Need-overflow-add-t23
-unfolding groupAddress
+unfolding group_address
 add-t23 c = omega arith
 
 mul-t24 : tie.Need-overflow-mul-t24
-unfolding groupAddress
+unfolding group_address
 mul-t24 c = omega arith
 
 shared-slice-read-t26 : tie.Need-shared-slice-read-t26
-unfolding groupAddress
+unfolding group_address
 shared-slice-read-t26 c = omega arith
 
 returns : tie.Need-returns

@@ -31,9 +31,9 @@ use denote.Triple.Clauses.{ensured, lasts}
 use denote.Triple.Table.{entered, cited}
 use denote.Triple.Walked.{says, needs, Stays, stay_none, gave_slice, walk_of, Goes-none, Goes-gave_slice, Walks, ends_at, walked, walk_Meets}
 use denote.Exit.{yes}
-use Rattle.rules.specs.Memory.{countOffset, groupAddress}
+use Rattle.rules.specs.Memory.{count_offset, group_address}
 use Rattle.memory.specs.declared.group.Group.{Group}
-use Rattle.memory.specs.Writes.{InGroup, Wrote, groupFront, groupRead, reflagged}
+use Rattle.memory.specs.Writes.{InGroup, Wrote, group_front, group_read, reflagged}
 use Rattle.memory.proofs.group.GroupLaws.{flags-held}
 use Rattle.memory.proofs.group.Setting.{Read, Write, walk}
 use Rattle.memory.specs.contracts.group.Group as T
@@ -59,12 +59,12 @@ stayed = (gave_slice (0 ∷ []) tt (plain (λ _. u32)), (stay_none (λ _. u32) y
 abbrev Setter : {M : Type 1} {𝓤 : Ura M} (𝓛 : Logic 𝓤) (at_mem : Memory → SProp 𝓤) (run : Routine → Fun 𝓤) → Contract 𝓤
 Setter 𝓛 at_mem run = triple_of 𝓛 setter.signature (setter.spec 𝓛 at_mem run)
 
-module _ {M : Type 1} {𝓤 : Ura M} (𝓛 : Logic 𝓤) (at_mem : Memory → SProp 𝓤) (run : Routine → Fun 𝓤) (κ : Lft) (q : Share) (b o : ℕ) (γ : GName) (ys : List ℕ) (g u v : ℕ) (g-fits : g < 2 ^ 32) (u-fits : u < 2 ^ 32) (v-fits : v < 2 ^ 32) (within : InGroup ys g countOffset) where
+module _ {M : Type 1} {𝓤 : Ura M} (𝓛 : Logic 𝓤) (at_mem : Memory → SProp 𝓤) (run : Routine → Fun 𝓤) (κ : Lft) (q : Share) (b o : ℕ) (γ : GName) (ys : List ℕ) (g u v : ℕ) (g-fits : g < 2 ^ 32) (u-fits : u < 2 ^ 32) (v-fits : v < 2 ^ 32) (within : InGroup ys g count_offset) where
   -- the record, as it is read and as it is then; and as it lies in the local l under the name δ
   open 𝓛 use {H, A}
 
   abbrev h : Group
-  h = groupRead ys g
+  h = group_read ys g
 
   abbrev h' : Group
   h' = reflagged u v h
@@ -102,7 +102,7 @@ module _ {M : Type 1} {𝓤 : Ura M} (𝓛 : Logic 𝓤) (at_mem : Memory → SP
   abbrev Post : Val → SProp 𝓤
   Post = (walk_of 𝓛 f.ended stayed (f.clauses 𝓛 at_mem run)).post (((κ, tt), (q, tt), tt, a, vals), tt)
 
-  exits : (zs : List ℕ) → Wrote ys zs (groupAddress g) (groupFront h') → length zs ≡ length ys → ent 𝓤 (sep 𝓤 (sep 𝓤 (A.lft κ q) (sem 𝓛 ftrue)) (sem 𝓛 (finally u32 γ zs))) (Post vunit)
+  exits : (zs : List ℕ) → Wrote ys zs (group_address g) (group_front h') → length zs ≡ length ys → ent 𝓤 (sep 𝓤 (sep 𝓤 (A.lft κ q) (sem 𝓛 ftrue)) (sem 𝓛 (finally u32 γ zs))) (Post vunit)
   exits zs e l =
       qed 𝓛 ((‵ (flft κ q) ⊛ ‵ ftrue) ∷ ‵ (finally u32 γ zs) ∷ []) ∵
       suffices ! _ (ends_at 𝓛 f.ended stayed (f.clauses 𝓛 at_mem run) (((κ, tt), (q, tt), tt, a, vals), tt) vunit tt (zs, (tt, (tt, (tt, tt)))) (l, (tt, (tt, (tt, tt))))) $ says ! (λ c p ec ep n r k any. flags-held k g within.low within.high c p (rw (ec, ep) at e)) $ frame ! $
@@ -123,7 +123,7 @@ module _ {M : Type 1} {𝓤 : Ura M} (𝓛 : Logic 𝓤) (at_mem : Memory → SP
       → Walks 𝓛 f.ended stayed (WpFn 𝓤 H C Λ code.function) (f.clauses 𝓛 at_mem run)
   set-flags-walks C Λ fm known_read known-setter known-write = walked 𝓛 f.ended stayed (f.clauses 𝓛 at_mem run) (WpFn 𝓤 H C Λ code.function)
       (λ κs. (mut_slice_vals, (uint_vals w32, (uint_vals w32, (uint_vals w32, tt))))) (λ κs. (mut_slice_Tells (named 0) κs.0 u32, (uint_Tells w32, (uint_Tells w32, (uint_Tells w32, tt)))))
-      (λ κs qs bounds a _ are. needs 𝓤 (InGroup a.0.now a.1.0 countOffset) _ (λ within.
+      (λ κs qs bounds a _ are. needs 𝓤 (InGroup a.0.now a.1.0 count_offset) _ (λ within.
       walked_through 𝓛 at_mem run κs.0 qs.0 a.0.ref_ptr.0 a.0.ref_ptr.1 a.0.ghost_name a.0.now a.1.0 a.1.1.0 a.1.1.1.0 are.1.0.1 are.1.1.0.1 are.1.1.1.0.1 within C Λ fm known_read known-setter known-write are.0.0.1))
 
 set-flags-meets : {M : Type 1} {𝓤 : Ura M} (𝓛 : Logic 𝓤) → (at_mem : Memory → SProp 𝓤) (run : Routine → Fun 𝓤) (𝓣 : Tables 𝓤 𝓛.H)

@@ -3,17 +3,17 @@ use Prim.Native.Nat.{◌+◌, ◌-◌, ◌≤◌}
 use native.Mathlib.Omega.{arith}
 use mathlib.Core.Path.{◌≡◌, ap, sym}
 use lib.ListN.{length}
-use Rattle.rules.specs.Build.{pageCount, paper01}
+use Rattle.rules.specs.Build.{page_count, paper01}
 use Rattle.rules.specs.Lists.{up_from}
-use Rattle.rules.proofs.Steps.ListLaws.{length-upFrom}
+use Rattle.rules.proofs.Steps.ListLaws.{length-up_from}
 use Rattle.memory.specs.Writes.{Wrote}
-use Rattle.memory.proofs.PowerOnLaws.{upFrom-more}
+use Rattle.memory.proofs.PowerOnLaws.{up_from-more}
 use Rattle.memory.proofs.WriteLaws.{wrote_as, wrote-next, wrote_none}
 use Rattle.memory.proofs.lines.count_up.Statement.{statement}
 use Rattle.memory.proofs.lines.count_up.Tie as tie
 
 abbrev invariant-loop : tie.invariant-loop
-invariant-loop m₀ line from n i₀ m i = (i ≤ n) × (((from + n ≤ pageCount paper01) × (line + n ≤ length m₀)) × Wrote m₀ m line (up_from from i))
+invariant-loop m₀ line from n i₀ m i = (i ≤ n) × (((from + n ≤ page_count paper01) × (line + n ≤ length m₀)) × Wrote m₀ m line (up_from from i))
 
 abbrev decreases-loop : tie.decreases-loop
 decreases-loop m₀ line from n i₀ m i = n - i
@@ -49,9 +49,9 @@ loop-again c =
     let from = c.before.before.args.from in
     let line = c.before.before.args.line in
     let t = c.loop-test.true in
-    let l = length-upFrom from i in
+    let l = length-up_from from i in
     let w = wrote-next v.1.1 (line + i) (from + i) (omega arith) (omega arith) in
-    (omega arith, (v.1.0, wrote_as w (sym (upFrom-more from i))))
+    (omega arith, (v.1.0, wrote_as w (sym (up_from-more from i))))
 
 same_length : tie.Need-same-length invariant-loop decreases-loop
 same_length c = c.before.loop.invariant.1.1.same_length

@@ -1,7 +1,7 @@
 -- `memory::map::group_at` meets its contract: the map's address. Assumes nothing.
 use mathlib.Core.Path.{refl}
 use borrow.Author.Rules.{rules}
-use Rattle.rules.specs.Memory.{groupAddress}
+use Rattle.rules.specs.Memory.{group_address}
 use Rattle.memory.proofs.map.group_at.Statement.{statement}
 use Rattle.memory.proofs.map.group_at.Tie as tie
 
@@ -15,7 +15,7 @@ add-result : tie.Need-overflow-add-result
 add-result c = search rules
 
 returns : tie.Need-returns
-unfolding groupAddress
+unfolding group_address
 returns c = refl
 
 pub group-at-spec : {M : Type 1} → statement M

@@ -1,7 +1,7 @@
 -- `memory::map::group_word` meets its contract. Assumes nothing.
 use native.Mathlib.Omega.{arith}
 use borrow.Author.Rules.{rules}
-use Rattle.rules.specs.Memory.{groupAddress, word}
+use Rattle.rules.specs.Memory.{group_address, word}
 use Rattle.memory.proofs.map.group_word.Statement.{statement}
 use Rattle.memory.proofs.map.group_word.Tie as tie
 
@@ -9,15 +9,15 @@ group-at-requires : tie.Need-group-at-requires
 group-at-requires c κs = search rules
 
 add-result : tie.Need-overflow-add-result
-unfolding groupAddress
+unfolding group_address
 add-result c = omega arith
 
 mul-result : tie.Need-overflow-mul-result
-unfolding groupAddress
+unfolding group_address
 mul-result c = omega arith
 
 shared-slice-read-result : tie.Need-shared-slice-read-result
-unfolding groupAddress
+unfolding group_address
 shared-slice-read-result c = omega arith
 
 returns : tie.Need-returns

@@ -1,7 +1,7 @@
 -- `memory::map::place_at` meets its contract. Assumes nothing.
 use mathlib.Core.Path.{refl}
 use borrow.Author.Rules.{rules}
-use Rattle.rules.specs.Memory.{frameAddress}
+use Rattle.rules.specs.Memory.{frame_address}
 use Rattle.memory.proofs.map.place_at.Statement.{statement}
 use Rattle.memory.proofs.map.place_at.Tie as tie
 
@@ -18,7 +18,7 @@ add-result-2 : tie.Need-overflow-add-result-2
 add-result-2 c = search rules
 
 returns : tie.Need-returns
-unfolding frameAddress
+unfolding frame_address
 returns c = refl
 
 pub place-at-spec : {M : Type 1} → statement M

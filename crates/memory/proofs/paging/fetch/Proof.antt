@@ -4,7 +4,7 @@ use Prim.Native.Nat.{ℕ}
 use native.Mathlib.Omega.{arith}
 use mathlib.Core.List.{List}
 use borrow.Author.Rules.{rules}
-use Rattle.rules.specs.Memory.{freeAt, word}
+use Rattle.rules.specs.Memory.{free_at, word}
 use Rattle.rules.specs.Node.{Node}
 use Rattle.memory.specs.Holds.{Holds, entering}
 use Rattle.memory.specs.Paging.{Fetching}
@@ -34,7 +34,7 @@ Entry c n r = Holds c.args.m.now n r × Fetching c.args.p n
 
 -- the front of the free line
 abbrev front : tie.Start → ℕ
-front c = word c.args.m.now freeAt
+front c = word c.args.m.now free_at
 
 -- it has entered
 entering-front : (c : tie.After-enter) {n : Node} {r : List ℕ} → Entry (start c) n r → Holds c.enter.new.0 (entering (front (start c)) n) r

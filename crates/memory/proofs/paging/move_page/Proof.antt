@@ -4,7 +4,7 @@ use borrow.Author.Rules.{rules}
 use Prim.Native.Nat.{ℕ}
 use mathlib.Core.Path.{◌≡◌, ap}
 use lib.ListN.{replicate}
-use Rattle.rules.specs.Memory.{frameAddress, frameStride, wordsAt}
+use Rattle.rules.specs.Memory.{frame_address, frame_stride, words_at}
 use Rattle.memory.specs.Writes.{Wrote}
 use Rattle.memory.proofs.WriteLaws.{wrote_as, wrote_at}
 use Rattle.memory.proofs.paging.TradeLaws.{copied-listing}
@@ -20,19 +20,19 @@ abbrev at_copy : tie.After-clear → tie.After-copy
 at_copy c = c.before.before.before.before
 
 -- the two addresses
-from : (c : tie.After-copy) → c.before.before.before.page-at.result ≡ frameAddress (start c).args.p
+from : (c : tie.After-copy) → c.before.before.before.page-at.result ≡ frame_address (start c).args.p
 from c = c.before.before.before.page-at.ensures
 
-to : (c : tie.After-copy) → c.before.before.page-at2.result ≡ frameAddress (start c).args.q
+to : (c : tie.After-copy) → c.before.before.page-at2.result ≡ frame_address (start c).args.q
 to c = c.before.before.page-at2.ensures
 
 -- the page is copied
 copied : (c : tie.After-copy)
-    → Wrote (start c).args.m.now c.copy.new.0 (frameAddress (start c).args.q) (wordsAt (start c).args.m.now (frameAddress (start c).args.p) frameStride)
-copied c = wrote_at (wrote_as c.copy.ensures (ap (λ (a : ℕ). wordsAt (start c).args.m.now a frameStride) (from c))) (to c)
+    → Wrote (start c).args.m.now c.copy.new.0 (frame_address (start c).args.q) (words_at (start c).args.m.now (frame_address (start c).args.p) frame_stride)
+copied c = wrote_at (wrote_as c.copy.ensures (ap (λ (a : ℕ). words_at (start c).args.m.now a frame_stride) (from c))) (to c)
 
 -- and what it leaves is wiped
-wiped : (c : tie.After-clear) → Wrote (at_copy c).copy.new.0 c.clear.new.0 (frameAddress (start (at_copy c)).args.p) (replicate frameStride 0)
+wiped : (c : tie.After-clear) → Wrote (at_copy c).copy.new.0 c.clear.new.0 (frame_address (start (at_copy c)).args.p) (replicate frame_stride 0)
 wiped c = wrote_at c.clear.ensures (from (at_copy c))
 
 -- The needs.
@@ -44,11 +44,11 @@ page-at-requires-2 : tie.Need-page-at-requires-2
 page-at-requires-2 c κs = search rules
 
 copy-requires : tie.Need-copy-requires
-unfolding frameAddress
+unfolding frame_address
 copy-requires c κs = ((omega arith, omega arith), λ l. omega arith)
 
 clear-requires : tie.Need-clear-requires
-unfolding frameAddress
+unfolding frame_address
 clear-requires c κs =
     let d = c.before.before.before in
     let s = start d in

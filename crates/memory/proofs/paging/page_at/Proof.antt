@@ -1,7 +1,7 @@
 -- `memory::paging::page_at` meets its contract. Assumes nothing.
 use native.Mathlib.Omega.{arith}
 use borrow.Author.Rules.{rules}
-use Rattle.rules.specs.Memory.{frameAddress}
+use Rattle.rules.specs.Memory.{frame_address}
 use Rattle.memory.proofs.paging.page_at.Statement.{statement}
 use Rattle.memory.proofs.paging.page_at.Tie as tie
 
@@ -12,7 +12,7 @@ add-result : tie.Need-overflow-add-result
 add-result c = search rules
 
 returns : tie.Need-returns
-unfolding frameAddress
+unfolding frame_address
 returns c = omega arith
 
 pub page-at-spec : {M : Type 1} → statement M

@@ -3,7 +3,7 @@ use Prim.Native.Nat.{ℕ, ◌+◌, ◌*◌, ◌/◌, ◌≤◌, ◌<◌}
 use native.Mathlib.Omega.{arith}
 use mathlib.Core.Path.{◌≡◌, subst}
 use borrow.Author.Rules.{rules}
-use Rattle.rules.specs.Memory.{groupAddress, groupStride, word, usedOffset, countOffset, heldOffset, listOffset}
+use Rattle.rules.specs.Memory.{group_address, group_stride, word, used_offset, count_offset, held_offset, list_offset}
 use Rattle.rules.specs.Node.{Node}
 use Rattle.memory.specs.Holds.{Holds}
 use Rattle.memory.specs.Writes.{InGroup}
@@ -15,7 +15,7 @@ use Rattle.memory.proofs.paging.prepare.Tie as tie
 facts : (c : tie.Start) → Ends c.args.m.now c.args.g
 facts c = wanting-ends c.requires.0.0 c.requires.0.1 c.requires.1.fact c.requires.1.holds
 
-in_group : (c : tie.Start) (k : ℕ) → k < groupStride → InGroup c.args.m.now c.args.g k
+in_group : (c : tie.Start) (k : ℕ) → k < group_stride → InGroup c.args.m.now c.args.g k
 in_group c k h = record { long = (facts c).long; low = c.requires.0.0; high = c.requires.0.1; inside = h }
 
 -- where the counts are read
@@ -24,27 +24,27 @@ start c = c.before.before.before.before.before.before.before
 
 -- word k of the record at entry
 abbrev field : tie.Start → ℕ → ℕ
-field c k = word c.args.m.now (groupAddress c.args.g + k)
+field c k = word c.args.m.now (group_address c.args.g + k)
 
 -- the end of the buffer
-end_read : (c : tie.After-group-word3) → c.before.before.before.before.group-word.result + c.before.before.group-word2.result ≡ field (start c) usedOffset + field (start c) countOffset
+end_read : (c : tie.After-group-word3) → c.before.before.before.before.group-word.result + c.before.before.group-word2.result ≡ field (start c) used_offset + field (start c) count_offset
 end_read c = omega (arith, c.before.before.before.before.group-word.ensures, c.before.before.group-word2.ensures)
 
 -- its places
-held-read : (c : tie.After-group-word3) → c.group-word3.result ≡ field (start c) heldOffset
+held-read : (c : tie.After-group-word3) → c.group-word3.result ≡ field (start c) held_offset
 held-read c = c.group-word3.ensures
 
 group-word-requires : tie.Need-group-word-requires
-group-word-requires c κs = in_group c.before.before usedOffset (omega arith)
+group-word-requires c κs = in_group c.before.before used_offset (omega arith)
 
 group-word-requires-2 : tie.Need-group-word-requires-2
-group-word-requires-2 c κs = in_group c.before.before.before.before countOffset (omega arith)
+group-word-requires-2 c κs = in_group c.before.before.before.before count_offset (omega arith)
 
 add-end : tie.Need-overflow-add-end
 add-end c = omega (arith, c.group-word2.ensures, c.before.before.group-word.ensures, facts c.before.before.before.before.before)
 
 group-word-requires-3 : tie.Need-group-word-requires-3
-group-word-requires-3 c κs = in_group c.before.before.before.before.before.before heldOffset (omega arith)
+group-word-requires-3 c κs = in_group c.before.before.before.before.before.before held_offset (omega arith)
 
 mul-if1 : tie.Need-overflow-mul-if1
 mul-if1 c = omega (arith, held-read c, facts (start c))
@@ -61,10 +61,10 @@ group-word-requires-4 c κs =
     in_group (start d) _ (omega (arith, c.before.if1.true, held-read d, facts (start d)))
 
 -- there is room: the page to write to
-room : (c : tie.Then1) → field (start c.before) usedOffset + field (start c.before) countOffset < 8 * field (start c.before) heldOffset
+room : (c : tie.Then1) → field (start c.before) used_offset + field (start c.before) count_offset < 8 * field (start c.before) held_offset
 room c = omega (arith, c.if1.true, end_read c.before, held-read c.before)
 
-next : (c : tie.After-group-word4) → c.group-word4.result ≡ field (start c.before.before.before) (listOffset + (field (start c.before.before.before) usedOffset + field (start c.before.before.before) countOffset) / 8)
+next : (c : tie.After-group-word4) → c.group-word4.result ≡ field (start c.before.before.before) (list_offset + (field (start c.before.before.before) used_offset + field (start c.before.before.before) count_offset) / 8)
 next c = rw (end_read c.before.before.before) at c.group-word4.ensures
 
 resident-requires : tie.Need-resident-requires
@@ -95,7 +95,7 @@ slice-read-if2 : tie.Need-slice-read-if2
 slice-read-if2 c = omega (arith, (facts (start c.before.before)).long)
 
 -- there is none
-full : (c : tie.Else1) → 8 * field (start c.before) heldOffset ≤ field (start c.before) usedOffset + field (start c.before) countOffset
+full : (c : tie.Else1) → 8 * field (start c.before) held_offset ≤ field (start c.before) used_offset + field (start c.before) count_offset
 full c = omega (arith, c.if1.false, end_read c.before, held-read c.before)
 
 send-out-requires : tie.Need-send-out-requires

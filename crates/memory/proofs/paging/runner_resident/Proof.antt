@@ -4,7 +4,7 @@ use native.Mathlib.Omega.{arith}
 use mathlib.Core.Logic.{◌≢◌}
 use mathlib.Core.Path.{sym, ◌∙◌, subst}
 use borrow.Author.Rules.{rules}
-use Rattle.rules.specs.Memory.{groupAddress, groupStride, heldOffset, running_at, word, listOffset}
+use Rattle.rules.specs.Memory.{group_address, group_stride, held_offset, running_at, word, list_offset}
 use Rattle.rules.specs.Node.{Node}
 use Rattle.memory.specs.Holds.{Holds}
 use Rattle.memory.specs.Writes.{InGroup}
@@ -27,20 +27,20 @@ runs : (c : tie.Else1) → 1 ≤ word c.before.before.before.args.m.now running_
 unfolding word
 runs c = omega (arith, c.if1.false)
 
-in_group : (c : tie.Else1) (k : ℕ) → k < groupStride → InGroup c.before.before.before.args.m.now (word c.before.before.before.args.m.now running_at) k
+in_group : (c : tie.Else1) (k : ℕ) → k < group_stride → InGroup c.before.before.before.args.m.now (word c.before.before.before.args.m.now running_at) k
 in_group c k inside =
     let p = c.before.before.before.requires in
     record { long = (holds-pieces p.holds).long; low = runs c; high = runner-high p.holds p.fact (runs c); inside = inside }
 
 -- and has a page
 some : (c : tie.Else2)
-    → word c.before.before.before.before.before.before.args.m.now (groupAddress (word c.before.before.before.before.before.before.args.m.now running_at) + heldOffset) ≢ 0
+    → word c.before.before.before.before.before.before.args.m.now (group_address (word c.before.before.before.before.before.before.args.m.now running_at) + held_offset) ≢ 0
 unfolding word
 some c e = c.if2.false (c.before.group-word.ensures ∙ e)
 
 group-word-requires : tie.Need-group-word-requires
 unfolding word
-group-word-requires c κs = in_group c.before heldOffset (omega arith)
+group-word-requires c κs = in_group c.before held_offset (omega arith)
 
 same_length : tie.Need-same-length
 same_length c = search rules
@@ -53,7 +53,7 @@ returns-2 c n r h sound =
 
 group-word-requires-2 : tie.Need-group-word-requires-2
 unfolding word
-group-word-requires-2 c κs = in_group c.before.before.before.before listOffset (omega arith)
+group-word-requires-2 c κs = in_group c.before.before.before.before list_offset (omega arith)
 
 resident-requires : tie.Need-resident-requires
 unfolding word

@@ -1,7 +1,7 @@
 -- `memory::paging::swap_pages` meets its contract. Assumes nothing.
 use native.Mathlib.Omega.{arith}
 use borrow.Author.Rules.{rules}
-use Rattle.rules.specs.Memory.{frameAddress}
+use Rattle.rules.specs.Memory.{frame_address}
 use Rattle.memory.proofs.paging.TradeLaws.{swapped-listing}
 use Rattle.memory.proofs.paging.swap_pages.Statement.{statement}
 use Rattle.memory.proofs.paging.swap_pages.Tie as tie
@@ -13,7 +13,7 @@ page-at-requires-2 : tie.Need-page-at-requires-2
 page-at-requires-2 c κs = search rules
 
 swap-requires : tie.Need-swap-requires
-unfolding frameAddress
+unfolding frame_address
 swap-requires c κs = omega arith
 
 trade-requires : tie.Need-trade-requires

@@ -2,17 +2,17 @@
 use Prim.Native.Nat.{◌+◌, ◌-◌, ◌≤◌}
 use native.Mathlib.Omega.{arith}
 use mathlib.Core.Path.{◌≡◌}
-use Rattle.rules.specs.Build.{groupCount}
+use Rattle.rules.specs.Build.{group_count}
 use Rattle.memory.specs.Paging.{Traded}
 use Rattle.memory.proofs.paging.TradeLaws.{traded-none, traded-more, traded-listing}
 use Rattle.memory.proofs.paging.trade.Statement.{statement}
 use Rattle.memory.proofs.paging.trade.Tie as tie
 
 abbrev invariant-loop : tie.invariant-loop
-invariant-loop m₀ p q g₀ m g = (g ≤ groupCount) × Traded m₀ m p q g
+invariant-loop m₀ p q g₀ m g = (g ≤ group_count) × Traded m₀ m p q g
 
 abbrev decreases-loop : tie.decreases-loop
-decreases-loop m₀ p q g₀ m g = groupCount - g
+decreases-loop m₀ p q g₀ m g = group_count - g
 
 loop-holds : tie.Need-loop-init invariant-loop decreases-loop
 loop-holds c = (omega arith, traded-none _ _ _)
@@ -43,7 +43,7 @@ same_length : tie.Need-same-length invariant-loop decreases-loop
 same_length c = c.before.loop.invariant.1.same_length
 
 returns : tie.Need-returns invariant-loop decreases-loop
-returns c = let e : c.before.loop.g ≡ groupCount = omega arith in rw e at c.before.loop.invariant.1
+returns c = let e : c.before.loop.g ≡ group_count = omega arith in rw e at c.before.loop.invariant.1
 
 pub trade-spec : {M : Type 1} → statement M
 trade-spec = tie.close (tie.spec invariant-loop decreases-loop loop-holds add-trade-list trade-list-requires add-g loop-less loop-again same_length returns)

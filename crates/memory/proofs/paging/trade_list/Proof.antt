@@ -5,7 +5,7 @@ use mathlib.Core.Path.{◌≡◌}
 use mathlib.Core.List.{map}
 use borrow.Author.Rules.{rules}
 use lib.ListN.{length}
-use Rattle.rules.specs.Memory.{word, wordsAt, listAt, groupAddress, heldOffset, listOffset}
+use Rattle.rules.specs.Memory.{word, words_at, list_at, group_address, held_offset, list_offset}
 use Rattle.rules.specs.Paging.{traded}
 use Rattle.memory.specs.Writes.{Wrote}
 use Rattle.memory.proofs.WriteLaws.{wrote_none}
@@ -14,7 +14,7 @@ use Rattle.memory.proofs.paging.trade_list.Statement.{statement}
 use Rattle.memory.proofs.paging.trade_list.Tie as tie
 
 abbrev invariant-loop : tie.invariant-loop
-invariant-loop m₀ g p q k at i₀ m i = (i ≤ k) × Wrote m₀ m at (map (traded p q) (wordsAt m₀ at i))
+invariant-loop m₀ g p q k at i₀ m i = (i ≤ k) × Wrote m₀ m at (map (traded p q) (words_at m₀ at i))
 
 abbrev decreases-loop : tie.decreases-loop
 decreases-loop m₀ g p q k at i₀ m i = k - i
@@ -29,38 +29,38 @@ group-at-requires : tie.Need-group-at-requires invariant-loop decreases-loop
 group-at-requires c κs = search rules
 
 add_at : tie.Need-overflow-add-at invariant-loop decreases-loop
-unfolding groupAddress
+unfolding group_address
 add_at c = omega arith
 
 loop-holds : tie.Need-loop-init invariant-loop decreases-loop
-unfolding wordsAt
+unfolding words_at
 loop-holds c = (omega arith, wrote_none _ _)
 
 add-traded : tie.Need-overflow-add-traded invariant-loop decreases-loop
-unfolding groupAddress
+unfolding group_address
 add-traded c = omega arith
 
 mul-traded : tie.Need-overflow-mul-traded invariant-loop decreases-loop
-unfolding groupAddress
+unfolding group_address
 mul-traded c = omega arith
 
 slice-read-traded : tie.Need-slice-read-traded invariant-loop decreases-loop
-unfolding groupAddress
+unfolding group_address
 slice-read-traded c = omega arith
 
 traded-requires : tie.Need-traded-requires invariant-loop decreases-loop
 traded-requires c κs = search rules
 
 add-m : tie.Need-overflow-add-m invariant-loop decreases-loop
-unfolding groupAddress
+unfolding group_address
 add-m c = omega arith
 
 mul-m : tie.Need-overflow-mul-m invariant-loop decreases-loop
-unfolding groupAddress
+unfolding group_address
 mul-m c = omega arith
 
 slice-write-m : tie.Need-slice-write-m invariant-loop decreases-loop
-unfolding groupAddress
+unfolding group_address
 slice-write-m c = omega arith
 
 add-i : tie.Need-overflow-add-i invariant-loop decreases-loop
@@ -70,15 +70,15 @@ loop-less : tie.Need-loop-smaller invariant-loop decreases-loop
 loop-less c = omega arith
 
 -- the number read is within the memory
-within : (c : tie.After-traded invariant-loop decreases-loop) → c.before.before.before.before.group_at.result + listOffset + c.before.before.before.loop.i < length c.before.before.before.before.before.before.before.before.args.m.now
-unfolding groupAddress
+within : (c : tie.After-traded invariant-loop decreases-loop) → c.before.before.before.before.group_at.result + list_offset + c.before.before.before.loop.i < length c.before.before.before.before.before.before.before.before.args.m.now
+unfolding group_address
 within c = omega arith
 
 loop-again : tie.Need-loop-preserved invariant-loop decreases-loop
 unfolding word
 loop-again c =
     let s = c.before.before.before.before.before.before.before.before in
-    let a = c.before.before.before.before.group_at.result + listOffset in
+    let a = c.before.before.before.before.group_at.result + list_offset in
     let i = c.before.before.before.loop.i in
     let inside : a + i < length s.args.m.now = within c in
     (omega arith, list-next s.args.p s.args.q a i c.traded.result inside c.before.before.before.loop.invariant.1 c.traded.ensures)
@@ -87,9 +87,9 @@ same_length : tie.Need-same-length invariant-loop decreases-loop
 same_length c = c.before.loop.invariant.1.same_length
 
 returns : tie.Need-returns invariant-loop decreases-loop
-unfolding listAt
+unfolding list_at
 returns c =
-    let e : c.before.loop.i ≡ word c.before.before.before.before.before.before.args.m.now (groupAddress c.before.before.before.before.before.before.args.g + heldOffset) = omega (arith, c.before.before.before.group-word.ensures) in
+    let e : c.before.loop.i ≡ word c.before.before.before.before.before.before.args.m.now (group_address c.before.before.before.before.before.before.args.g + held_offset) = omega (arith, c.before.before.before.group-word.ensures) in
     rw (c.before.before.group_at.ensures, e) at c.before.loop.invariant.1
 
 pub trade-list-spec : {M : Type 1} → statement M

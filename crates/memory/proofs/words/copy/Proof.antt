@@ -2,22 +2,22 @@
 use Prim.Native.Nat.{◌+◌, ◌-◌, ◌≤◌}
 use native.Mathlib.Omega.{arith}
 use mathlib.Core.Path.{◌≡◌}
-use Rattle.rules.specs.Memory.{word, wordsAt}
-use Rattle.rules.proofs.Map.MapWords.{length-wordsAt}
+use Rattle.rules.specs.Memory.{word, words_at}
+use Rattle.rules.proofs.Map.MapWords.{length-words_at}
 use Rattle.memory.specs.Writes.{Wrote}
-use Rattle.memory.proofs.WriteLaws.{wrote_none, wrote-next, wordsAt-more}
+use Rattle.memory.proofs.WriteLaws.{wrote_none, wrote-next, words_at-more}
 use Rattle.memory.proofs.words.SwapLaws.{uncopied}
 use Rattle.memory.proofs.words.copy.Statement.{statement}
 use Rattle.memory.proofs.words.copy.Tie as tie
 
 abbrev invariant-loop : tie.invariant-loop
-invariant-loop m₀ to from n i₀ m i = (i ≤ n) × Wrote m₀ m to (wordsAt m₀ from i)
+invariant-loop m₀ to from n i₀ m i = (i ≤ n) × Wrote m₀ m to (words_at m₀ from i)
 
 abbrev decreases-loop : tie.decreases-loop
 decreases-loop m₀ to from n i₀ m i = n - i
 
 loop-holds : tie.Need-loop-init invariant-loop decreases-loop
-unfolding wordsAt
+unfolding words_at
 loop-holds c = (omega arith, wrote_none c.args.m.now c.args.to)
 
 add-m : tie.Need-overflow-add-m invariant-loop decreases-loop
@@ -52,10 +52,10 @@ loop-again c =
     let m = c.before.before.loop.m in
     let i = c.before.before.loop.i in
     let w = c.before.before.loop.invariant.1 in
-    let l = length-wordsAt m₀ a.from i in
+    let l = length-words_at m₀ a.from i in
     let same : word m (a.from + i) ≡ word m₀ (a.from + i) = rw l at (uncopied w a.from a.n (omega arith) c.before.before.before.requires.1) in (
       omega arith,
-      rw (wordsAt-more m₀ a.from i, ← same) (wrote-next w (a.to + i) (word m (a.from + i)) (omega arith) (omega arith)),
+      rw (words_at-more m₀ a.from i, ← same) (wrote-next w (a.to + i) (word m (a.from + i)) (omega arith) (omega arith)),
     )
 
 same_length : tie.Need-same-length invariant-loop decreases-loop

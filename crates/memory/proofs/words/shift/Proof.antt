@@ -2,7 +2,7 @@
 use Prim.Native.Nat.{◌+◌}
 use native.Mathlib.Omega.{arith}
 use borrow.Author.Rules.{rules}
-use Rattle.rules.proofs.Map.MapWords.{length-wordsAt}
+use Rattle.rules.proofs.Map.MapWords.{length-words_at}
 use Rattle.memory.proofs.WriteLaws.{wrote_then}
 use Rattle.memory.proofs.words.shift.Statement.{statement}
 use Rattle.memory.proofs.words.shift.Tie as tie
@@ -26,7 +26,7 @@ returns : tie.Need-returns
 returns c =
     let a = c.before.before.before.before.before.before.before.before.before.args in
     let w = c.before.before.before.before.before.before.copy.ensures in
-    let l = length-wordsAt a.m.now (a.at + a.by) a.n in
+    let l = length-words_at a.m.now (a.at + a.by) a.n in
     wrote_then w (a.at + a.n) (omega arith) c.before.before.clear.ensures
 
 pub shift-spec : {M : Type 1} → statement M

@@ -4,13 +4,13 @@ use native.Mathlib.Omega.{arith}
 use mathlib.Core.Path.{◌≡◌}
 use lib.Dec.{eqb}
 use Rattle.rules.specs.Memory.{word}
-use Rattle.rules.specs.MemoryTest.{zeroAt}
+use Rattle.rules.specs.MemoryTest.{zero_at}
 use Rattle.memory.proofs.words.ZeroLaws.{zero-none, zero-gathered}
 use Rattle.memory.proofs.words.zeros.Statement.{statement}
 use Rattle.memory.proofs.words.zeros.Tie as tie
 
 abbrev invariant-loop : tie.invariant-loop
-invariant-loop m a n sum₀ i₀ sum i = (i ≤ n) × (zeroAt m a i ≡ eqb sum 0)
+invariant-loop m a n sum₀ i₀ sum i = (i ≤ n) × (zero_at m a i ≡ eqb sum 0)
 
 abbrev decreases-loop : tie.decreases-loop
 decreases-loop m a n sum₀ i₀ sum i = n - i

@@ -3,7 +3,7 @@ use native.Mathlib.Omega.{arith}
 use mathlib.Core.Path.{◌∙◌, refl, sym}
 use borrow.Author.Rules.{rules}
 use Rattle.rules.specs.Memory.{word}
-use Rattle.rules.specs.Node.{withRunning}
+use Rattle.rules.specs.Node.{with_running}
 use Rattle.rules.specs.Operation.{dispatch}
 use Rattle.rules.specs.Step.{act, valued}
 use Rattle.memory.proofs.PieceLaws.{holds-pieces}
@@ -51,7 +51,7 @@ unfolding word act valued
 returns-4 c n r h v =
     let g = c.before.before.before.before.before.before.args.g in
     let high = c.before.before.before.if2.false in
-    acted-unsettled (dispatch g) (withRunning g n) 0 0 (one-act n (dispatch g) tt (dispatch-accepted n g c.before.before.before.before.if1.false high (sym (holds-pieces h).running ∙ c.before.if3.false)) refl)
+    acted-unsettled (dispatch g) (with_running g n) 0 0 (one-act n (dispatch g) tt (dispatch-accepted n g c.before.before.before.before.if1.false high (sym (holds-pieces h).running ∙ c.before.if3.false)) refl)
     (handed-sound v g high) (omega arith) (handed h g) c.unsettled.ensures
 
 pub dispatch-spec : {M : Type 1} → statement M

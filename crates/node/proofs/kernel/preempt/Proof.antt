@@ -4,7 +4,7 @@ use native.Mathlib.Omega.{arith}
 use mathlib.Core.Path.{◌∙◌, sym}
 use borrow.Author.Rules.{rules}
 use Rattle.rules.specs.Memory.{word}
-use Rattle.rules.specs.Node.{withRunning}
+use Rattle.rules.specs.Node.{with_running}
 use Rattle.rules.specs.Operation.{preempt}
 use Rattle.memory.proofs.PieceLaws.{holds-pieces}
 use Rattle.node.proofs.kernel.KernelLaws.{handed, handed-sound, preempt-nobody, preempt-taken}
@@ -33,7 +33,7 @@ same_length c = search rules
 
 returns-2 : tie.Need-returns-2
 returns-2 c n r h v =
-    acted-unsettled preempt (withRunning 0 n) 0 0 (preempt-taken v) (handed-sound v 0 (omega arith)) (omega arith) (handed h 0) c.unsettled.ensures
+    acted-unsettled preempt (with_running 0 n) 0 0 (preempt-taken v) (handed-sound v 0 (omega arith)) (omega arith) (handed h 0) c.unsettled.ensures
 
 pub preempt-spec : {M : Type 1} → statement M
 preempt-spec =

@@ -3,7 +3,7 @@ use native.Mathlib.Omega.{arith}
 use mathlib.Core.Bool.{true}
 use mathlib.Core.Path.{◌∙◌, ap, refl}
 use borrow.Author.Rules.{rules}
-use Rattle.rules.specs.Memory.{flagWord, word}
+use Rattle.rules.specs.Memory.{flag_word, word}
 use Rattle.rules.specs.Node.{group_of}
 use Rattle.rules.specs.Step.{revoke}
 use Rattle.memory.specs.declared.group.Group.{Group as Group·rt}
@@ -27,7 +27,7 @@ same_length : tie.Need-same-length
 same_length c = search rules
 
 returns : tie.Need-returns
-unfolding word flagWord revoke
+unfolding word flag_word revoke
 returns c n r h t =
     let f = (group_of n n.running).force in
     let e = ap (λ (x : Group·rt). x.force) c.before.before.before.before.read.ensures ∙ runner-force h t.some t.sound.running-bound in

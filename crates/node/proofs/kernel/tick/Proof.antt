@@ -7,9 +7,9 @@ use lib.ListN.{length}
 use borrow.Author.Rules.{rules}
 use borrow.Author.Tests.{not-false, not-true}
 use Rattle.rules.specs.Build.{paper01}
-use Rattle.rules.specs.Memory.{size, timerAt, word}
-use Rattle.rules.specs.Node.{withTimer}
-use Rattle.rules.specs.Operation.{tick, timeoutTrap}
+use Rattle.rules.specs.Memory.{size, timer_at, word}
+use Rattle.rules.specs.Node.{with_timer}
+use Rattle.rules.specs.Operation.{tick, timeout_trap}
 use Rattle.rules.specs.Step.{valued}
 use Rattle.rules.proofs.Steps.SoundLaws.{valid-sound}
 use Rattle.rules.proofs.Steps.QuietLaws.{counted-quiet, valid-quiet}
@@ -26,7 +26,7 @@ long : (c : tie.Start) → size ≤ length c.args.m.now
 long c = (holds-pieces c.requires.holds).long
 
 -- the timer is below the timeout
-timer-low : (c : tie.Start) → word c.args.m.now timerAt < paper01.timeout
+timer-low : (c : tie.Start) → word c.args.m.now timer_at < paper01.timeout
 timer-low c = rw (holds-pieces c.requires.holds).timer c.requires.fact.timer-bound
 
 refused-requires : tie.Need-refused-requires
@@ -81,11 +81,11 @@ returns-4 c n r h v =
     let t = (holds-pieces h).timer in
     let l = (holds-pieces h).long in
     let runs = c.before.before.before.before.timer-runs.ensures n r h (valid-sound v) ∙ not-false _ c.before.before.before.if3.false in
-    let e : word m timerAt + k ≡ n.timer + k = ap (λ (x : ℕ). x + k) t in
-    acted-quiet (tick k) (valued 0 (withTimer (n.timer + k) n))
+    let e : word m timer_at + k ≡ n.timer + k = ap (λ (x : ℕ). x + k) t in
+    acted-quiet (tick k) (valued 0 (with_timer (n.timer + k) n))
     (one-act n (tick k) tt (tick-accepted n k c.before.before.before.before.before.before.before.if1.false c.before.before.before.before.before.before.if2.false) (tick-counted v k runs (omega (arith, c.before.if4.true))))
     (counted-quiet v runs (n.timer + k))
-    (timer-held h (n.timer + k) (wrote_as (wrote-set m timerAt (word m timerAt + k) (omega arith)) (ap (λ (x : ℕ). x ∷ []) e))) c.accepted2.ensures
+    (timer-held h (n.timer + k) (wrote_as (wrote-set m timer_at (word m timer_at + k) (omega arith)) (ap (λ (x : ℕ). x ∷ []) e))) c.accepted2.ensures
 
 timeout-requires : tie.Need-timeout-requires
 timeout-requires c κs =
@@ -103,11 +103,11 @@ returns-5 c n r h v =
     let m = c.before.before.before.before.before.before.before.before.before.before.before.before.args.m.now in
     let timer = (holds-pieces h).timer in
     let runs = c.before.before.before.before.before.before.before.timer-runs.ensures n r h (valid-sound v) ∙ not-false _ c.before.before.before.before.before.before.if3.false in
-    let e : word m timerAt + k ≡ n.timer + k = ap (λ (x : ℕ). x + k) timer in
+    let e : word m timer_at + k ≡ n.timer + k = ap (λ (x : ℕ). x + k) timer in
     let t = c.before.before.timeout.ensures n r h (valid-ticking v runs) in
-    acted-unsettled (tick k) (late (word m timerAt + k) n).node timeoutTrap (length n.queue)
+    acted-unsettled (tick k) (late (word m timer_at + k) n).node timeout_trap (length n.queue)
     (one-act n (tick k) tt (tick-accepted n k c.before.before.before.before.before.before.before.before.before.before.if1.false c.before.before.before.before.before.before.before.before.before.if2.false) (tick-timeout v k runs (omega (arith, c.before.before.before.before.if4.false)) ∙ ap (λ (x : ℕ). late x n) (sym e)))
-    (late-sound (valid-ticking v runs) (word m timerAt + k)) v.queue-length t.holds t.told
+    (late-sound (valid-ticking v runs) (word m timer_at + k)) v.queue-length t.holds t.told
 
 pub tick-spec : {M : Type 1} → statement M
 tick-spec =

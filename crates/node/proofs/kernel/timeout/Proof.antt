@@ -6,9 +6,9 @@ use mathlib.Core.Path.{◌∙◌, ap}
 use lib.ListN.{length-set, set}
 use borrow.Author.Rules.{rules}
 use Rattle.rules.specs.Build.{paper01}
-use Rattle.rules.specs.Memory.{timerAt}
+use Rattle.rules.specs.Memory.{timer_at}
 use Rattle.rules.specs.Node.{Node}
-use Rattle.rules.specs.Operation.{timeoutTrap}
+use Rattle.rules.specs.Operation.{timeout_trap}
 use Rattle.rules.specs.Settling.{drain}
 use Rattle.memory.specs.Holds.{Holds}
 use Rattle.memory.proofs.PieceLaws.{holds-pieces}
@@ -21,11 +21,11 @@ use Rattle.node.proofs.kernel.timeout.Tie as tie
 
 -- the node with what is left over on its timer
 held : (c : tie.After-revoke) (n : Node) (r : List ℕ) → Holds c.before.before.before.before.before.before.before.before.before.args.m.now n r → Ticking n
-    → Holds (set c.revoke.new.0 timerAt c.before.before.before.before.before.before.left_over.result) (late c.before.before.before.before.before.before.before.before.before.args.t n).node r
+    → Holds (set c.revoke.new.0 timer_at c.before.before.before.before.before.before.left_over.result) (late c.before.before.before.before.before.before.before.before.before.args.t n).node r
 held c n r h t =
     let k = c.revoke.ensures (drain paper01 n.queue n) r (c.before.before.before.before.drain.ensures n r h t.sound).holds (drained-ticking t) in
     let e = c.before.before.before.before.before.before.left_over.ensures n r h t.sound in
-    timer-held k (rest c.before.before.before.before.before.before.before.before.before.args.t n) (wrote_as (wrote-set c.revoke.new.0 timerAt c.before.before.before.before.before.before.left_over.result (omega (arith, (holds-pieces k).long))) (ap (λ (x : ℕ). x ∷ []) e))
+    timer-held k (rest c.before.before.before.before.before.before.before.before.before.args.t n) (wrote_as (wrote-set c.revoke.new.0 timer_at c.before.before.before.before.before.before.left_over.result (omega (arith, (holds-pieces k).long))) (ap (λ (x : ℕ). x ∷ []) e))
 
 left-over-requires : tie.Need-left-over-requires
 left-over-requires c κs = let p = c.before.before.requires in record { node = p.node; rest = p.rest; holds = p.holds; fact = p.fact.sound }
@@ -51,7 +51,7 @@ same_length c = simp length-set (c.before.before.before.revoke.auto.0 ∙ c.befo
 returns : tie.Need-returns
 returns c n r h t =
     record {
-      told = c.unsettled.ensures ∙ ap (unsettled timeoutTrap) (c.before.before.before.before.before.before.before.drain.ensures n r h t.sound).count;
+      told = c.unsettled.ensures ∙ ap (unsettled timeout_trap) (c.before.before.before.before.before.before.before.drain.ensures n r h t.sound).count;
       holds = held c.before.before.before n r h t;
     }
 

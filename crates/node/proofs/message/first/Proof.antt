@@ -6,9 +6,9 @@ use mathlib.Core.List.{List}
 use mathlib.Core.Path.{◌∙◌, ◌≡◌, ap, sym}
 use lib.ListN.{get_or, length}
 use borrow.Author.Rules.{rules}
-use Rattle.rules.specs.Build.{paper01, pageCount}
-use Rattle.rules.specs.Memory.{countOffset, frameAddress, groupAddress, groupStride, listOffset, size, usedOffset, word}
-use Rattle.rules.specs.MemoryTest.{bufferPart, firstPlace, queuePart}
+use Rattle.rules.specs.Build.{paper01, page_count}
+use Rattle.rules.specs.Memory.{count_offset, frame_address, group_address, group_stride, list_offset, size, used_offset, word}
+use Rattle.rules.specs.MemoryTest.{buffer_part, first_place, queue_part}
 use Rattle.rules.specs.Node.{Node, group_of}
 use Rattle.rules.specs.Valid.{Valid}
 use Rattle.memory.specs.Holds.{Holds}
@@ -17,7 +17,7 @@ use Rattle.memory.proofs.group.GroupLaws.{group-words}
 use Rattle.memory.proofs.PieceLaws.{holds-pieces}
 use Rattle.node.specs.Parts.{part_of}
 use Rattle.rules.proofs.Map.MapHead.{nobody-part}
-use Rattle.node.proofs.message.HeadLaws.{buffered-part, first_frame, idle-part, queued-part}
+use Rattle.node.proofs.message.HeadLaws.{buffered-part, first-frame, idle-part, queued-part}
 use Rattle.node.proofs.ServedLaws.{runner}
 use Rattle.node.proofs.message.first.Statement.{statement}
 use Rattle.node.proofs.message.first.Tie as tie
@@ -28,10 +28,10 @@ counted : (c : tie.After-group-word) {n : Node} {r : List ℕ} → Holds c.befor
 counted c {n} h v =
     let e = runner h in
     let low : 1 ≤ n.running = omega (arith, c.before.if1.false) in
-    let at : c.group-word.result ≡ word c.before.before.before.before.args.m.now (groupAddress n.running + countOffset) = rw (← e) c.group-word.ensures in
+    let at : c.group-word.result ≡ word c.before.before.before.before.args.m.now (group_address n.running + count_offset) = rw (← e) c.group-word.ensures in
     (low, at ∙ (group-words (holds-pieces h) h.mapped n.running low v.running-bound).count)
 
-in_group : (c : tie.Else1) (k : ℕ) → k < groupStride → InGroup c.before.before.before.args.m.now (get_or c.before.before.before.args.m.now 0 0) k
+in_group : (c : tie.Else1) (k : ℕ) → k < group_stride → InGroup c.before.before.before.args.m.now (get_or c.before.before.before.args.m.now 0 0) k
 in_group c k l =
     let p = c.before.before.before.requires in
     let e = runner p.holds in
@@ -39,20 +39,20 @@ in_group c k l =
     record { long = (holds-pieces p.holds).long; low = omega (arith, c.if1.false); high = omega arith; inside = l }
 
 -- the frame and the place in it
-first-there : (c : tie.After-group-word3) → (c.before.group-word2.result < pageCount paper01) × (c.group-word3.result < paper01.perFrame)
+first-there : (c : tie.After-group-word3) → (c.before.group-word2.result < page_count paper01) × (c.group-word3.result < paper01.per_frame)
 first-there c =
     let p = c.before.before.before.before.before.before.before.requires in
     let e = runner p.holds in
     let k = counted c.before.before.before p.holds p.fact in
-    let f = first_frame p.holds p.fact k.0 (omega (arith, c.before.before.if2.true)) in
+    let f = first-frame p.holds p.fact k.0 (omega (arith, c.before.before.if2.true)) in
     (rw (c.before.group-word2.ensures, e) f.0, rw (c.group-word3.ensures, e) f.1)
 
-at_place : (c : tie.After-place-at) {n : Node} {r : List ℕ} → Holds c.before.before.before.before.before.before.before.before.args.m.now n r → c.place_at.result ≡ firstPlace c.before.before.before.before.before.before.before.before.args.m.now n.running
-unfolding firstPlace
+at_place : (c : tie.After-place-at) {n : Node} {r : List ℕ} → Holds c.before.before.before.before.before.before.before.before.args.m.now n r → c.place_at.result ≡ first_place c.before.before.before.before.before.before.before.before.args.m.now n.running
+unfolding first_place
 at_place c h = c.place_at.ensures ∙ rw (c.before.before.group-word2.ensures, c.before.group-word3.ensures, runner h)
 
 inside : (c : tie.After-place-at) → c.place_at.result + 9 ≤ size
-unfolding frameAddress
+unfolding frame_address
 inside c = let f = first-there c.before in omega (arith, c.place_at.ensures)
 
 long : (c : tie.Start) → size ≤ length c.args.m.now
@@ -65,13 +65,13 @@ returns : tie.Need-returns
 returns c n r h v = sym (ap part_of (nobody-part _ n (sym (runner h) ∙ c.if1.true)))
 
 group-word-requires : tie.Need-group-word-requires
-group-word-requires c κs = in_group c countOffset (omega arith)
+group-word-requires c κs = in_group c count_offset (omega arith)
 
 group-word-requires-2 : tie.Need-group-word-requires-2
-group-word-requires-2 c κs = in_group c.before.before listOffset (omega arith)
+group-word-requires-2 c κs = in_group c.before.before list_offset (omega arith)
 
 group-word-requires-3 : tie.Need-group-word-requires-3
-group-word-requires-3 c κs = in_group c.before.before.before usedOffset (omega arith)
+group-word-requires-3 c κs = in_group c.before.before.before used_offset (omega arith)
 
 place-at-requires : tie.Need-place-at-requires
 place-at-requires c κs = first-there c
@@ -89,7 +89,7 @@ cast-t13 : tie.Need-overflow-cast-t13
 cast-t13 c = omega (arith, c.shared-slice-known3.given c.before.place_at.result)
 
 returns-2 : tie.Need-returns-2
-unfolding bufferPart word
+unfolding buffer_part word
 returns-2 c n r h v =
     let k = counted c.before.before.before.before.before h v in
     let some : 1 ≤ (group_of n n.running).buffer.count = omega (arith, c.before.before.before.before.if2.true) in
@@ -114,7 +114,7 @@ cast-t20 : tie.Need-overflow-cast-t20
 cast-t20 c = omega (arith, c.shared-slice-known5.given 5)
 
 returns-3 : tie.Need-returns-3
-unfolding queuePart word
+unfolding queue_part word
 returns-3 c n r h v =
     let k = counted c.before.before.before.before h v in
     let none : (group_of n n.running).buffer.count ≡ 0 = omega (arith, c.before.before.before.if2.false) in

@@ -6,13 +6,13 @@ use native.Mathlib.Omega.{arith}
 use mathlib.Core.Path.{◌≡◌, ap}
 use lib.ListN.{drop, length, take}
 use borrow.Author.Rules.{rules}
-use Rattle.rules.specs.Build.{wordLimit}
+use Rattle.rules.specs.Build.{word_limit}
 use Rattle.node.proofs.message.HeadLaws.{part-inside}
 use Rattle.node.proofs.message.head_of_node.Statement.{statement}
 use Rattle.node.proofs.message.head_of_node.Tie as tie
 
 -- the part lies within the memory
-inside : (c : tie.After-first) → (c.first.result.start + c.first.result.len ≤ length c.before.before.args.m.now) × (c.first.result.len ≤ wordLimit)
+inside : (c : tie.After-first) → (c.first.result.start + c.first.result.len ≤ length c.before.before.args.m.now) × (c.first.result.len ≤ word_limit)
 inside c =
     let p = c.before.before.requires in
     rw (c.first.ensures p.node p.rest p.holds p.fact) (part-inside p.holds p.fact)

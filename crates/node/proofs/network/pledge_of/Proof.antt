@@ -6,8 +6,8 @@ use mathlib.Core.Logic.{⊎_elim}
 use mathlib.Core.Path.{sym, ap, ◌∙◌}
 use borrow.Author.Rules.{rules}
 use Rattle.rules.specs.Build.{paper01}
-use Rattle.rules.specs.Frames.{ceilDiv}
-use Rattle.rules.specs.Memory.{countOffset, groupStride, usedOffset}
+use Rattle.rules.specs.Frames.{ceil_div}
+use Rattle.rules.specs.Memory.{count_offset, group_stride, used_offset}
 use Rattle.rules.proofs.Steps.FrameLaws.{fits}
 use Rattle.rules.proofs.Steps.NodeLaws.{group-good}
 use Rattle.memory.specs.Writes.{InGroup}
@@ -23,7 +23,7 @@ facts c =
     let g = c.args.i in
     ends p.holds g c.requires.0.0 c.requires.0.1 (fits (group-good p.fact g c.requires.0.0 c.requires.0.1).buffer)
 
-in_group : (c : tie.Start) (k : ℕ) → k < groupStride → InGroup c.args.m.now c.args.i k
+in_group : (c : tie.Start) (k : ℕ) → k < group_stride → InGroup c.args.m.now c.args.i k
 in_group c k h = record { long = (facts c).long; low = c.requires.0.0; high = c.requires.0.1; inside = h }
 
 -- what is counted in the queue is small
@@ -40,10 +40,10 @@ small c =
     ⊎_elim (λ w. omega arith) (λ w. omega arith) c.if1.branch
 
 group-word-requires : tie.Need-group-word-requires
-group-word-requires c κs = in_group c.before usedOffset (omega arith)
+group-word-requires c κs = in_group c.before used_offset (omega arith)
 
 group-word-requires-2 : tie.Need-group-word-requires-2
-group-word-requires-2 c κs = in_group c.before.before countOffset (omega arith)
+group-word-requires-2 c κs = in_group c.before.before count_offset (omega arith)
 
 add-end : tie.Need-overflow-add-end
 add-end c = let f = facts c.before.before.before in omega (arith, c.group-word2.ensures, c.before.group-word.ensures)
@@ -67,7 +67,7 @@ returns c n r h x e =
     let read = pledge-read h g s.requires.0.0 s.requires.0.1 x in
     let q = c.before.before.before.queued-of.ensures n r h in
     c.frames-for.ensures
-    ∙ ap (λ (a : ℕ). ceilDiv a paper01.perFrame) (omega (arith, c.before.before.before.before.group-word2.ensures, c.before.before.before.before.before.group-word.ensures))
+    ∙ ap (λ (a : ℕ). ceil_div a paper01.per_frame) (omega (arith, c.before.before.before.before.group-word2.ensures, c.before.before.before.before.before.group-word.ensures))
     ∙ read c.before.before.if1.k
     (⊎_elim (λ w. omega (arith, queued-same n x g (e ∙ sym w.0.taken))) (λ w. omega (arith, queued-other n x g (λ f. w.0.left (sym f ∙ e)))) c.before.before.if1.branch)
 

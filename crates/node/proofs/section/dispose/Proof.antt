@@ -9,7 +9,7 @@ use lib.ListN.{length-set, set}
 use borrow.Author.Rules.{rules}
 use Rattle.rules.specs.Build.{paper01}
 use Rattle.rules.specs.Lists.{is_empty}
-use Rattle.rules.specs.Memory.{flagWord, running_at, timerAt, word}
+use Rattle.rules.specs.Memory.{flag_word, running_at, timer_at, word}
 use Rattle.rules.specs.Node.{line, Node, group_of}
 use Rattle.rules.specs.Operation.{dispose}
 use Rattle.rules.specs.Step.{disposed, extending, removed, serve}
@@ -35,8 +35,8 @@ with-line c n r h run = record { running = run; own = (holds-pieces h).running; 
 
 -- the message is gone, pending off, timer 0
 gone : (c : tie.After-set-flags) (n : Node) (r : List ℕ) → Holds c.before.before.before.before.before.before.before.before.before.before.before.before.args.m.now n r → Running n
-    → Holds (set c.set-flags.new.0 timerAt 0) (disposed paper01 n) r
-unfolding word flagWord
+    → Holds (set c.set-flags.new.0 timer_at 0) (disposed paper01 n) r
+unfolding word flag_word
 gone c n r h run =
     let t = c.before.before.before.before.remove.ensures n r h (with-line c.before.before.before.before.before.before n r h run) in
     let a = (group_of n n.running).atomic in

@@ -6,10 +6,10 @@ use mathlib.Core.List.{List}
 use mathlib.Core.Logic.{⊎_elim}
 use mathlib.Core.Path.{◌∙◌, ◌≡◌, ap, refl, subst, sym}
 use borrow.Author.Rules.{rules}
-use Rattle.rules.specs.Memory.{flagWord, word}
-use Rattle.rules.specs.Node.{Node, buffered, group_of, withGroup}
-use Rattle.rules.specs.Operation.{atomicityExtend, endAtomic, noTrap}
-use Rattle.rules.specs.Step.{sectionEnded, extending, flagged, serve, timerFlagged}
+use Rattle.rules.specs.Memory.{flag_word, word}
+use Rattle.rules.specs.Node.{Node, buffered, group_of, with_group}
+use Rattle.rules.specs.Operation.{atomicity_extend, end_atomic, no_trap}
+use Rattle.rules.specs.Step.{section_ended, extending, flagged, serve, timer_flagged}
 use Rattle.memory.specs.Holds.{Holds, flagging}
 use Rattle.memory.specs.declared.group.Group.{Group as Group·rt}
 use Rattle.memory.proofs.PieceLaws.{holds-pieces}
@@ -22,7 +22,7 @@ use Rattle.node.proofs.section.end.Statement.{statement}
 use Rattle.node.proofs.section.end.Tie as tie
 
 -- the trap, where the arms meet
-trap-read : (c : tie.Joined2) (n : Node) (r : List ℕ) → Holds c.before.before.before.before.before.before.before.before.before.args.m.now n r → Running n → c.if2.trap ≡ cond (buffered n n.running) atomicityExtend noTrap
+trap-read : (c : tie.Joined2) (n : Node) (r : List ℕ) → Holds c.before.before.before.before.before.before.before.before.before.args.m.now n r → Running n → c.if2.trap ≡ cond (buffered n n.running) atomicity_extend no_trap
 unfolding word
 trap-read c n r h run =
     let e = ap (buffered n) (sym (holds-pieces h).running) ∙ c.before.buffered.ensures n r h in
@@ -30,10 +30,10 @@ trap-read c n r h run =
 
 -- pending is off; force and revoked go off, and then atomic
 ended-there : (c : tie.After-set-flags) (n : Node) (r : List ℕ) → Holds c.before.before.before.before.before.before.before.before.before.before.before.before.before.before.before.args.m.now n r → Running n
-    → ((group_of n n.running).pending ≡ false) × Holds c.set-flags.new.0 (sectionEnded n) r
-unfolding word flagWord sectionEnded flagged flagging timerFlagged withGroup group_of
+    → ((group_of n n.running).pending ≡ false) × Holds c.set-flags.new.0 (section_ended n) r
+unfolding word flag_word section_ended flagged flagging timer_flagged with_group group_of
 ended-there c n r h run =
-    let k = timerFlagged false false n in
+    let k = timer_flagged false false n in
     let read = ap (λ (x : Group·rt). x.pending) c.before.before.before.before.before.before.before.before.before.before.before.read.ensures ∙ runner-pending h run.some run.valid.running-bound in
     let off : (group_of n n.running).pending ≡ false = flag_off _ (sym read ∙ c.before.before.before.before.before.before.before.before.before.if1.false) in
     let timer = runner-timer-flagged h false false (c.before.before.before.before.set-timer-flags.ensures false false refl refl n r h tt) in
@@ -55,7 +55,7 @@ same_length c = search rules
 
 returns : tie.Need-returns
 unfolding word
-returns c n r h run = acting-refused run endAtomic h 9 (section-pending n (flag-on _ (λ e. c.before.if1.true (ap (λ (x : Group·rt). x.pending) c.before.before.before.read.ensures ∙ runner-pending h run.some run.valid.running-bound ∙ e)))) c.refused.ensures
+returns c n r h run = acting-refused run end_atomic h 9 (section-pending n (flag-on _ (λ e. c.before.if1.true (ap (λ (x : Group·rt). x.pending) c.before.before.before.read.ensures ∙ runner-pending h run.some run.valid.running-bound ∙ e)))) c.refused.ensures
 
 buffered-requires : tie.Need-buffered-requires
 unfolding word
@@ -80,8 +80,8 @@ unfolding serve extending
 returns-2 c n r h run =
     let t = ended-there c.before.before.before n r h run in
     let ok = section-ends _ t.0 in
-    acting-unsettled run endAtomic (sectionEnded n) c.before.before.before.before.before.before.before.before.before.if2.trap 0 ok (λ i. effect (sectionEnded n) (sym (trap-read c.before.before.before.before.before.before.before.before.before n r h run) i) 0)
-    (request-sound run endAtomic ok) (omega arith) t.1 c.unsettled.ensures
+    acting-unsettled run end_atomic (section_ended n) c.before.before.before.before.before.before.before.before.before.if2.trap 0 ok (λ i. effect (section_ended n) (sym (trap-read c.before.before.before.before.before.before.before.before.before n r h run) i) 0)
+    (request-sound run end_atomic ok) (omega arith) t.1 c.unsettled.ensures
 
 pub end-spec : {M : Type 1} → statement M
 end-spec =

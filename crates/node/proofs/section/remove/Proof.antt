@@ -5,8 +5,8 @@ use mathlib.Core.Bool.{false, true}
 use mathlib.Core.Path.{◌∙◌, ◌≡◌, ap, sym, subst}
 use borrow.Author.Rules.{rules}
 use Rattle.rules.specs.Frames.{extended}
-use Rattle.rules.specs.Memory.{countOffset}
-use Rattle.rules.specs.Node.{bufferHolds}
+use Rattle.rules.specs.Memory.{count_offset}
+use Rattle.rules.specs.Node.{buffer_holds}
 use Rattle.rules.proofs.Steps.LineLaws.{buffered-holds}
 use Rattle.memory.specs.Holds.{Holds, removing}
 use Rattle.memory.specs.Writes.{InGroup}
@@ -15,7 +15,7 @@ use Rattle.node.proofs.section.SectionLaws.{buffered-waits, direct-queued, remov
 use Rattle.node.proofs.section.remove.Statement.{statement}
 use Rattle.node.proofs.section.remove.Tie as tie
 
-inside : (c : tie.Start) → InGroup c.args.m.now c.args.g countOffset
+inside : (c : tie.Start) → InGroup c.args.m.now c.args.g count_offset
 inside c =
     let p = c.requires in
     let run = p.fact.running in
@@ -38,7 +38,7 @@ same_length c = search rules
 returns : tie.Need-returns
 returns c n r h line =
     let e = line.own in
-    let on : bufferHolds n n.running ≡ true = ap (bufferHolds n) (sym e) ∙ c.before.before.before.before.before.holds.ensures n r h ∙ c.before.before.before.before.if1.true in
+    let on : buffer_holds n n.running ≡ true = ap (buffer_holds n) (sym e) ∙ c.before.before.before.before.before.holds.ensures n r h ∙ c.before.before.before.before.if1.true in
     let k = c.before.before.unbuffer.ensures n r h (rw e (buffered-waits line.running on)) in
     record {
       extended = rw (buffered-holds line.running.valid line.some, on);
@@ -46,14 +46,14 @@ returns c n r h line =
     }
 
 drop-head-requires : tie.Need-drop-head-requires
-drop-head-requires c κs = let p = c.before.before.before.before.before.requires in let e = p.fact.own in record { node = p.node; rest = p.rest; holds = p.holds; fact = direct-queued p.fact.running.valid (ap (bufferHolds p.node) (sym e) ∙ c.before.before.holds.ensures p.node p.rest p.holds ∙ c.before.if1.false) p.fact.some }
+drop-head-requires c κs = let p = c.before.before.before.before.before.requires in let e = p.fact.own in record { node = p.node; rest = p.rest; holds = p.holds; fact = direct-queued p.fact.running.valid (ap (buffer_holds p.node) (sym e) ∙ c.before.before.holds.ensures p.node p.rest p.holds ∙ c.before.if1.false) p.fact.some }
 
 same-length-2 : tie.Need-same-length-2
 same-length-2 c = search rules
 
 returns-2 : tie.Need-returns-2
 returns-2 c n r h line =
-    let off : bufferHolds n n.running ≡ false = ap (bufferHolds n) (sym line.own) ∙ c.before.before.before.before.before.holds.ensures n r h ∙ c.before.before.before.before.if1.false in
+    let off : buffer_holds n n.running ≡ false = ap (buffer_holds n) (sym line.own) ∙ c.before.before.before.before.before.holds.ensures n r h ∙ c.before.before.before.before.if1.false in
     record {
       extended = rw (buffered-holds line.running.valid line.some, off);
       holds = rw (removed-direct line.running.valid off) (c.before.before.drop_head.ensures n r h (direct-queued line.running.valid off line.some));

@@ -5,15 +5,15 @@ use mathlib.Core.List.{List}
 use mathlib.Core.Path.{◌≡◌}
 use lib.ListN.{length}
 use borrow.Author.Rules.{rules}
-use Rattle.rules.specs.Build.{groupCount, paper01}
-use Rattle.rules.specs.Memory.{queueAt, size, word, wordsAt}
+use Rattle.rules.specs.Build.{group_count, paper01}
+use Rattle.rules.specs.Memory.{queue_at, size, word, words_at}
 use Rattle.rules.specs.Node.{Node}
 use Rattle.rules.specs.Paging.{store}
 use Rattle.memory.specs.Holds.{Holds, Kept, Some}
 use Rattle.memory.specs.Paging.{Wanting}
 use Rattle.memory.proofs.PieceLaws.{holds-pieces}
 use Rattle.memory.proofs.queue.QueueLaws.{message-read}
-use Rattle.node.specs.Steps.{Headed, head_of, movingHead}
+use Rattle.node.specs.Steps.{Headed, head_of, moving_head}
 use Rattle.node.proofs.settling.MoveLaws.{head-good-group, head-wanting, stored-queued}
 use Rattle.node.proofs.settling.move_head.Statement.{statement}
 use Rattle.node.proofs.settling.move_head.Tie as tie
@@ -21,12 +21,12 @@ use Rattle.node.proofs.settling.move_head.Tie as tie
 -- what stands at the head of the queue
 record Read (m : List ℕ) : Type 0 where
   long : size ≤ length m
-  low : 1 ≤ word m queueAt
-  high : word m queueAt ≤ groupCount
-  some : Some m (Wanting (word m queueAt))
+  low : 1 ≤ word m queue_at
+  high : word m queue_at ≤ group_count
+  some : Some m (Wanting (word m queue_at))
 
 head-kept : {m : List ℕ} {n : Node} {r : List ℕ} → Holds m n r → Headed n
-    → (word m queueAt ≡ (head_of n).group) × Kept (word m queueAt) (word m (queueAt + 1)) (wordsAt m (queueAt + 2) 8) (head_of n)
+    → (word m queue_at ≡ (head_of n).group) × Kept (word m queue_at) (word m (queue_at + 1)) (words_at m (queue_at + 2) 8) (head_of n)
 unfolding head_of
 head-kept h headed = message-read h 0 headed.some
 
@@ -78,7 +78,7 @@ same_length : tie.Need-same-length
 same_length c = search rules
 
 returns : tie.Need-returns
-unfolding movingHead
+unfolding moving_head
 returns c n r h headed = c.before.before.drop_head.ensures (store paper01 (head_of n) n) r (stored c.before.before.before.before.before.before n r h headed) (stored-queued headed)
 
 pub move-head-spec : {M : Type 1} → statement M

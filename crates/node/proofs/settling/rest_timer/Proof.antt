@@ -3,7 +3,7 @@ use native.Mathlib.Omega.{arith}
 use mathlib.Core.Path.{◌∙◌}
 use borrow.Author.Rules.{rules}
 use borrow.Author.Tests.{not-false, not-true}
-use Rattle.rules.specs.Memory.{timerAt}
+use Rattle.rules.specs.Memory.{timer_at}
 use Rattle.memory.proofs.PieceLaws.{holds-pieces}
 use Rattle.memory.proofs.PieceWrites.{timer-held}
 use Rattle.memory.proofs.WriteLaws.{wrote-set}
@@ -23,7 +23,7 @@ same_length c = search rules
 returns : tie.Need-returns
 returns c n r h s =
     rw (rest-stopped n (c.before.timer-runs.ensures n r h s ∙ not-true _ c.if1.true))
-    (timer-held h 0 (wrote-set c.before.before.before.before.args.m.now timerAt 0 (omega (arith, (holds-pieces h).long))))
+    (timer-held h 0 (wrote-set c.before.before.before.before.args.m.now timer_at 0 (omega (arith, (holds-pieces h).long))))
 
 same-length-2 : tie.Need-same-length-2
 same-length-2 c = search rules

@@ -1,4 +1,4 @@
--- `node::settling::stays` meets its contract: the two tests are those of `mayStay`. Assumes nothing.
+-- `node::settling::stays` meets its contract: the two tests are those of `may_stay`. Assumes nothing.
 use mathlib.Core.Bool.{not}
 use mathlib.Core.Path.{◌∙◌, ap, sym}
 use borrow.Author.Rules.{rules}

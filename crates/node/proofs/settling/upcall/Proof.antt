@@ -7,7 +7,7 @@ use mathlib.Core.Logic.{⊎_elim}
 use mathlib.Core.Path.{◌∙◌, ◌≡◌, ap, refl, sym}
 use lib.ListN.{length}
 use borrow.Author.Rules.{rules}
-use Rattle.rules.specs.Memory.{countOffset, flagWord, running_at, word}
+use Rattle.rules.specs.Memory.{count_offset, flag_word, running_at, word}
 use Rattle.memory.specs.Writes.{InGroup}
 use Rattle.memory.specs.declared.group.Group.{Group as Group·rt}
 use Rattle.memory.proofs.PieceLaws.{holds-pieces}
@@ -15,7 +15,7 @@ use Rattle.node.proofs.settling.CallLaws.{called-atomic, called-buffered, called
 use Rattle.node.proofs.settling.upcall.Statement.{statement}
 use Rattle.node.proofs.settling.upcall.Tie as tie
 
-facts : (c : tie.Else1) (m : List ℕ) → length m ≡ length c.before.before.before.args.m.now → InGroup m (word c.before.before.before.args.m.now running_at) countOffset
+facts : (c : tie.Else1) (m : List ℕ) → length m ≡ length c.before.before.before.args.m.now → InGroup m (word c.before.before.before.args.m.now running_at) count_offset
 unfolding word
 facts c m l =
     let p = c.before.before.before.requires in
@@ -62,7 +62,7 @@ same-length-3 : tie.Need-same-length-3
 same-length-3 c = search rules
 
 returns-4 : tie.Need-returns-4
-unfolding word flagWord
+unfolding word flag_word
 returns-4 c n r h s =
     let some = c.before.before.before.before.before.before.before.before.before.before.if1.false in
     let read = c.before.before.before.before.before.before.before.before.read.ensures in

@@ -1,16 +1,16 @@
--- `node::turn::next` meets its contract: it computes what `byBits` says. Assumes nothing.
+-- `node::turn::next` meets its contract: it computes what `by_bits` says. Assumes nothing.
 use Prim.Native.Nat.{ℕ, ◌*◌, ◌/◌, ◌^◌, ◌≤◌}
 use mathlib.Core.Path.{sym, ap}
 use borrow.Author.Rules.{rules}
 use lib.Count.{trailing_le, count_trailing_zeros}
-use Rattle.rules.specs.Turns.{byBits}
+use Rattle.rules.specs.Turns.{by_bits}
 use Rattle.node.proofs.turn.MailLaws.{bits-some}
 use Rattle.node.proofs.turn.next.Statement.{statement}
 use Rattle.node.proofs.turn.next.Tie as tie
 
 returns : tie.Need-returns
-unfolding byBits
-returns c = sym (ap (λ (s : ℕ). byBits s c.before.args.running) c.if1.true)
+unfolding by_bits
+returns c = sym (ap (λ (s : ℕ). by_bits s c.before.args.running) c.if1.true)
 
 mul-shifted : tie.Need-overflow-mul-shifted
 mul-shifted c = search rules

@@ -4,7 +4,7 @@ use native.Mathlib.Omega.{arith}
 use mathlib.Core.Path.{ap, ◌∙◌}
 use borrow.Author.Rules.{rules}
 use Rattle.rules.specs.Memory.{word}
-use Rattle.rules.specs.Turns.{byBits}
+use Rattle.rules.specs.Turns.{by_bits}
 use Rattle.node.specs.Steps.{done}
 use Rattle.memory.proofs.PieceLaws.{holds-pieces}
 use Rattle.node.proofs.turn.MailLaws.{mail-byte, turn-acts}
@@ -33,7 +33,7 @@ returns : tie.Need-returns
 unfolding word
 returns c n r h v =
     let set = c.before.before.before.before.mail-set.ensures n r h v in
-    turn-acts h v (c.before.before.next.ensures ∙ (λ i. byBits (set i) ((holds-pieces h).running i))) (c.done.ensures ∙ ap done c.before.accepted.ensures)
+    turn-acts h v (c.before.before.next.ensures ∙ (λ i. by_bits (set i) ((holds-pieces h).running i))) (c.done.ensures ∙ ap done c.before.accepted.ensures)
 
 pub turn_spec : {M : Type 1} → statement M
 turn_spec =

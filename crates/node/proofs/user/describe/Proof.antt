@@ -6,7 +6,7 @@ use mathlib.Core.List.{[], ◌++◌, ◌∷◌}
 use mathlib.Core.Path.{ap}
 use lib.ListN.{length, length-append}
 use borrow.Author.Rules.{rules}
-use Rattle.rules.specs.Build.{wordLimit}
+use Rattle.rules.specs.Build.{word_limit}
 use Rattle.rules.specs.Memory.{running_at, word}
 use Rattle.rules.specs.Node.{group_of}
 use Rattle.memory.specs.declared.descriptor.Descriptor.{Descriptor as Descriptor·rt}
@@ -55,7 +55,7 @@ returns-2 c n r h runs =
     let e = c.before.before.before.before.before.before.before.before.read.ensures n r h in
     let len = ap (λ (x : Descriptor·rt). x.len) e in
     let room = c.before.before.before.before.before.before.if1.false in
-    let few : length (d ++ (s.args.w ∷ [])) ≤ wordLimit = omega (arith, length-append d (s.args.w ∷ [])) in
+    let few : length (d ++ (s.args.w ∷ [])) ≤ word_limit = omega (arith, length-append d (s.args.w ∷ [])) in
     let next = c.before.before.before.before.before.described.ensures d e in
     let held = c.before.before.before.write.ensures (d ++ (s.args.w ∷ [])) few next n r h tt in
     describe-serves h runs e s.args.w (omega arith) held (rw next at c.accepted.ensures)

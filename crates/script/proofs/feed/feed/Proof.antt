@@ -2,7 +2,7 @@
 use native.Mathlib.Omega.{arith}
 use mathlib.Core.Path.{◌≡◌, refl}
 use lib.ListN.{length}
-use Rattle.script.specs.Feed.{keptLine}
+use Rattle.script.specs.Feed.{kept_line}
 use Rattle.script.proofs.write.DecimalLaws.{decimal-length}
 use Rattle.script.proofs.feed.FedLaws.{counts-written, fed-enough, fed-feedable, fed-first, kept-empty, kept-one}
 use borrow.Author.Rules.{rules}
@@ -60,7 +60,7 @@ same-length-4 : tie.Need-same-length-4
 same-length-4 c = search rules
 
 returns-3 : tie.Need-returns-3
-unfolding keptLine
+unfolding kept_line
 returns-3 c = fed-enough (let t = c.before.before.before.before.before.before.before.before.before.before.before.before.before.before.before.before.before.if1.false in omega arith) c.before.before.before.before.before.before.before.before.kept-count.ensures.1 c.before.before.before.before.feed-begun.ensures
 
 pub feed-spec : {M : Type 1} → statement M

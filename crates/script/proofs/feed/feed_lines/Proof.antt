@@ -4,7 +4,7 @@ use Prim.Native.Nat.{◌-◌}
 use native.Mathlib.Omega.{arith}
 use mathlib.Core.Path.{◌≡◌, ◌∙◌, ap}
 use lib.ListN.{take}
-use Rattle.script.specs.Feed.{keptRoom}
+use Rattle.script.specs.Feed.{kept_room}
 use Rattle.script.proofs.feed.FeedLaws.{cut-playable, drop_all, lines-stopped, lines-used}
 use borrow.Author.Rules.{rules}
 use Rattle.script.proofs.feed.feed_lines.Statement.{statement}
@@ -69,7 +69,7 @@ returns-2 : tie.Need-returns-2
 returns-2 c =
     let z : c.before.before.before.before.before.before.before.before.before.before.before.before.before.before.before.behind-last.result - 0 ≡ c.before.before.before.before.before.before.before.before.before.before.before.before.before.before.before.behind-last.result = omega arith in
     lines-used c.before.before.before.before.before.before.before.before.before.before.before.before.before.before.before.before.before.before.before.requires c.before.before.before.before.before.before.before.before.before.before.before.before.before.before.before.behind-last.ensures (rw z at c.before.before.before.before.before.before.before.before.before.before.play.ensures)
-    (let e = c.before.before.before.before.if1.false in omega arith) (c.before.keep.ensures.0 ∙ ap (take keptRoom) (drop_all c.before.before.before.before.before.before.before.before.before.before.before.before.before.before.before.before.before.before.before.args.input.now c.before.before.before.before.before.before.before.before.before.before.before.before.before.before.before.behind-last.result))
+    (let e = c.before.before.before.before.if1.false in omega arith) (c.before.keep.ensures.0 ∙ ap (take kept_room) (drop_all c.before.before.before.before.before.before.before.before.before.before.before.before.before.before.before.before.before.before.before.args.input.now c.before.before.before.before.before.before.before.before.before.before.before.before.before.before.before.behind-last.result))
 
 pub feed-lines-spec : {M : Type 1} → statement M
 feed-lines-spec =

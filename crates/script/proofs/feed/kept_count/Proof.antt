@@ -4,7 +4,7 @@ use native.Mathlib.Omega.{arith}
 use mathlib.Core.Path.{◌≡◌, sym}
 use lib.ListN.{take}
 use lib.Seq.{length-take-le, take_all, take-take}
-use Rattle.script.specs.Feed.{keptRoom}
+use Rattle.script.specs.Feed.{kept_room}
 use Rattle.script.proofs.feed.FeedLaws.{kept-counted}
 use borrow.Author.Rules.{rules}
 use Rattle.script.proofs.feed.kept_count.Statement.{statement}
@@ -45,7 +45,7 @@ returns-2 c =
     let t = c.before.before.if1.false in
     let z : s.args.count - 0 ≡ s.args.count = omega arith in
     kept-counted s.args.kept.now s.args.count s.args.count s.requires
-    (sym (take_all keptRoom (take s.args.count s.args.kept.now) (let l = length-take-le s.args.count s.args.kept.now (let r = s.requires in omega arith) in omega arith)))
+    (sym (take_all kept_room (take s.args.count s.args.kept.now) (let l = length-take-le s.args.count s.args.kept.now (let r = s.requires in omega arith) in omega arith)))
     (omega arith)
     (rw z at c.end-of-line2.ensures)
 

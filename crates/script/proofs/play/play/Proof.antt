@@ -5,7 +5,7 @@ use native.Mathlib.Omega.{arith}
 use mathlib.Core.Path.{◌≡◌, ◌∙◌, refl}
 use borrow.Author.Rules.{rules}
 use lib.ListN.{length}
-use Rattle.script.specs.Read.{fieldLimit}
+use Rattle.script.specs.Read.{field_limit}
 use Rattle.script.proofs.play.PlayLaws.{Playing, playing-start, playing-more, played-forward, played-to}
 use Rattle.script.proofs.play.play.Statement.{statement}
 use Rattle.script.proofs.play.play.Tie as tie
@@ -13,7 +13,7 @@ use Rattle.script.proofs.play.play.Tie as tie
 abbrev invariant-loop : tie.invariant-loop
 invariant-loop memory₀ good s from out₀ at digits₀ len fields₀ p₀ memory out digits fields p =
     (length memory ≡ length memory₀)
-    × ((length fields ≡ fieldLimit)
+    × ((length fields ≡ field_limit)
     × ((p.stop ≡ 0) × Playing memory₀ s from out₀ at digits₀ len memory out digits p.used p.at p.len p.lines))
 
 abbrev decreases-loop : tie.decreases-loop

@@ -2,36 +2,36 @@
 -- other the table gives none. Assumes nothing.
 use mathlib.Core.Bool.{false}
 use mathlib.Core.Path.{refl}
-use Rattle.rules.specs.Script.{letters, lettered, no_field, forceField}
+use Rattle.rules.specs.Script.{letters, lettered, no_field, force_field}
 use Rattle.rules.specs.Script as script
-use Rattle.rules.specs.Types.{operationOf}
+use Rattle.rules.specs.Types.{operation_of}
 use Rattle.rules.specs.declared.Operation.TheVariants.{Preempt, Turn, Poll, Dispose, BeginAtomic, EndAtomic}
 use Rattle.script.proofs.read.LetterLaws.{reads-alone, reads-not-alone}
 use Rattle.script.proofs.read.alone.Statement.{statement}
 use Rattle.script.proofs.read.alone.Tie as tie
 
 returns : tie.Need-returns
-unfolding operationOf script.operationOf letters lettered no_field
+unfolding operation_of script.operation_of letters lettered no_field
 returns c = reads-alone c.before.args.letter Preempt 79 c.match.keys1 refl
 
 returns-2 : tie.Need-returns-2
-unfolding operationOf script.operationOf letters lettered no_field
+unfolding operation_of script.operation_of letters lettered no_field
 returns-2 c = reads-alone c.before.args.letter Turn 67 c.match.keys2 refl
 
 returns-3 : tie.Need-returns-3
-unfolding operationOf script.operationOf letters lettered no_field
+unfolding operation_of script.operation_of letters lettered no_field
 returns-3 c = reads-alone c.before.args.letter Poll 77 c.match.keys3 refl
 
 returns-4 : tie.Need-returns-4
-unfolding operationOf script.operationOf letters lettered no_field
+unfolding operation_of script.operation_of letters lettered no_field
 returns-4 c = reads-alone c.before.args.letter Dispose 68 c.match.keys4 refl
 
 returns-5 : tie.Need-returns-5
-unfolding operationOf script.operationOf letters lettered forceField
+unfolding operation_of script.operation_of letters lettered force_field
 returns-5 c = reads-alone c.before.args.letter (BeginAtomic false) 66 c.match.keys5 refl
 
 returns-6 : tie.Need-returns-6
-unfolding operationOf script.operationOf letters lettered no_field
+unfolding operation_of script.operation_of letters lettered no_field
 returns-6 c = reads-alone c.before.args.letter EndAtomic 78 c.match.keys6 refl
 
 returns-7 : tie.Need-returns-7

@@ -3,13 +3,13 @@ use Prim.Native.Nat.{◌-◌, ◌≤◌}
 use native.Mathlib.Omega.{arith}
 use mathlib.Core.Path.{◌≡◌, refl, sym, ◌∙◌}
 use lib.ListN.{length}
-use Rattle.script.specs.Read.{lineEnd}
+use Rattle.script.specs.Read.{line_end}
 use Rattle.script.proofs.read.LineEndLaws.{line-at-end, line-newline, end_empty, end_more}
 use Rattle.script.proofs.read.end_of_line.Statement.{statement}
 use Rattle.script.proofs.read.end_of_line.Tie as tie
 
 abbrev invariant-loop : tie.invariant-loop
-invariant-loop s from i₀ i = (i ≤ length s) × (lineEnd s i ≡ lineEnd s from)
+invariant-loop s from i₀ i = (i ≤ length s) × (line_end s i ≡ line_end s from)
 
 abbrev decreases-loop : tie.decreases-loop
 decreases-loop s from i₀ i = length s - i

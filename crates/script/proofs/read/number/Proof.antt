@@ -6,7 +6,7 @@ use borrow.Author.Tests.{not-true, not-false}
 use mathlib.Core.Bool.{true, false≢true}
 use mathlib.Core.Path.{◌≡◌, sym, ◌∙◌}
 use lib.ListN.{length, get_or}
-use Rattle.rules.specs.Text.{isDigit}
+use Rattle.rules.specs.Text.{is_digit}
 use Rattle.script.proofs.read.NumberLaws.{Reading, digit-range, digits-at-end, digits-stop, reading-none, reading-fits, reading-more, reading-long, read-stops}
 use Rattle.script.proofs.read.number.Statement.{statement}
 use Rattle.script.proofs.read.number.Tie as tie
@@ -18,7 +18,7 @@ abbrev decreases-loop : tie.decreases-loop
 decreases-loop s at value₀ i₀ value i = length s - i
 
 -- the byte at hand is a digit
-digit : (c : tie.Else1 invariant-loop decreases-loop) → isDigit (get_or c.before.before.before.before.before.before.args.s.now c.before.before.before.before.loop.i 0) ≡ true
+digit : (c : tie.Else1 invariant-loop decreases-loop) → is_digit (get_or c.before.before.before.before.before.before.args.s.now c.before.before.before.before.loop.i 0) ≡ true
 digit c = c.before.is_digit.ensures ∙ not-false _ c.if1.false
 
 -- and one digit more fits

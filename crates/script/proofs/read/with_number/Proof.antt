@@ -2,9 +2,9 @@
 -- other the table gives none. Assumes nothing.
 use mathlib.Core.Path.{refl}
 use borrow.Author.Rules.{rules}
-use Rattle.rules.specs.Script.{letters, lettered, oneField, forceField}
+use Rattle.rules.specs.Script.{letters, lettered, one_field, force_field}
 use Rattle.rules.specs.Script as script
-use Rattle.rules.specs.Types.{operationOf}
+use Rattle.rules.specs.Types.{operation_of}
 use Rattle.rules.specs.declared.Operation.TheVariants.{Schedule, Dispatch, Tick, Peek, Describe, Launch}
 use Rattle.script.specs.Read.{BeginRead}
 use Rattle.script.proofs.read.LetterLaws.{reads-number, reads-not-one}
@@ -12,25 +12,25 @@ use Rattle.script.proofs.read.with_number.Statement.{statement}
 use Rattle.script.proofs.read.with_number.Tie as tie
 
 returns : tie.Need-returns
-unfolding operationOf script.operationOf letters lettered oneField
+unfolding operation_of script.operation_of letters lettered one_field
 returns c =
     let a = c.before.args in
     reads-number a.letter (Schedule a.number) a.number 83 c.match.keys1 refl
 
 returns-2 : tie.Need-returns-2
-unfolding operationOf script.operationOf letters lettered oneField
+unfolding operation_of script.operation_of letters lettered one_field
 returns-2 c =
     let a = c.before.args in
     reads-number a.letter (Dispatch a.number) a.number 73 c.match.keys2 refl
 
 returns-3 : tie.Need-returns-3
-unfolding operationOf script.operationOf letters lettered oneField
+unfolding operation_of script.operation_of letters lettered one_field
 returns-3 c =
     let a = c.before.args in
     reads-number a.letter (Tick a.number) a.number 84 c.match.keys3 refl
 
 returns-4 : tie.Need-returns-4
-unfolding operationOf script.operationOf letters lettered oneField
+unfolding operation_of script.operation_of letters lettered one_field
 returns-4 c =
     let a = c.before.args in
     reads-number a.letter (Peek a.number) a.number 69 c.match.keys4 refl
@@ -39,19 +39,19 @@ begin-requires : tie.Need-begin-requires
 begin-requires c κs = search rules
 
 returns-5 : tie.Need-returns-5
-unfolding script.operationOf letters lettered forceField oneField BeginRead
+unfolding script.operation_of letters lettered force_field one_field BeginRead
 returns-5 c =
     let a = c.before.before.args in
     reads-number a.letter c.begin.result a.number 66 c.before.match.keys5 c.begin.ensures
 
 returns-6 : tie.Need-returns-6
-unfolding operationOf script.operationOf letters lettered oneField
+unfolding operation_of script.operation_of letters lettered one_field
 returns-6 c =
     let a = c.before.args in
     reads-number a.letter (Describe a.number) a.number 80 c.match.keys6 refl
 
 returns-7 : tie.Need-returns-7
-unfolding operationOf script.operationOf letters lettered oneField
+unfolding operation_of script.operation_of letters lettered one_field
 returns-7 c =
     let a = c.before.args in
     reads-number a.letter (Launch a.number) a.number 76 c.match.keys7 refl

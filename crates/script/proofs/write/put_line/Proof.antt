@@ -5,7 +5,7 @@ use mathlib.Core.List.{◌++◌}
 use mathlib.Core.Path.{ap, ◌∙◌}
 use borrow.Author.Rules.{rules}
 use Rattle.rules.specs.Text.{decimal}
-use Rattle.script.specs.Written.{behindNumber}
+use Rattle.script.specs.Written.{behind_number}
 use Rattle.script.proofs.write.AppendedLaws.{appended-as, appended_then}
 use Rattle.script.proofs.write.CounterLaws.{counts-length}
 use Rattle.script.proofs.write.ListingLaws.{line-behind}
@@ -32,7 +32,7 @@ returns c =
     let number = c.before.before.before.before.before.before.put-counter.ensures in
     let w = number k.number k.counts in
     let report = c.before.before.put-report.ensures in (
-      λ i q h e l. appended-as (appended_then (number i h) report.0) (ap (λ r. decimal i ++ behindNumber r) e ∙ line-behind l i),
+      λ i q h e l. appended-as (appended_then (number i h) report.0) (ap (λ r. decimal i ++ behind_number r) e ∙ line-behind l i),
       omega (arith, w.end, counts-length k.counts, report.1),
     )
 

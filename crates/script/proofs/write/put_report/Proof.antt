@@ -5,7 +5,7 @@ use mathlib.Core.List.{List, ◌++◌}
 use lib.ListN.{length-set}
 use borrow.Author.Rules.{rules}
 use Rattle.rules.specs.declared.Report.{Report as Report·rt}
-use Rattle.script.specs.Written.{Appended, field, fields, sentNumbers, reportRoom}
+use Rattle.script.specs.Written.{Appended, field, fields, sent_numbers, report_room}
 use Rattle.script.proofs.write.AppendedLaws.{appended-as, appended_then, appended-next}
 use Rattle.script.proofs.write.ListingLaws.{behind-fields}
 use Rattle.script.proofs.write.put_report.Statement.{statement}
@@ -55,13 +55,13 @@ abbrev start : tie.After-slice-known7 → tie.Start
 start c = (answer c).before.before.before
 
 -- the five fields and what was sent
-abbrev allFields : Report·rt → List ℕ
-allFields r =
-    ((((field r.answer ++ field r.value) ++ field r.trap) ++ field r.upcall) ++ field r.moved) ++ fields (sentNumbers r.sent)
+abbrev all_fields : Report·rt → List ℕ
+all_fields r =
+    ((((field r.answer ++ field r.value) ++ field r.trap) ++ field r.upcall) ++ field r.moved) ++ fields (sent_numbers r.sent)
 
 -- all but the newline
 written : (c : tie.After-slice-known7)
-    → Appended (start c).args.out.now (start c).args.at c.before.before.put-sent.new.0 c.before.before.put-sent.result (allFields (start c).args.r)
+    → Appended (start c).args.out.now (start c).args.at c.before.before.put-sent.new.0 c.before.before.put-sent.result (all_fields (start c).args.r)
 written c =
     let w₁ = (answer c).put-field.ensures.0 in
     let w₂ = appended_then w₁ (value c).put-field2.ensures.0 in
@@ -71,7 +71,7 @@ written c =
     appended_then w₅ c.before.before.put-sent.ensures.0
 
 -- its end
-bound : (c : tie.After-slice-known7) → c.before.before.put-sent.result + 1 ≤ (start c).args.at + reportRoom
+bound : (c : tie.After-slice-known7) → c.before.before.put-sent.result + 1 ≤ (start c).args.at + report_room
 bound c =
     let first = (answer c).put-field.ensures.1 in
     let second = (value c).put-field2.ensures.1 in

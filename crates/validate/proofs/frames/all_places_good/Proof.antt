@@ -2,13 +2,13 @@
 use Prim.Native.Nat.{◌-◌}
 use native.Mathlib.Omega.{arith}
 use borrow.Author.Rules.{rules}
-use Rattle.validate.specs.Clauses.{placesGood}
+use Rattle.validate.specs.Clauses.{places_good}
 use Rattle.validate.proofs.RangeLaws.{Below, groups_none, groups-more, groups-fail, groups-all}
 use Rattle.validate.proofs.frames.all_places_good.Statement.{statement}
 use Rattle.validate.proofs.frames.all_places_good.Tie as tie
 
 abbrev invariant-loop : tie.invariant-loop
-invariant-loop m masks g₀ g = Below (placesGood m) g
+invariant-loop m masks g₀ g = Below (places_good m) g
 
 abbrev decreases-loop : tie.decreases-loop
 decreases-loop m masks g₀ g = 9 - g

@@ -4,7 +4,7 @@ use Prim.Native.Nat.{◌<◌}
 use mathlib.Core.Path.{◌∙◌}
 use native.Mathlib.Omega.{arith}
 use borrow.Author.Rules.{rules}
-use Rattle.rules.specs.Memory.{frameAddress}
+use Rattle.rules.specs.Memory.{frame_address}
 use Rattle.validate.proofs.frames.PlaceLaws.{room}
 use Rattle.validate.proofs.frames.WipedLaws.{behind-none, last-inside, last-page, behind-zero}
 use Rattle.validate.proofs.frames.behind_wiped.Statement.{statement}
@@ -62,7 +62,7 @@ mul-zeros : tie.Need-overflow-mul-zeros
 mul-zeros c = search rules
 
 zeros-requires : tie.Need-zeros-requires
-unfolding frameAddress
+unfolding frame_address
 zeros-requires c κs =
     let s = c.before.before.before.before.before.before in
     omega (arith, page c.before, s.requires.long)

@@ -6,7 +6,7 @@ use mathlib.Core.Bool.{true}
 use mathlib.Core.List.{◌++◌}
 use native.Mathlib.Omega.{arith}
 use borrow.Author.Rules.{rules}
-use Rattle.rules.specs.Memory.{size, word, wordsAt}
+use Rattle.rules.specs.Memory.{size, word, words_at}
 use Rattle.validate.specs.Clauses.{listed}
 use Rattle.validate.proofs.frames.ListedLaws.{list-bound}
 use Rattle.validate.proofs.frames.OnceLaws.{Marked}
@@ -16,7 +16,7 @@ use Rattle.validate.proofs.frames.frames_once.Tie as tie
 
 abbrev invariant-loop : tie.invariant-loop
 invariant-loop m from to limit seen₀ once₀ l at count i₀ seen once i =
-    (i ≤ count) × ((once ≡ true) × Marked limit seen (listed m from (l - from) ++ wordsAt m at i))
+    (i ≤ count) × ((once ≡ true) × Marked limit seen (listed m from (l - from) ++ words_at m at i))
 
 abbrev decreases-loop : tie.decreases-loop
 decreases-loop m from to limit seen₀ once₀ l at count i₀ seen once i = count - i

@@ -1,7 +1,7 @@
 -- `validate::frames::list_at` meets its contract: the map's sums. Assumes nothing.
 use mathlib.Core.Path.{sym}
 use native.Mathlib.Omega.{arith}
-use Rattle.rules.specs.Memory.{groupAddress}
+use Rattle.rules.specs.Memory.{group_address}
 use Rattle.validate.proofs.frames.ListedLaws.{entered-start, free-start, swap-start, group-start}
 use Rattle.validate.proofs.frames.list_at.Statement.{statement}
 use Rattle.validate.proofs.frames.list_at.Tie as tie
@@ -22,7 +22,7 @@ group-at-requires : tie.Need-group-at-requires
 group-at-requires c κs = omega arith
 
 add-result : tie.Need-overflow-add-result
-unfolding groupAddress
+unfolding group_address
 add-result c = omega arith
 
 returns-4 : tie.Need-returns-4

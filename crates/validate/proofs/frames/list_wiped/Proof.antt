@@ -3,15 +3,15 @@ use Prim.Native.Nat.{◌+◌, ◌-◌, ◌≤◌, ◌<◌}
 use mathlib.Core.Path.{◌∙◌}
 use native.Mathlib.Omega.{arith}
 use borrow.Author.Rules.{rules}
-use Rattle.rules.specs.Memory.{size, word, frameAddress}
+use Rattle.rules.specs.Memory.{size, word, frame_address}
 use Rattle.validate.proofs.RangeLaws.{Passed, passed_none, passed-more, passed-all, failed-all, refused, accepted}
 use Rattle.validate.proofs.frames.ListedLaws.{list-bound}
-use Rattle.validate.proofs.frames.WipedLaws.{wipedAt, page-tested, list-tested}
+use Rattle.validate.proofs.frames.WipedLaws.{wiped_at, page-tested, list-tested}
 use Rattle.validate.proofs.frames.list_wiped.Statement.{statement}
 use Rattle.validate.proofs.frames.list_wiped.Tie as tie
 
 abbrev invariant-loop : tie.invariant-loop
-invariant-loop m l at count i₀ i = (i ≤ count) × Passed (wipedAt m at) 0 i
+invariant-loop m l at count i₀ i = (i ≤ count) × Passed (wiped_at m at) 0 i
 
 abbrev decreases-loop : tie.decreases-loop
 decreases-loop m l at count i₀ i = count - i
@@ -56,7 +56,7 @@ unfolding word
 page-at-requires c κs = page c.before
 
 zeros-requires : tie.Need-zeros-requires invariant-loop decreases-loop
-unfolding word frameAddress
+unfolding word frame_address
 zeros-requires c κs = omega (arith, page c.before.before)
 
 returns : tie.Need-returns invariant-loop decreases-loop
@@ -70,7 +70,7 @@ returns c =
     let a = d.list_at.result in
     let k = l.before.list_count.result in
     list-tested m s.args.l a k d.list_at.ensures l.before.list_count.ensures
-    ∙ failed-all (wipedAt m a) 0 l.loop.i k (omega arith) (omega arith)
+    ∙ failed-all (wiped_at m a) 0 l.loop.i k (omega arith) (omega arith)
     (refused (page-tested m a l.loop.i _ _ z.before.page-at.ensures z.zeros.ensures) c.if1.true)
 
 add-i : tie.Need-overflow-add-i invariant-loop decreases-loop
@@ -88,7 +88,7 @@ loop-again c =
     let m = d.before.before.args.m.now in
     let a = d.list_at.result in
     let here = accepted (page-tested m a l.loop.i _ _ z.before.page-at.ensures z.zeros.ensures) c.if1.false in
-    (omega arith, passed-more (wipedAt m a) 0 l.loop.i l.loop.invariant.1 here)
+    (omega arith, passed-more (wiped_at m a) 0 l.loop.i l.loop.invariant.1 here)
 
 returns-2 : tie.Need-returns-2 invariant-loop decreases-loop
 returns-2 c =
@@ -99,7 +99,7 @@ returns-2 c =
     let a = d.list_at.result in
     let k = l.before.list_count.result in
     list-tested m s.args.l a k d.list_at.ensures l.before.list_count.ensures
-    ∙ passed-all (wipedAt m a) 0 l.loop.i k l.loop.invariant.1 (omega arith)
+    ∙ passed-all (wiped_at m a) 0 l.loop.i k l.loop.invariant.1 (omega arith)
 
 pub list-wiped-spec : {M : Type 1} → statement M
 list-wiped-spec =

@@ -5,14 +5,14 @@ use native.Mathlib.Omega.{arith}
 use mathlib.Core.Path.{◌≡◌}
 use lib.Dec.{eqb}
 use Rattle.rules.specs.Memory.{word}
-use Rattle.rules.specs.MemoryTest.{zeroAt}
+use Rattle.rules.specs.MemoryTest.{zero_at}
 use Rattle.memory.proofs.words.ZeroLaws.{zero-none}
 use Rattle.validate.proofs.frames.MaskLaws.{past-gathered}
 use Rattle.validate.proofs.frames.past_zero.Statement.{statement}
 use Rattle.validate.proofs.frames.past_zero.Tie as tie
 
 abbrev invariant-loop : tie.invariant-loop
-invariant-loop m a len masks sum₀ j₀ sum j = (j ≤ 8) × (zeroAt m (a + len) (j - len) ≡ eqb sum 0)
+invariant-loop m a len masks sum₀ j₀ sum j = (j ≤ 8) × (zero_at m (a + len) (j - len) ≡ eqb sum 0)
 
 abbrev decreases-loop : tie.decreases-loop
 decreases-loop m a len masks sum₀ j₀ sum j = 8 - j

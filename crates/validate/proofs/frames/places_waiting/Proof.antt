@@ -3,14 +3,14 @@ use Prim.Native.Nat.{◌-◌, ◌≤◌}
 use mathlib.Core.Path.{◌≡◌}
 use native.Mathlib.Omega.{arith}
 use borrow.Author.Rules.{rules}
-use Rattle.validate.specs.Clauses.{waitingIn}
+use Rattle.validate.specs.Clauses.{waiting_in}
 use Rattle.validate.proofs.RangeLaws.{Passed, passed_none, passed-more, passed-all, failed-all, refused, accepted}
 use Rattle.validate.proofs.frames.PlaceLaws.{place-tested, place_inside}
 use Rattle.validate.proofs.frames.places_waiting.Statement.{statement}
 use Rattle.validate.proofs.frames.places_waiting.Tie as tie
 
 abbrev invariant-loop : tie.invariant-loop
-invariant-loop m f from to masks i₀ i = (from ≤ i) × ((i ≤ to) × Passed (waitingIn m f) from i)
+invariant-loop m f from to masks i₀ i = (from ≤ i) × ((i ≤ to) × Passed (waiting_in m f) from i)
 
 abbrev decreases-loop : tie.decreases-loop
 decreases-loop m f from to masks i₀ i = to - i
@@ -31,7 +31,7 @@ place-waiting-requires c κs =
 tested : (c : tie.After-place-waiting invariant-loop decreases-loop)
     → let d = c.before.before.before in
     let s = d.before.before.args in
-    waitingIn s.m.now s.f d.loop.i ≡ c.place-waiting.result
+    waiting_in s.m.now s.f d.loop.i ≡ c.place-waiting.result
 tested c =
     let d = c.before.before.before in
     let s = d.before.before.args in
@@ -41,7 +41,7 @@ returns : tie.Need-returns invariant-loop decreases-loop
 returns c =
     let d = c.before.before.before.before in
     let s = d.before.before.args in
-    failed-all (waitingIn s.m.now s.f) s.from d.loop.i (s.to - s.from) d.loop.invariant.0 (omega arith)
+    failed-all (waiting_in s.m.now s.f) s.from d.loop.i (s.to - s.from) d.loop.invariant.0 (omega arith)
     (refused (tested c.before) c.if1.true)
 
 add-i : tie.Need-overflow-add-i invariant-loop decreases-loop

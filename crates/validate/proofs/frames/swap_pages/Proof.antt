@@ -5,15 +5,15 @@ use mathlib.Core.Logic.{⊎_elim}
 use native.Mathlib.Omega.{arith}
 use lib.Dec.{leb}
 use Rattle.rules.specs.Lists.{all, up_from}
-use Rattle.rules.specs.Memory.{word, swapCountAt}
-use Rattle.validate.specs.Clauses.{swapPage}
+use Rattle.rules.specs.Memory.{word, swap_count_at}
+use Rattle.validate.specs.Clauses.{swap_page}
 use Rattle.validate.proofs.frames.SwapLaws.{least-falls, least_stays}
 use Rattle.validate.proofs.frames.swap_pages.Statement.{statement}
 use Rattle.validate.proofs.frames.swap_pages.Tie as tie
 
 abbrev invariant-loop : tie.invariant-loop
 invariant-loop m count least₀ i₀ least i =
-    (count ≡ word m swapCountAt) × ((i ≤ count) × (all (swapPage m) (up_from 0 i) ≡ leb 32 least))
+    (count ≡ word m swap_count_at) × ((i ≤ count) × (all (swap_page m) (up_from 0 i) ≡ leb 32 least))
 
 abbrev decreases-loop : tie.decreases-loop
 decreases-loop m count least₀ i₀ least i = count - i
@@ -60,7 +60,7 @@ loop-again c =
 returns : tie.Need-returns invariant-loop decreases-loop
 returns c =
     let l = c.before.loop in
-    let all : l.i ≡ word c.before.before.before.args.m.now swapCountAt = omega arith in
+    let all : l.i ≡ word c.before.before.before.args.m.now swap_count_at = omega arith in
     rw (← all) l.invariant.1.1
 
 pub swap-pages-spec : {M : Type 1} → statement M

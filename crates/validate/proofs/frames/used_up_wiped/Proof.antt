@@ -3,7 +3,7 @@ use Prim.Native.Nat.{◌<◌}
 use mathlib.Core.Path.{◌∙◌}
 use native.Mathlib.Omega.{arith}
 use borrow.Author.Rules.{rules}
-use Rattle.rules.specs.Memory.{frameAddress}
+use Rattle.rules.specs.Memory.{frame_address}
 use Rattle.validate.proofs.frames.WipedLaws.{used-up-none, first-page, used-up-zero}
 use Rattle.validate.proofs.frames.used_up_wiped.Statement.{statement}
 use Rattle.validate.proofs.frames.used_up_wiped.Tie as tie
@@ -36,7 +36,7 @@ mul-zeros : tie.Need-overflow-mul-zeros
 mul-zeros c = search rules
 
 zeros-requires : tie.Need-zeros-requires
-unfolding frameAddress
+unfolding frame_address
 zeros-requires c κs =
     let s = c.before.before.before.before.before in
     omega (arith, page c.before, s.requires.long, s.requires.used)

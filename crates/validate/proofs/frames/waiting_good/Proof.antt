@@ -4,15 +4,15 @@ use Prim.Native.Nat.{◌+◌, ◌-◌, ◌≤◌, ◌<◌}
 use mathlib.Core.Path.{◌∙◌}
 use native.Mathlib.Omega.{arith}
 use borrow.Author.Rules.{rules}
-use Rattle.rules.specs.Memory.{word, groupAddress, usedOffset, countOffset}
-use Rattle.validate.specs.Clauses.{waitingAt}
+use Rattle.rules.specs.Memory.{word, group_address, used_offset, count_offset}
+use Rattle.validate.specs.Clauses.{waiting_at}
 use Rattle.validate.proofs.RangeLaws.{Passed, passed_none, passed-all, refused, accepted}
 use Rattle.validate.proofs.frames.PlaceLaws.{room, waiting-places, listed-inside, listed-frame, frame-passed, frame-failed}
 use Rattle.validate.proofs.frames.waiting_good.Statement.{statement}
 use Rattle.validate.proofs.frames.waiting_good.Tie as tie
 
 abbrev invariant-loop : tie.invariant-loop
-invariant-loop m g masks used end p₀ p = (used ≤ p) × ((p ≤ end) × Passed (waitingAt m g) used p)
+invariant-loop m g masks used end p₀ p = (used ≤ p) × ((p ≤ end) × Passed (waiting_at m g) used p)
 
 abbrev decreases-loop : tie.decreases-loop
 decreases-loop m g masks used end p₀ p = end - p
@@ -34,7 +34,7 @@ loop-holds c = (omega arith, (omega arith, passed_none _ _))
 -- place p is one of the waiting ones
 within : (c : tie.In-loop invariant-loop decreases-loop)
     → let s = c.before.before.before.before.before.args in
-    c.before.loop.p < word s.m.now (groupAddress s.g + usedOffset) + word s.m.now (groupAddress s.g + countOffset)
+    c.before.loop.p < word s.m.now (group_address s.g + used_offset) + word s.m.now (group_address s.g + count_offset)
 within c = omega arith
 
 cast-group-word : tie.Need-overflow-cast-group-word invariant-loop decreases-loop
@@ -77,11 +77,11 @@ returns c =
     let d = c.before.before.before.before in
     let s = d.before.before.before.before.before in
     let m = s.args.m.now in
-    let a = groupAddress s.args.g in
+    let a = group_address s.args.g in
     let k = c.before.before.in_frame in
     waiting-places m s.args.g s.requires.0
     ∙ frame-failed m s.args.g s.requires.0 d.before.loop.p (within d) c.before.before.before.group-word3.result k.result
-    c.before.before.before.group-word3.ensures k.ensures.1.0 (word m (a + usedOffset)) (word m (a + countOffset)) (omega arith) (omega arith)
+    c.before.before.before.group-word3.ensures k.ensures.1.0 (word m (a + used_offset)) (word m (a + count_offset)) (omega arith) (omega arith)
     (refused c.before.places-waiting.ensures c.if1.true)
 
 add-p : tie.Need-overflow-add-p invariant-loop decreases-loop

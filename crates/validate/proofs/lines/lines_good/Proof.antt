@@ -4,11 +4,11 @@ use mathlib.Core.Bool.{Bool, ◌&&◌}
 use borrow.Author.Rules.{rules}
 use lib.Dec.{leb}
 use Rattle.rules.specs.Lists.{all, up_from}
-use Rattle.rules.specs.Build.{paper01, groupCount}
+use Rattle.rules.specs.Build.{paper01, group_count}
 use Rattle.rules.specs.Frames.{pledges}
-use Rattle.rules.specs.Valid.{pendingHasLine, runnerAtomic}
-use Rattle.rules.specs.Memory.{nodeAt}
-use Rattle.validate.specs.Clauses.{linesGood}
+use Rattle.rules.specs.Valid.{pending_has_line, runner_atomic}
+use Rattle.rules.specs.Memory.{node_at}
+use Rattle.validate.specs.Clauses.{lines_good}
 use Rattle.validate.proofs.RangeLaws.{refused, accepted}
 use Rattle.validate.proofs.lines.lines_good.Statement.{statement}
 use Rattle.validate.proofs.lines.lines_good.Tie as tie
@@ -20,14 +20,14 @@ pledges-fit-requires : tie.Need-pledges-fit-requires
 pledges-fit-requires c κs = search rules
 
 returns : tie.Need-returns
-unfolding linesGood
+unfolding lines_good
 returns c = rw (refused c.before.pledges-fit.ensures c.if1.true)
 
 pendings-have-line-requires : tie.Need-pendings-have-line-requires
 pendings-have-line-requires c κs = search rules
 
 returns-2 : tie.Need-returns-2
-unfolding linesGood
+unfolding lines_good
 returns-2 c =
     let d = c.before.before in
     rw (accepted d.before.pledges-fit.ensures d.if1.false, refused c.before.pendings-have-line.ensures c.if2.true)
@@ -36,7 +36,7 @@ runner-atomic-requires : tie.Need-runner-atomic-requires
 runner-atomic-requires c κs = search rules
 
 returns-3 : tie.Need-returns-3
-unfolding linesGood
+unfolding lines_good
 returns-3 c =
     let d = c.before.before in
     let e = d.before.before in
@@ -49,7 +49,7 @@ head-stays-requires c κs = search rules
 -- what the first three have passed
 three : (c : tie.Else3) (b : Bool)
     → let m = c.before.before.before.before.before.before.before.before.args.m.now in
-    leb (pledges paper01 (nodeAt m)) 96 && (all (pendingHasLine (nodeAt m)) (up_from 1 groupCount) && (runnerAtomic (nodeAt m) && b)) ≡ b
+    leb (pledges paper01 (node_at m)) 96 && (all (pending_has_line (node_at m)) (up_from 1 group_count) && (runner_atomic (node_at m) && b)) ≡ b
 three c b =
     let d = c.before.before in
     let e = d.before.before in
@@ -57,14 +57,14 @@ three c b =
     (rw (accepted c.before.runner-atomic.ensures c.if3.false))
 
 returns-4 : tie.Need-returns-4
-unfolding linesGood
+unfolding lines_good
 returns-4 c = three c.before.before _ ∙ rw (refused c.before.head-stays.ensures c.if4.true)
 
 runner-in-frame-requires : tie.Need-runner-in-frame-requires
 runner-in-frame-requires c κs = search rules
 
 returns-5 : tie.Need-returns-5
-unfolding linesGood
+unfolding lines_good
 returns-5 c =
     let e = c.before in
     three e.before.before _ ∙ rw (accepted e.before.head-stays.ensures e.if4.false) c.runner-in-frame.ensures

@@ -1,14 +1,14 @@
 -- `validate::lines::pendings_have_line` meets its contract: the groups below g pass, and the first that fails decides. Assumes nothing.
 use Prim.Native.Nat.{◌-◌}
 use native.Mathlib.Omega.{arith}
-use Rattle.rules.specs.Memory.{nodeAt}
-use Rattle.rules.specs.Valid.{pendingHasLine}
+use Rattle.rules.specs.Memory.{node_at}
+use Rattle.rules.specs.Valid.{pending_has_line}
 use Rattle.validate.proofs.RangeLaws.{Below, groups_none, groups-more, groups-fail, groups-all}
 use Rattle.validate.proofs.lines.pendings_have_line.Statement.{statement}
 use Rattle.validate.proofs.lines.pendings_have_line.Tie as tie
 
 abbrev invariant-loop : tie.invariant-loop
-invariant-loop m queued g₀ g = Below (pendingHasLine (nodeAt m)) g
+invariant-loop m queued g₀ g = Below (pending_has_line (node_at m)) g
 
 abbrev decreases-loop : tie.decreases-loop
 decreases-loop m queued g₀ g = 9 - g

@@ -4,7 +4,7 @@ use Prim.Native.Nat.{◌+◌, ◌≤◌}
 use native.Mathlib.Omega.{arith}
 use borrow.Author.Rules.{rules}
 use lib.ListN.{get_or}
-use Rattle.rules.specs.Frames.{ceilDiv}
+use Rattle.rules.specs.Frames.{ceil_div}
 use Rattle.rules.specs.Memory.{word, queued_at}
 use Rattle.validate.proofs.frames.PlaceLaws.{room}
 use Rattle.validate.proofs.lines.CountLaws.{queued-few, pledge-words}
@@ -45,7 +45,7 @@ frames-for-requires : tie.Need-frames-for-requires
 frames-for-requires c κs = omega (arith, few c)
 
 returns : tie.Need-returns
-unfolding ceilDiv
+unfolding ceil_div
 returns c =
     let d = c.before in
     let s = d.before.before.before in

@@ -2,12 +2,12 @@
 use Prim.Native.Nat.{◌-◌, ◌*◌, ◌≤◌}
 use mathlib.Core.Path.{◌≡◌}
 use native.Mathlib.Omega.{arith}
-use Rattle.validate.proofs.lines.CountLaws.{pledgedTo, pledged-none, pledged-more, pledged-all}
+use Rattle.validate.proofs.lines.CountLaws.{pledged_to, pledged-none, pledged-more, pledged-all}
 use Rattle.validate.proofs.lines.pledges_fit.Statement.{statement}
 use Rattle.validate.proofs.lines.pledges_fit.Tie as tie
 
 abbrev invariant-loop : tie.invariant-loop
-invariant-loop m queued sum₀ g₀ sum g = (1 ≤ g) × ((g ≤ 9) × ((sum ≡ pledgedTo m g) × (sum ≤ 98 * g)))
+invariant-loop m queued sum₀ g₀ sum g = (1 ≤ g) × ((g ≤ 9) × ((sum ≡ pledged_to m g) × (sum ≤ 98 * g)))
 
 abbrev decreases-loop : tie.decreases-loop
 decreases-loop m queued sum₀ g₀ sum g = 9 - g

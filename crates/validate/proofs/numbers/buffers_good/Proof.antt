@@ -2,13 +2,13 @@
 use Prim.Native.Nat.{◌-◌}
 use native.Mathlib.Omega.{arith}
 use borrow.Author.Rules.{rules}
-use Rattle.validate.specs.Clauses.{bufferGood}
+use Rattle.validate.specs.Clauses.{buffer_good}
 use Rattle.validate.proofs.RangeLaws.{Below, groups_none, groups-more, groups-fail, groups-all}
 use Rattle.validate.proofs.numbers.buffers_good.Statement.{statement}
 use Rattle.validate.proofs.numbers.buffers_good.Tie as tie
 
 abbrev invariant-loop : tie.invariant-loop
-invariant-loop m g₀ g = Below (bufferGood m) g
+invariant-loop m g₀ g = Below (buffer_good m) g
 
 abbrev decreases-loop : tie.decreases-loop
 decreases-loop m g₀ g = 9 - g

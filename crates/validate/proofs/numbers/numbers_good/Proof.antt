@@ -3,7 +3,7 @@ use native.Mathlib.Omega.{arith}
 use borrow.Author.Rules.{rules}
 use borrow.Author.Tests.{le-leb, lt-leb, lt-ltb, le-ltb}
 use Rattle.rules.specs.Memory.{word}
-use Rattle.validate.specs.Clauses.{numbersGood}
+use Rattle.validate.specs.Clauses.{numbers_good}
 use Rattle.validate.proofs.RangeLaws.{refused, accepted}
 use Rattle.validate.proofs.numbers.numbers_good.Statement.{statement}
 use Rattle.validate.proofs.numbers.numbers_good.Tie as tie
@@ -12,14 +12,14 @@ shared-slice-read-if1 : tie.Need-shared-slice-read-if1
 shared-slice-read-if1 c = search rules
 
 returns : tie.Need-returns
-unfolding word numbersGood
+unfolding word numbers_good
 returns c = let m = c.before.before.before.args.m.now in rw (lt-leb (word m 0) 8 (omega arith))
 
 shared-slice-read-if2 : tie.Need-shared-slice-read-if2
 shared-slice-read-if2 c = search rules
 
 returns-2 : tie.Need-returns-2
-unfolding word numbersGood
+unfolding word numbers_good
 returns-2 c =
     let m = c.before.before.before.before.before.args.m.now in
     rw (le-leb (word m 0) 8 (omega arith), le-ltb (word m 1) 256 (omega arith))
@@ -28,7 +28,7 @@ queue-good-requires : tie.Need-queue-good-requires
 queue-good-requires c κs = search rules
 
 returns-3 : tie.Need-returns-3
-unfolding word numbersGood
+unfolding word numbers_good
 returns-3 c =
     let m = c.before.before.before.before.before.before.before.args.m.now in
     rw (le-leb (word m 0) 8 (omega arith), lt-ltb (word m 1) 256 (omega arith), refused c.before.queue-good.ensures c.if3.true)
@@ -37,7 +37,7 @@ buffers-good-requires : tie.Need-buffers-good-requires
 buffers-good-requires c κs = search rules
 
 returns-4 : tie.Need-returns-4
-unfolding word numbersGood
+unfolding word numbers_good
 returns-4 c =
     let d = c.before in
     let m = d.before.before.before.before.before.before.before.args.m.now in

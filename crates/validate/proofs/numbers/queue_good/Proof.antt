@@ -4,13 +4,13 @@ use mathlib.Core.Path.{◌≡◌, refl}
 use native.Mathlib.Omega.{arith}
 use borrow.Author.Rules.{rules}
 use Rattle.rules.specs.Memory.{word, queued_at}
-use Rattle.validate.specs.Clauses.{messageGood}
+use Rattle.validate.specs.Clauses.{message_good}
 use Rattle.validate.proofs.RangeLaws.{Passed, passed_none, passed-more, passed-all, failed-all, refused, accepted}
 use Rattle.validate.proofs.numbers.queue_good.Statement.{statement}
 use Rattle.validate.proofs.numbers.queue_good.Tie as tie
 
 abbrev invariant-loop : tie.invariant-loop
-invariant-loop m queued i₀ i = (queued ≡ word m queued_at) × ((i ≤ queued) × Passed (messageGood m) 0 i)
+invariant-loop m queued i₀ i = (queued ≡ word m queued_at) × ((i ≤ queued) × Passed (message_good m) 0 i)
 
 abbrev decreases-loop : tie.decreases-loop
 decreases-loop m queued i₀ i = queued - i
@@ -28,7 +28,7 @@ message-good-requires c κs = search rules
 returns : tie.Need-returns invariant-loop decreases-loop
 returns c =
     let s = c.before.before.before.before.before.before.args in
-    failed-all (messageGood s.m.now) 0 c.before.before.before.loop.i (word s.m.now queued_at) (omega arith) (omega arith)
+    failed-all (message_good s.m.now) 0 c.before.before.before.loop.i (word s.m.now queued_at) (omega arith) (omega arith)
     (refused c.before.message-good.ensures c.if1.true)
 
 add-i : tie.Need-overflow-add-i invariant-loop decreases-loop

@@ -2,7 +2,7 @@
 use native.Mathlib.Omega.{arith}
 use borrow.Author.Rules.{rules}
 use Rattle.rules.specs.Memory.{word}
-use Rattle.rules.specs.MemoryTest.{enteredUnused}
+use Rattle.rules.specs.MemoryTest.{entered_unused}
 use Rattle.validate.proofs.words.entered_unused.Statement.{statement}
 use Rattle.validate.proofs.words.entered_unused.Tie as tie
 
@@ -26,7 +26,7 @@ unfolding word
 zeros-requires c κs = omega arith
 
 returns : tie.Need-returns
-unfolding word enteredUnused
+unfolding word entered_unused
 returns c = c.zeros.ensures
 
 pub entered-unused-spec : {M : Type 1} → statement M

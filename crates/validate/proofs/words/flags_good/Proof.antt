@@ -2,13 +2,13 @@
 use Prim.Native.Nat.{◌-◌}
 use native.Mathlib.Omega.{arith}
 use borrow.Author.Rules.{rules}
-use Rattle.validate.specs.Clauses.{flagsGood}
+use Rattle.validate.specs.Clauses.{flags_good}
 use Rattle.validate.proofs.RangeLaws.{Below, groups_none, groups-more, groups-fail, groups-all}
 use Rattle.validate.proofs.words.flags_good.Statement.{statement}
 use Rattle.validate.proofs.words.flags_good.Tie as tie
 
 abbrev invariant-loop : tie.invariant-loop
-invariant-loop m g₀ g = Below (flagsGood m) g
+invariant-loop m g₀ g = Below (flags_good m) g
 
 abbrev decreases-loop : tie.decreases-loop
 decreases-loop m g₀ g = 9 - g

@@ -2,7 +2,7 @@
 use native.Mathlib.Omega.{arith}
 use borrow.Author.Rules.{rules}
 use Rattle.rules.specs.Memory.{word}
-use Rattle.rules.specs.MemoryTest.{freeUnused}
+use Rattle.rules.specs.MemoryTest.{free_unused}
 use Rattle.validate.proofs.words.free_unused.Statement.{statement}
 use Rattle.validate.proofs.words.free_unused.Tie as tie
 
@@ -26,7 +26,7 @@ unfolding word
 zeros-requires c κs = omega arith
 
 returns : tie.Need-returns
-unfolding word freeUnused
+unfolding word free_unused
 returns c = c.zeros.ensures
 
 pub free-unused-spec : {M : Type 1} → statement M

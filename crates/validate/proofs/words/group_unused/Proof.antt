@@ -2,8 +2,8 @@
 use Prim.Native.Nat.{◌+◌, ◌≤◌}
 use native.Mathlib.Omega.{arith}
 use borrow.Author.Rules.{rules}
-use Rattle.rules.specs.Memory.{groupStride, size, groupAddress}
-use Rattle.rules.specs.MemoryTest.{groupUnused}
+use Rattle.rules.specs.Memory.{group_stride, size, group_address}
+use Rattle.rules.specs.MemoryTest.{group_unused}
 use Rattle.validate.proofs.RangeLaws.{refused, accepted}
 use Rattle.validate.proofs.words.group_unused.Statement.{statement}
 use Rattle.validate.proofs.words.group_unused.Tie as tie
@@ -25,8 +25,8 @@ group-at-requires c κs = search rules
 
 -- the record is within the memory, and the counts within their bounds
 known : (c : tie.After-group-at)
-    → (c.group_at.result + groupStride ≤ size) × ((c.before.before.group-word.result ≤ 96) × (c.before.group-word2.result ≤ 8))
-unfolding groupAddress
+    → (c.group_at.result + group_stride ≤ size) × ((c.before.before.group-word.result ≤ 96) × (c.before.group-word2.result ≤ 8))
+unfolding group_address
 known c =
     let s = c.before.before.before.before in
     let g = s.args.g in
@@ -48,7 +48,7 @@ zeros-requires c κs = omega (arith, known c)
 
 -- what the test of the list says, in the words of the map
 returns : tie.Need-returns
-unfolding groupUnused
+unfolding group_unused
 returns c =
     let d = c.before.before in
     rw (← d.before.before.group-word.ensures, ← d.group_at.ensures) (rw (refused c.before.zeros.ensures c.if1.true))
@@ -66,7 +66,7 @@ zeros-requires-2 : tie.Need-zeros-requires-2
 zeros-requires-2 c κs = omega (arith, known c.before.before)
 
 returns-2 : tie.Need-returns-2
-unfolding groupUnused
+unfolding group_unused
 returns-2 c =
     let e = c.before in
     let d = e.before.before in

@@ -2,13 +2,13 @@
 use Prim.Native.Nat.{◌-◌}
 use native.Mathlib.Omega.{arith}
 use borrow.Author.Rules.{rules}
-use Rattle.rules.specs.MemoryTest.{groupCounts}
+use Rattle.rules.specs.MemoryTest.{group_counts}
 use Rattle.validate.proofs.RangeLaws.{Below, groups_none, groups-more, groups-fail, groups-all}
 use Rattle.validate.proofs.words.groups_counted.Statement.{statement}
 use Rattle.validate.proofs.words.groups_counted.Tie as tie
 
 abbrev invariant-loop : tie.invariant-loop
-invariant-loop m g₀ g = Below (groupCounts m) g
+invariant-loop m g₀ g = Below (group_counts m) g
 
 abbrev decreases-loop : tie.decreases-loop
 decreases-loop m g₀ g = 9 - g

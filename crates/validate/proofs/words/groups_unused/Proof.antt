@@ -2,13 +2,13 @@
 use Prim.Native.Nat.{◌-◌}
 use native.Mathlib.Omega.{arith}
 use borrow.Author.Rules.{rules}
-use Rattle.rules.specs.MemoryTest.{groupUnused}
+use Rattle.rules.specs.MemoryTest.{group_unused}
 use Rattle.validate.proofs.RangeLaws.{Below, groups_none, groups-more, groups-fail, groups-all}
 use Rattle.validate.proofs.words.groups_unused.Statement.{statement}
 use Rattle.validate.proofs.words.groups_unused.Tie as tie
 
 abbrev invariant-loop : tie.invariant-loop
-invariant-loop m g₀ g = Below (groupUnused m) g
+invariant-loop m g₀ g = Below (group_unused m) g
 
 abbrev decreases-loop : tie.decreases-loop
 decreases-loop m g₀ g = 9 - g

@@ -4,14 +4,14 @@ use mathlib.Core.Path.{◌≡◌, refl}
 use native.Mathlib.Omega.{arith}
 use borrow.Author.Rules.{rules}
 use Rattle.rules.specs.Memory.{word, queued_at}
-use Rattle.rules.specs.MemoryTest.{lengthInBounds}
+use Rattle.rules.specs.MemoryTest.{length_in_bounds}
 use Rattle.validate.proofs.RangeLaws.{Passed, passed_none, passed-more, passed-all, failed-all}
 use Rattle.validate.proofs.words.WordLaws.{length_over, length-within}
 use Rattle.validate.proofs.words.lengths_in_bounds.Statement.{statement}
 use Rattle.validate.proofs.words.lengths_in_bounds.Tie as tie
 
 abbrev invariant-loop : tie.invariant-loop
-invariant-loop m queued i₀ i = (queued ≡ word m queued_at) × ((i ≤ queued) × Passed (lengthInBounds m) 0 i)
+invariant-loop m queued i₀ i = (queued ≡ word m queued_at) × ((i ≤ queued) × Passed (length_in_bounds m) 0 i)
 
 abbrev decreases-loop : tie.decreases-loop
 decreases-loop m queued i₀ i = queued - i

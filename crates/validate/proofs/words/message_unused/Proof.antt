@@ -1,7 +1,7 @@
 -- `validate::words::message_unused` meets its contract: a message within its bound ends within its place. Assumes nothing.
 use native.Mathlib.Omega.{arith}
 use borrow.Author.Rules.{rules}
-use Rattle.rules.specs.MemoryTest.{messageUnused}
+use Rattle.rules.specs.MemoryTest.{message_unused}
 use Rattle.validate.proofs.words.message_unused.Statement.{statement}
 use Rattle.validate.proofs.words.message_unused.Tie as tie
 
@@ -30,7 +30,7 @@ zeros-requires : tie.Need-zeros-requires
 zeros-requires c κs = let s = c.before.before in omega (arith, s.requires.0.lengths s.args.i s.requires.1)
 
 returns : tie.Need-returns
-unfolding messageUnused
+unfolding message_unused
 returns c = rw (← c.before.queue-word.ensures) c.zeros.ensures
 
 pub message-unused-spec : {M : Type 1} → statement M

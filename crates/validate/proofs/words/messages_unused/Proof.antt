@@ -4,13 +4,13 @@ use mathlib.Core.Path.{◌≡◌, refl}
 use native.Mathlib.Omega.{arith}
 use borrow.Author.Rules.{rules}
 use Rattle.rules.specs.Memory.{word, queued_at}
-use Rattle.rules.specs.MemoryTest.{messageUnused}
+use Rattle.rules.specs.MemoryTest.{message_unused}
 use Rattle.validate.proofs.RangeLaws.{Passed, passed_none, passed-more, passed-all, failed-all, refused, accepted}
 use Rattle.validate.proofs.words.messages_unused.Statement.{statement}
 use Rattle.validate.proofs.words.messages_unused.Tie as tie
 
 abbrev invariant-loop : tie.invariant-loop
-invariant-loop m queued i₀ i = (queued ≡ word m queued_at) × ((i ≤ queued) × Passed (messageUnused m) 0 i)
+invariant-loop m queued i₀ i = (queued ≡ word m queued_at) × ((i ≤ queued) × Passed (message_unused m) 0 i)
 
 abbrev decreases-loop : tie.decreases-loop
 decreases-loop m queued i₀ i = queued - i
@@ -28,7 +28,7 @@ message-unused-requires c κs = search rules
 returns : tie.Need-returns invariant-loop decreases-loop
 returns c =
     let s = c.before.before.before.before.before.before.args in
-    failed-all (messageUnused s.m.now) 0 c.before.before.before.loop.i (word s.m.now queued_at) (omega arith) (omega arith)
+    failed-all (message_unused s.m.now) 0 c.before.before.before.loop.i (word s.m.now queued_at) (omega arith) (omega arith)
     (refused c.before.message-unused.ensures c.if1.true)
 
 add-i : tie.Need-overflow-add-i invariant-loop decreases-loop

@@ -2,7 +2,7 @@
 use native.Mathlib.Omega.{arith}
 use borrow.Author.Rules.{rules}
 use Rattle.rules.specs.Memory.{word}
-use Rattle.rules.specs.MemoryTest.{queueUnused}
+use Rattle.rules.specs.MemoryTest.{queue_unused}
 use Rattle.validate.proofs.words.queue_unused.Statement.{statement}
 use Rattle.validate.proofs.words.queue_unused.Tie as tie
 
@@ -33,7 +33,7 @@ unfolding word
 zeros-requires c κs = omega arith
 
 returns : tie.Need-returns
-unfolding word queueUnused
+unfolding word queue_unused
 returns c = c.zeros.ensures
 
 pub queue-unused-spec : {M : Type 1} → statement M

@@ -2,7 +2,7 @@
 use native.Mathlib.Omega.{arith}
 use borrow.Author.Rules.{rules}
 use Rattle.rules.specs.Memory.{word}
-use Rattle.rules.specs.MemoryTest.{swapUnused}
+use Rattle.rules.specs.MemoryTest.{swap_unused}
 use Rattle.validate.proofs.words.swap_unused.Statement.{statement}
 use Rattle.validate.proofs.words.swap_unused.Tie as tie
 
@@ -26,7 +26,7 @@ unfolding word
 zeros-requires c κs = omega arith
 
 returns : tie.Need-returns
-unfolding word swapUnused
+unfolding word swap_unused
 returns c = c.zeros.ensures
 
 pub swap-unused-spec : {M : Type 1} → statement M

@@ -1,6 +1,6 @@
 -- `follow::every::State::new` meets its contract: of no lines none waits. Assumes nothing.
 use mathlib.Core.Path.{refl}
-use Rattle.follow.specs.Every.{waitingOf}
+use Rattle.follow.specs.Every.{waiting_of}
 use borrow.Author.Rules.{rules}
 use Rattle.follow.proofs.every.State.new.Statement.{statement}
 use Rattle.follow.proofs.every.State.new.Tie as tie
@@ -9,7 +9,7 @@ new-requires : tie.Need-new-requires
 new-requires c κs = search rules
 
 returns : tie.Need-returns
-unfolding waitingOf
+unfolding waiting_of
 returns c = (c.new.ensures.0, (c.new.ensures.1, refl))
 
 pub new_spec : {M : Type 1} → statement M

@@ -2,7 +2,7 @@
 use native.Mathlib.Omega.{arith}
 use mathlib.Core.Path.{◌≡◌}
 use lib.ListN.{length}
-use Rattle.script.specs.Feed.{keptLine}
+use Rattle.script.specs.Feed.{kept_line}
 use Rattle.script.proofs.feed.FedLaws.{begun-counted}
 use borrow.Author.Rules.{rules}
 use Rattle.script.proofs.feed.State.begun.Statement.{statement}
@@ -15,7 +15,7 @@ kept-count-requires : tie.Need-kept-count-requires
 kept-count-requires c κs = let l : 130 ≡ length c.before.before.args.self.kept = slice-aggregate-kept-count c in omega arith
 
 returns : tie.Need-returns
-unfolding keptLine
+unfolding kept_line
 returns c =
     let kept = c.before.before.before.args.self.kept in
     let l : 130 ≡ length kept = slice-aggregate-kept-count c.before in

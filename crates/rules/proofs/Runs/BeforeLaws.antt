@@ -107,7 +107,7 @@ before-heard v g lo hi [] = refl
 before-heard {b} {n} v g lo hi (i ∷ is) =
     let st : Stepped = step_before b n (asked i) in
     ap (λ (h : Heard). heard_then h (listen_from g h.line (play_before b st.node is).events)) (before-agrees v (asked i) g lo hi)
-    ∙ ap (heard_then (heard_as g n (asked i) st.report st.node)) (before-heard (before-valid v (asked i)) g lo hi is)
+    ∙ ap (heard_then (heard_as g n (asked i) st.report st.node)) (before-heard {b = b} {n = (step_before b n (asked i)).node} (before-valid v (asked i)) g lo hi is)
 
 -- What the private line is told.
 

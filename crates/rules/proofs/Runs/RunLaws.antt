@@ -19,7 +19,7 @@ use Rattle.rules.proofs.Private.HeardLaws.{heard_as, step-agrees}
 pub play-valid : {b : Build} {n : Node} → Valid b n → (is : List Input) → Valid b (play b n is).node
 unfolding play
 play-valid v [] = v
-play-valid {b} {n} v (i ∷ is) = play-valid (step-valid v (asked i)) is
+play-valid {b} {n} v (i ∷ is) = play-valid {b = b} {n = (step b n (asked i)).node} (step-valid v (asked i)) is
 
 -- what a group sees of a run from a node on
 abbrev pub seen_as : Build → Node → ℕ → List Input → Listened
@@ -44,7 +44,7 @@ play-heard {b} {n} v g lo hi (i ∷ is) =
     let first : hear g (view g n) (told g (asked i) (eqb st.report.answer accepted)) ≡ heard_as g n (asked i) st.report st.node =
     step-agrees v (asked i) g lo hi in
     ap (λ (h : Heard). heard_then h (listen_from g h.line (play b st.node is).events)) first
-    ∙ ap (heard_then (heard_as g n (asked i) st.report st.node)) (play-heard (step-valid v (asked i)) g lo hi is)
+    ∙ ap (heard_then (heard_as g n (asked i) st.report st.node)) (play-heard {b = b} {n = (step b n (asked i)).node} (step-valid v (asked i)) g lo hi is)
 
 -- from power-on
 pub run-heard : {b : Build} → Sensible b → (g : ℕ) → 1 ≤ g → g ≤ group_count → (is : List Input)

@@ -111,6 +111,6 @@ play-line {b} {n} v g lo hi (i ∷ is) =
     let a : List Message = arrived_by (asked i) (eqb st.report.answer accepted) in
     let d : ℕ = disposed_by (asked i) (eqb st.report.answer accepted && eqb n.running g) in
     let first : Flow (line n g) (line st.node g) (filter (is_of g) a) d = step_line v (asked i) g lo hi in
-    play-line (step-valid v (asked i)) g lo hi is
+    play-line {b = b} {n = (step b n (asked i)).node} (step-valid v (asked i)) g lo hi is
     ∙ flow-join (disposals g rest) (filter (is_of g) (arrivals rest)) first
     ∙ ap (λ (l : List Message). drop (d + disposals g rest) (line n g ++ l)) (sym (filter-append (is_of g) a (arrivals rest)))

@@ -132,4 +132,4 @@ play-queue {n = n} v [] = sym (append-nil n.queue)
 play-queue {b} {n} v (i ∷ is) =
     let st : Stepped = step b n (asked i) in
     let rest : List Event = (play b st.node is).events in
-    play-queue (step-valid v (asked i)) is ∙ flow-join (left rest) (arrivals rest) (step-queue v (asked i))
+    play-queue {b = b} {n = (step b n (asked i)).node} (step-valid v (asked i)) is ∙ flow-join (left rest) (arrivals rest) (step-queue v (asked i))

@@ -40,7 +40,7 @@ ticks-paid {b} {n} v (i ∷ is) l =
     let first : ticked_by (asked i) (eqb st.report.answer accepted) + n.timer ≤ b.timeout * x + st.node.timer =
     step-timer v (length_some n.queue (omega arith)) (asked i) (length_some st.node.queue (omega arith)) in
     let more : ticked rest + st.node.timer ≤ b.timeout * left rest + (play b st.node is).node.timer =
-    ticks-paid (step-valid v (asked i)) is stays in
+    ticks-paid {b = b} {n = (step b n (asked i)).node} (step-valid v (asked i)) is stays in
     omega (arith, mul-add b.timeout x (left rest), first, more)
 
 -- so it has left once a timeout's ticks for each place have followed
@@ -102,5 +102,5 @@ waits-from {b} {n} v (i ∷ is) (x ∷ before) after e m p same one place waited
     let came : length (arrived x) ≡ length (arrived (event_of n (asked i) st)) = ap (λ (y : Event). length (arrived y)) head in
     let both : length (arrived x ++ arrivals before) ≡ length (arrived x) + length (arrivals before) = length-append (arrived x) (arrivals before) in
     let more : length st.node.queue + length (arrivals before) + 1 ≤ left (play b st.node is).events =
-    waits-from (step-valid v (asked i)) is before after e m p tail one (omega (arith, place, len, taken, came, both)) waited in
+    waits-from {b = b} {n = (step b n (asked i)).node} (step-valid v (asked i)) is before after e m p tail one (omega (arith, place, len, taken, came, both)) waited in
     omega (arith, len, taken, came, both, more)

@@ -248,7 +248,7 @@ play-counts {b} {n} v i (x ∷ is) =
     let more : (f : Moment → ℕ) → count f (run_moments b i n (x ∷ is)) ≡ weight f ms + count f rest = λ f. counted-dated f i ms rest in
     let c = step_counts v op in
     let t = step-trail v op in
-    let r = play-counts (step-valid v op) (suc i) is in
+    let r = play-counts {b = b} {n = (step b n (asked x)).node} (step-valid v op) (suc i) is in
     let gone : length (event_reasons (event_of n op (step b n op)) k) ≡ left_by (event_of n op (step b n op)) = reasons-length (event_of n op (step b n op)) k in
     let parts : left_by (event_of n op (step b n op)) ≡ (step b n op).report.moved + disposed_by op (was_accepted (event_of n op (step b n op)) && eqb (step b n op).report.trap no_trap) = unfold left_by in refl in
     record {

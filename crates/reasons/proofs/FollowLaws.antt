@@ -186,7 +186,7 @@ module _ (last w : ℕ) where
       let gone : length ds ≡ left_by e = dated-length i rs ∙ reasons-length e s.node in
       let count : length ds + length s.node.queue ≡ length n.queue + length (arrived e) = omega (arith, gone, step-length v (asked x)) in
       ap (λ (f : Followed). finally (suc i) f (seen_run b s.node is)) (unwanted i unfollowed (seen_of e s.node) (λ same. omega arith) ∙ nobody-moves i (untold no_arrival) rs)
-      ∙ unreached-told (step-valid v (asked x)) (suc i) d (omega arith) is
+      ∙ unreached-told {b = b} {n = (step b n (asked x)).node} (step-valid v (asked x)) (suc i) d (omega arith) is
       ∙ sym (line-past last ds rest (length s.node.queue) (play b s.node is).events (suc d))
       ∙ ap (λ (k : ℕ). tell_line last (ds ++ rest) k (play b s.node is).events (suc d)) count
 
@@ -305,7 +305,7 @@ every-paired {n} v last i ws same (x ∷ is) =
     let more = arrival_lines (suc i) es in
     ap (λ (l : List ℕ). (tellings i l rs ++ tell_lines (suc i) (drop (length rs) l) ss) ++ tell_queued last (still_waiting (suc i) (drop (length rs) l) ss)) whole
     ∙ append_assoc (tellings i all rs) (tell_lines (suc i) after ss) (tell_queued last (still_waiting (suc i) after ss))
-    ∙ ap {B = List Telling} (λ ts. tellings i all rs ++ ts) (every-paired (step-valid v (asked x)) last (suc i) after left is)
+    ∙ ap {B = List Telling} (λ ts. tellings i all rs ++ ts) (every-paired {n = (step paper01 n (asked x)).node} (step-valid v (asked x)) last (suc i) after left is)
     ∙ ap {B = List Telling} (λ ts. ts ++ pairs last (after ++ more) rest) (sym (tellings-more i all more rs few))
     ∙ ap {B = List Telling} (λ l. tellings i (all ++ more) rs ++ pairs last l rest) (sym (drop-append-le (length rs) all more few))
     ∙ pairs-then last i (all ++ more) rs rest (omega (arith, length-append all more))

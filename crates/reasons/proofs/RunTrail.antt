@@ -70,7 +70,7 @@ play-matched {b} {n} v i (x ∷ is) =
     let rest = run_moments b (suc i) k is in
     subst₂ (λ (hs : List Heading) (xs : List Leaving). Matched (pending n.queue ++ hs) xs (place_departures b i n (x ∷ is)))
     (sym (concat-append (λ (d : Dated). heading_in d.moment) ms rest)) (sym (concat-append (λ (d : Dated). leaving_in d.line d.moment) ms rest))
-    (trail-matched i (step-trail v op) (headings rest) (play-matched (step-valid v op) (suc i) is))
+    (trail-matched i (step-trail v op) (headings rest) (play-matched {b = b} {n = (step b n (asked x)).node} (step-valid v op) (suc i) is))
 
 -- and from power-on
 pub run-matched : (b : Build) → Sensible b → (is : List Input)

@@ -1,5 +1,7 @@
 // The node for programs in other languages: calls over numbers and lent words, under plain names. What a call tells goes into a part that its
 // caller lends, and it returns how many words it wrote there: 0 where the part is too short, and then nothing at all has changed.
+#![tactic(auto)]
+
 pub mod carried;
 pub mod feed;
 pub mod head;

@@ -1,4 +1,6 @@
 // Why messages were buffered: a script followed line by line on lent memory, in portions of any size.
+#![tactic(auto)]
+
 pub mod every;
 pub mod one;
 pub mod portion;

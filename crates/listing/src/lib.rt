@@ -1,5 +1,7 @@
 // The program fugu between its arguments and its exit status: a script on standard input, its listing on standard output. Every byte of the listing comes
 // from `script::write::put_header` and `script::feed::feed`; here it is only read, handed over and written.
+#![tactic(auto)]
+
 ghost use Rattle.std.specs.Prelude.{◌≡◌, true, ◌≤◌, ◌<◌, length};
 ghost use Rattle.libc.specs.Io.{Moved};
 ghost use Rattle.script.specs.Written.{line_room};

@@ -1,4 +1,2 @@
 -- The laws of a group's record.
 pub mod GroupLaws
-pub mod Lending
-pub mod Setting

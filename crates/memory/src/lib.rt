@@ -1,4 +1,6 @@
 // The memory of a node: where each number stands, and the moves of words, frames and messages that steps are made of.
+#![tactic(auto)]
+
 pub mod buffer;
 pub mod descriptor;
 pub mod frames;

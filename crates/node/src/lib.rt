@@ -1,4 +1,6 @@
 // The steps of a node over lent memory.
+#![tactic(auto)]
+
 pub mod acted;
 pub mod kernel;
 pub mod message;

@@ -1,4 +1,6 @@
 // The types that the contracts of the node speak of.
+#![tactic(auto)]
+
 ghost use Rattle.std.specs.Prelude.{◌≡◌};
 ghost use Rattle.rules.specs.Operation.{accepted_with, refused};
 ghost use Rattle.rules.specs.Types.{report_of};

@@ -1,4 +1,6 @@
 // Scripts and listings: a line read, its report written, whole lines played on lent memory, and a script fed in portions.
+#![tactic(auto)]
+
 pub mod feed;
 pub mod play;
 pub mod read;

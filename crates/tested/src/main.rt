@@ -1,5 +1,7 @@
 // tested: a script of at most 64 KiB on standard input, played 64 times over on one node by the library's public call, which tests the memory
 // before every step; the listing of all on standard output. It shows how the call is used, and is there to be measured.
+#![tactic(auto)]
+
 ghost use Rattle.std.specs.Prelude.{ℕ, ◌+◌, ◌≤◌, length};
 ghost use Rattle.script.specs.Written.{line_room, Countable, Counts};
 ghost use Rattle.tested.specs.Counted.{CountsTo};

@@ -1,5 +1,7 @@
 // The memory test: whether lent words are a node. A function a clause of "Memory is a node when"; a clause may stand on those
 // tested before it, so that no address is followed out of the memory.
+#![tactic(auto)]
+
 mod frames;
 mod lines;
 mod numbers;

@@ -1,6 +1,8 @@
 // The program why between its arguments and its exit status: a script on standard input and a line of it, or `--all`, as argument; on standard output why
 // the message of that line was buffered, or every accepted one. What is told comes from `follow`; here the script is only read and handed over, and the
 // answer written.
+#![tactic(auto)]
+
 mod all;
 mod asked;
 mod one;

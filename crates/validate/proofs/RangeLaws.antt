@@ -47,12 +47,12 @@ all_more p a (suc k) =
     (ap (λ (r : Bool). p a && r) (all_more p (suc a) k) ∙ sym (and_assoc (p a) (all p (up_from (suc a) k)) (p (suc a + k))))
 
 -- where a call that answers for a test says no, the test fails
-pub refused : {a t : Bool} → a ≡ t → not t ≡ true → a ≡ false
-refused {a} {t} e n = e ∙ not-true t n
+pub refused : {a t : Bool} → a ≡ t → t ≡ false → a ≡ false
+refused e n = e ∙ n
 
 -- and where it says yes, it passes
-pub accepted : {a t : Bool} → a ≡ t → not t ≡ false → a ≡ true
-accepted {a} {t} e n = e ∙ not-false t n
+pub accepted : {a t : Bool} → a ≡ t → t ≡ true → a ≡ true
+accepted e n = e ∙ n
 
 -- the numbers from a up to, and without, i pass the test
 unfoldable pub Passed : (ℕ → Bool) → ℕ → ℕ → Type 0
@@ -95,11 +95,11 @@ module _ {p : ℕ → Bool} where
 
   module _ {g : ℕ} {t : Bool} (b : Below p g) (within : g ≤ group_count) (answer : p g ≡ t) where
     -- one more
-    pub groups-more : not t ≡ false → Below p (g + 1)
+    pub groups-more : t ≡ true → Below p (g + 1)
     groups-more passes = record { low = omega arith; high = omega arith; passed = passed-more p 1 g b.passed (accepted answer passes) }
 
     -- one that fails decides
-    pub groups-fail : not t ≡ true → all p (up_from 1 group_count) ≡ false
+    pub groups-fail : t ≡ false → all p (up_from 1 group_count) ≡ false
     groups-fail stops = failed-all p 1 g group_count b.low (omega arith) (refused answer stops)
 
   -- at the end all

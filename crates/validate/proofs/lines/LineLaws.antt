@@ -101,11 +101,11 @@ module _ (m : List ℕ) (g : ℕ) (f : Framed m g) where
   revoked-read w e = rw (group-read m g f.low f.high, ← e)
 
 -- what a call that tells of a line says
-pub empty-line : {a t : Bool} → not a ≡ t → not t ≡ true → a ≡ true
-empty-line {a} {t} e n = not-false a (e ∙ not-true t n)
+pub empty-line : {a t : Bool} → not a ≡ t → t ≡ false → a ≡ true
+empty-line {a} e n = not-false a (e ∙ n)
 
-pub some-line : {a t : Bool} → not a ≡ t → not t ≡ false → a ≡ false
-some-line {a} {t} e n = not-true a (e ∙ not-false t n)
+pub some-line : {a t : Bool} → not a ≡ t → t ≡ true → a ≡ false
+some-line {a} e n = not-true a (e ∙ n)
 
 -- The running group.
 

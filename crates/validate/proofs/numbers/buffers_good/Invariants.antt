@@ -1,0 +1,11 @@
+-- `validate::numbers::buffers_good` meets its contract: the groups below g pass, and the first that fails decides. Assumes nothing.
+use Prim.Native.Nat.{◌-◌}
+use Rattle.validate.specs.Clauses.{buffer_good}
+use Rattle.validate.proofs.RangeLaws.{Below}
+use Rattle.validate.proofs.numbers.buffers_good.Given as goal
+
+abbrev pub invariant-loop-g : goal.invariant-loop-g
+invariant-loop-g l = Below (buffer_good l.m) l.g
+
+abbrev pub decreases-loop-g : goal.decreases-loop-g
+decreases-loop-g l = 9 - l.g

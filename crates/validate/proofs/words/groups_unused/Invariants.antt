@@ -1,0 +1,11 @@
+-- `validate::words::groups_unused` meets its contract: the groups below g pass, and the first that fails decides. Assumes nothing.
+use Prim.Native.Nat.{◌-◌}
+use Rattle.rules.specs.MemoryTest.{group_unused}
+use Rattle.validate.proofs.RangeLaws.{Below}
+use Rattle.validate.proofs.words.groups_unused.Given as goal
+
+abbrev pub invariant-loop-g : goal.invariant-loop-g
+invariant-loop-g l = Below (group_unused l.m) l.g
+
+abbrev pub decreases-loop-g : goal.decreases-loop-g
+decreases-loop-g l = 9 - l.g

@@ -22,7 +22,7 @@ use validate::is_node;
 pub const LINES_ROOM: usize = PLACES * WHY_ROOM;
 
 // What is carried from portion to portion: the script so far, and the lines whose messages wait, from the head on.
-#[derive(Drop)]
+#[derive(Clone, Copy)]
 pub struct State {
     pub script: feed::State,
     pub waiting: [u64; PLACES],
@@ -30,7 +30,7 @@ pub struct State {
 }
 
 // What a portion came to: the state behind it, how many bytes of it were used, how many of the output were written, and why it stopped.
-#[derive(Drop)]
+#[derive(Clone, Copy)]
 pub struct Told {
     pub state: State,
     pub used: usize,
@@ -39,7 +39,7 @@ pub struct Told {
 }
 
 // What the script's end came to: how many bytes of the output were written, and why it stopped.
-#[derive(Drop)]
+#[derive(Clone, Copy)]
 pub struct End {
     pub written: usize,
     pub stop: u32,
@@ -47,7 +47,7 @@ pub struct End {
 
 // How far lines are told: the position behind those used, how many there were, how long the line is that is kept, how many messages wait, the end
 // of what was written, and why it stopped.
-#[derive(Drop)]
+#[derive(Clone, Copy)]
 struct Lines {
     used: usize,
     lines: u64,

@@ -17,7 +17,7 @@ use script::read::FIELDS;
 use validate::is_node;
 
 // What is told of a line: 0, the reason and the line that it names; or the refusal.
-#[derive(Drop)]
+#[derive(Clone, Copy)]
 pub struct Told {
     pub answer: u32,
     pub reason: u32,
@@ -25,14 +25,14 @@ pub struct Told {
 }
 
 // The message's place in the queue, from 1, or 0 where there is none to follow; and what is told so far.
-#[derive(Drop)]
+#[derive(Clone, Copy)]
 pub struct Followed {
     pub place: u64,
     pub told: Told,
 }
 
 // What is carried from portion to portion: the script so far, the number of the line wanted, and its message.
-#[derive(Drop)]
+#[derive(Clone, Copy)]
 pub struct State {
     pub script: feed::State,
     pub wanted: u64,
@@ -40,7 +40,7 @@ pub struct State {
 }
 
 // Lines followed: how many there were, how long the line is that is kept, and the message.
-#[derive(Drop)]
+#[derive(Clone, Copy)]
 struct Lines {
     lines: u64,
     count: usize,

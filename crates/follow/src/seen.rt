@@ -18,7 +18,7 @@ use script::read::read_at;
 
 // What is seen of a line: where the next one begins, its answer, whether it is an accepted arrival, how many are queued after it then, how many
 // leave the queue at it, and why the first of them and those behind it do.
-#[derive(Drop)]
+#[derive(Clone, Copy)]
 pub struct Line {
     pub next: usize,
     pub answer: u32,

@@ -11,7 +11,7 @@ use crate::text::put_why;
 use memory::map::PLACES;
 
 // How many wait, and the end of what was written.
-#[derive(Drop)]
+#[derive(Clone, Copy)]
 pub struct Waiting {
     pub count: usize,
     pub end: usize,

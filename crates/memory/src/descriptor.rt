@@ -8,7 +8,7 @@ ghost use Rattle.memory.specs.Descriptors.{descriptor_of, redescribed};
 
 use super::{map, words};
 
-#[derive(Drop)]
+#[derive(Clone, Copy)]
 pub struct Descriptor {
     pub len: u32,
     // 0 past len

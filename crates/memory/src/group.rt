@@ -7,7 +7,7 @@ ghost use Rattle.memory.specs.Holds.{Holds, Becomes, Any, flagging, timer_flaggi
 
 use super::map;
 
-#[derive(Drop)]
+#[derive(Clone, Copy)]
 pub struct Group {
     // the flags, each 0 or 1
     pub atomic: u32,

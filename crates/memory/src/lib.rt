@@ -22,7 +22,7 @@ ghost use Rattle.memory.specs.Answers.{Answers};
 use rules::{Build, Limits, Report};
 
 // A node in lent memory: its limits belong to it by name.
-#[derive(Drop)]
+#[derive(Clone, Copy)]
 pub struct Node {}
 
 impl Node {

@@ -6,7 +6,7 @@ ghost use Rattle.node.specs.Steps.{done, unsettled};
 
 use rules::Report;
 
-#[derive(Drop)]
+#[derive(Clone, Copy)]
 pub struct Act {
     pub settles: bool,
     pub report: Report,

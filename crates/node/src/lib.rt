@@ -54,7 +54,7 @@ pub fn head_part(memory: &[u32]) -> Part
 }
 
 // Pages sent out and pages brought in so far.
-#[derive(Drop)]
+#[derive(Clone, Copy)]
 pub struct PageCounts {
     pub out: u32,
     pub brought: u32,

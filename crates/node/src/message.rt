@@ -5,7 +5,7 @@ ghost use Rattle.node.specs.Parts.{FirstPart, FirstWords};
 use memory::map;
 
 // A part of the memory.
-#[derive(Drop)]
+#[derive(Clone, Copy)]
 pub struct Part {
     pub start: usize,
     pub len: usize,

@@ -6,7 +6,7 @@ ghost use Rattle.rules.specs.Operation.{accepted_with, refused};
 ghost use Rattle.rules.specs.Types.{report_of};
 
 // An operation of the table. The words of an arrival are lent beside it.
-#[derive(Drop)]
+#[derive(Clone, Copy)]
 pub enum Operation {
     Arrive(u32),
     Schedule(u32),
@@ -26,7 +26,7 @@ pub enum Operation {
 }
 
 // What an accepted launch sends: the words past len are 0. All 0 where nothing is sent.
-#[derive(Drop)]
+#[derive(Clone, Copy)]
 pub struct Sent {
     pub node: u32,
     pub group: u32,
@@ -34,7 +34,7 @@ pub struct Sent {
     pub words: [u32; 8],
 }
 
-#[derive(Drop)]
+#[derive(Clone, Copy)]
 pub struct Report {
     pub answer: u32,
     pub value: u32,
@@ -127,7 +127,7 @@ impl Report {
 }
 
 // The sizes of a build.
-#[derive(Drop)]
+#[derive(Clone, Copy)]
 pub struct Build {
     pub frames: u32,
     pub swap: u32,
@@ -137,7 +137,7 @@ pub struct Build {
 }
 
 // The limits that every build shares.
-#[derive(Drop)]
+#[derive(Clone, Copy)]
 pub struct Limits {
     pub groups: u32,
     pub words: u32,

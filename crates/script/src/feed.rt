@@ -20,7 +20,7 @@ pub const KEPT: usize = 129;
 pub const KEPT_LINE: usize = 130;
 
 // What is carried from portion to portion: how many lines were played, and what is kept of the line that has begun.
-#[derive(Drop)]
+#[derive(Clone, Copy)]
 pub struct State {
     pub lines: u64,
     pub kept: [u8; KEPT_LINE],
@@ -28,7 +28,7 @@ pub struct State {
 }
 
 // What a portion came to: the state behind it, how many bytes of it were used, how many of the output were written, and why it stopped.
-#[derive(Drop)]
+#[derive(Clone, Copy)]
 pub struct Fed {
     pub state: State,
     pub used: usize,

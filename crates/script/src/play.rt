@@ -14,7 +14,7 @@ pub const NO_ROOM: u32 = 1;
 
 // How far a play came: the position behind what was used, the end of what was written, how many digits the line number has, how many lines
 // were played, and why it stopped.
-#[derive(Drop)]
+#[derive(Clone, Copy)]
 pub struct Played {
     pub used: usize,
     pub at: usize,

@@ -27,7 +27,7 @@ const DIGIT_LIMIT: usize = 10;
 const LARGEST: u64 = 4294967295;
 
 // A number, where it is one, and the position behind what was read of it.
-#[derive(Drop)]
+#[derive(Clone, Copy)]
 pub struct Digits {
     pub ok: bool,
     pub value: u32,
@@ -35,7 +35,7 @@ pub struct Digits {
 }
 
 // How many numbers stand behind a letter, where none is bad, and the position behind what was read of them.
-#[derive(Drop)]
+#[derive(Clone, Copy)]
 struct Fields {
     ok: bool,
     count: usize,
@@ -43,7 +43,7 @@ struct Fields {
 }
 
 // A line's operation, how many numbers it has, and where the next line begins.
-#[derive(Drop)]
+#[derive(Clone, Copy)]
 pub struct Line {
     pub op: Operation,
     pub count: usize,

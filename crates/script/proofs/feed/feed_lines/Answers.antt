@@ -1,0 +1,25 @@
+-- `script::feed::feed_lines` meets its contract: the portion is cut behind its last newline, and what stands behind the cut is kept. Assumes
+-- nothing.
+use Prim.Native.Nat.{◌-◌}
+use native.Mathlib.Omega.{arith}
+use mathlib.Core.Path.{◌≡◌, ◌∙◌, ap}
+use lib.ListN.{take}
+use Rattle.script.specs.Feed.{kept_room}
+use Rattle.script.proofs.feed.FeedLaws.{cut-playable, drop_all, lines-stopped, lines-used}
+use Rattle.script.proofs.feed.feed_lines.Goals as goal
+
+pub play-p-requires : goal.play-p-requires
+play-p-requires c =
+    let z : c.behind_last-last.result - 0 ≡ c.behind_last-last.result = omega arith in
+    rw z (cut-playable c.requires c.behind_last-last.ensures)
+
+pub returns-then-p-ne-ALL_USED : goal.returns-then-p-ne-ALL_USED
+returns-then-p-ne-ALL_USED c =
+    let z : c.behind_last-last.result - 0 ≡ c.behind_last-last.result = omega arith in
+    lines-stopped c.requires c.behind_last-last.ensures (rw z at c.play-p.ensures) c.if-p-ne-ALL_USED.true _
+
+pub returns : goal.returns
+returns c =
+    let z : c.behind_last-last.result - 0 ≡ c.behind_last-last.result = omega arith in
+    lines-used c.requires c.behind_last-last.ensures (rw z at c.play-p.ensures)
+    (let e = c.if-p-ne-ALL_USED.false in omega arith) (c.keep-count.ensures.0 ∙ ap (take kept_room) (drop_all c.args.input.now c.behind_last-last.result))

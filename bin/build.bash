@@ -3,11 +3,16 @@
 root=$(dirname -- "$(dirname -- "$(readlink -f -- "${BASH_SOURCE[0]}")")")
 name=$(basename -- "$(readlink -f -- "${BASH_SOURCE[1]}")")
 archives=$root/target/staticlib
+objects=$root/target/proved
 # What Rust builds names no file of this folder, which an installed program has nothing to do with.
 export CARGO_ENCODED_RUSTFLAGS=--remap-path-prefix=$root=.
 
-# About how many seconds the proof of each crate takes on two cores: as .ci/run told them last, "rt: rules proved (53 s)".
-declare -A takes=([rules]=53 [reasons]=2 [memory]=52 [validate]=37 [node]=43 [script]=49 [follow]=56 [listing]=31 [capi]=31 [why]=43)
+# About how many seconds the proof of each crate takes on two cores.
+declare -A takes=([rules]=53 [streams]=10 [reasons]=2 [memory]=52 [validate]=37 [node]=43 [script]=49 [follow]=56 [listing]=31 [capi]=31 [capi_c]=12 [why]=43
+    [fugu]=12 [why_main]=12)
+
+# What is made of the last crate of a proof: of a program its object, of a static library its archive.
+declare -A makes=([fugu]=$objects/fugu.o [why_main]=$objects/why.o [capi_c]=$archives/libcapi.a)
 
 # fail STATUS MESSAGE
 fail() {
@@ -106,10 +111,10 @@ needs() {
     command -v -- "$1" >/dev/null || fail 1 "there is no $1 on the path, $2: README.md tells what is needed"
 }
 
-# changed_since TIME SOURCE..: a file of the sources is newer, or one is not there. What cargo builds beside them is none.
+# changed_since TIME SOURCE..: a file of the sources is newer, or one is not there. What cargo and rt build beside them is none.
 changed_since() {
     local newer
-    ! newer=$(find "${@:2}" -name target -prune -o -newermt "$1" -type f -print -quit 2>/dev/null) || [[ -n $newer ]]
+    ! newer=$(find "${@:2}" \( -name target -o -name out \) -prune -o -newermt "$1" -type f -print -quit 2>/dev/null) || [[ -n $newer ]]
 }
 
 # is_older MADE SOURCE..: than a source, or not there.
@@ -117,12 +122,19 @@ is_older() {
     [[ ! -e $1 ]] || changed_since "@$(stat -c %.9Y -- "$1")" "${@:2}"
 }
 
+# find_kit: leaves in `kit` the Rattle toolchain's folder, which rt is of.
+find_kit() {
+    needs rt "the Rattle toolchain's command, which proves"
+    kit=${RATTLE_HOME:-$(dirname -- "$(dirname -- "$(readlink -f -- "$(command -v rt)")")")}
+}
+
 # needed_by CRATE: leaves in `crates` those that its proof takes, itself last, in the order of crates.txt: each stands there behind those that it
-# needs, and rt proves them so.
+# needs, and they are proved so.
 needed_by() {
     local crate needs wanted=" $1 "
     crates=()
     while IFS=: read -r crate needs; do
+        crate=${crate%% *}
         if [[ $wanted == *" $crate "* ]]; then
             crates=("$crate" "${crates[@]}")
             wanted+="$needs "
@@ -130,41 +142,53 @@ needed_by() {
     done < <(tac -- "$root/crates.txt")
 }
 
-# proved CRATE [unchanged]: one more of `crates`, the one whose turn it was, and where standard error is no terminal, a line for it.
-proved() {
+# proving LINE: what rt said, if anything, of a crate that it proves. How long the rest takes is told by how long it should and how this machine did so
+# far.
+proving() {
+    local all=$((expected > 0 ? spent + left * spent / expected : left))
+    if [[ $1 == 'logic=proved '* ]]; then changed=1; fi
+    show "$name: proving ${crates[at]}, $((at + 1)) of ${#crates[@]}, $(of_about $((SECONDS - began)) "$all")"
+}
+
+# prove_one CRATE COMMAND..: by rt in its folder. One that is unchanged was proved already; of another, where standard error is no terminal, a line tells
+# that it is proved now.
+prove_one() {
+    local changed=
+    watch proving "$root/crates/$1" "${@:2}"
     at=$((at + 1))
     left=$((left - ${takes[$1]-0}))
-    if [[ -z ${2-} ]]; then
+    if [[ -n $changed ]]; then
         spent=$((SECONDS - began))
         expected=$((expected + ${takes[$1]-0}))
         if [[ ! -t 2 ]]; then printf '%s: %s proved, %d of %d\n' "$name" "$1" "$at" "${#crates[@]}" >&2; fi
     fi
 }
 
-# proving LINE: what rt said. How long the rest takes is told by how long it should and how this machine did so far.
-proving() {
-    if [[ $1 =~ ^'rt: '([a-z]+)' proved ('(unchanged)? && ${BASH_REMATCH[1]} == "${crates[at]}" ]]; then
-        proved "${BASH_REMATCH[@]:1}"
-    elif [[ $1 =~ ^'rt: target/staticlib/'.*'; link '(.*)' beside it'$ ]]; then
-        beside=${BASH_REMATCH[1]}
-    fi
-    local all=$((expected > 0 ? spent + left * spent / expected : left))
-    show "$name: proving ${crates[at]}, $((at + 1)) of ${#crates[@]}, $(of_about $((SECONDS - began)) "$all")"
-}
-
-# prove CRATE: has rt make its archive where a crate is newer, and copies the kit's C code that it needs, if any, beside it. It is newer than the
-# crates then, unless one changed meanwhile.
+# prove CRATE: has rt prove a program or a static library where a crate is newer, those first that it takes, and leaves what is made of it. That is newer
+# than the crates then, unless one changed meanwhile.
 prove() {
-    local made=$archives/lib$1.a before=$EPOCHREALTIME sources=("$root/crates.txt" "$root/crates")
-    local crates crate at=0 began=$SECONDS spent=0 expected=0 left=0 beside=
+    local made=${makes[$1]} before=$EPOCHREALTIME sources=("$root/crates.txt" "$root/crates")
+    local crates crate at=0 began=$SECONDS spent=0 expected=0 left=0 kit
     if ! is_older "$made" "${sources[@]}"; then return; fi
-    needs rt "the Rattle toolchain's command, which proves"
+    find_kit
     needed_by "$1"
     for crate in "${crates[@]}"; do left=$((left + ${takes[$crate]-0})); done
+    for crate in "${crates[@]:0:${#crates[@]}-1}"; do prove_one "$crate" rt lib "$crate"; done
+    mkdir -p -- "$archives" "$objects"
     making=$made
-    watch proving "$root" rt staticlib "$1"
-    proved "$1"
-    if [[ -n $beside ]]; then cp -f -- "$beside" "$archives"; fi
+    case $made in
+    *.a)
+        prove_one "$1" rt lib "$1"
+        cp -f -- "$root/crates/$1/out/lib$1.a" "$made"
+        ;;
+    *.o)
+        # rt has no command that builds a program and does not run it. It gets no input here.
+        prove_one "$1" rt run "$1" -- --all
+        needs objcopy "the linker's companion, which names"
+        objcopy --redefine-sym main=proved_program --redefine-sym __sysv_signal=proved_program_signal "$root/crates/$1/out/$1.o" "$made"
+        cp -f -- "$kit"/c/lib{os,libc}_c.a "$objects"
+        ;;
+    esac
     touch -- "$made"
     if changed_since "@$before" "${sources[@]}"; then
         touch -d "@$before" -- "$made"
@@ -184,8 +208,7 @@ build() {
     local folder=$root/$1 built=$root/$1/target/built-$2 before=$EPOCHREALTIME began=$SECONDS
     local sources=("$folder" "$root/cli" "$root/bin/help" "$root/VERSION")
     case $1/$2 in
-    programs/fugu) sources+=("$archives/liblisting.a") ;;
-    programs/why) sources+=("$archives/libwhy.a") ;;
+    programs/*) sources+=("$objects/$2.o") ;;
     desk/* | trials/*) sources+=("$archives/libcapi.a" "$root/capi/rust" "$root/judge") ;;
     replay/*) sources+=("$archives/libcapi.a" "$root/capi/rust" "$root/target/wasm/fugu.wasm") ;;
     esac
@@ -222,28 +245,26 @@ calls() {
     sed -nE 's/^uint32_t (fugu_[a-z_]+)\(.*/\1/p' "$root/capi/fugu.h"
 }
 
-# find_kit: leaves in `kit` the Rattle toolchain's folder, which rt is of, in `own` what it has for this machine, and in `clang` its compiler.
-find_kit() {
+# find_compiler: leaves in `kit` the Rattle toolchain's folder, which rt is of, and in `clang` its compiler.
+find_compiler() {
     local part
-    needs rt "the Rattle toolchain's command, which proves"
-    kit=${RATTLE_HOME:-$(dirname -- "$(dirname -- "$(readlink -f -- "$(command -v rt)")")")}
-    own=$kit/on/$(uname -m)
-    clang=$own/toolchain/bin/clang
-    for part in "$own/bin/rattle" "$clang"; do
+    find_kit
+    clang=$kit/toolchain/bin/clang
+    for part in "$kit/bin/rattle" "$clang"; do
         [[ -x $part ]] || fail 1 "$part is not there: this is another toolchain than VERSION names"
     done
 }
 
 # compiling LINE: what prover and compiler said is of interest only where they fail.
 compiling() {
-    show "$name: compiling the proved calls for a page, $(of_about $((SECONDS - began)) "${takes[capi]}")"
+    show "$name: compiling the proved calls for a page, $(of_about $((SECONDS - began)) "${takes[capi_c]}")"
 }
 
 # keeping_toolchain: a folder as the kit's, but that the compiler keeps the module that it is handed.
 keeping_toolchain() {
     mkdir -p -- "$parts/toolchain/bin"
-    ln -s -- "$own/toolchain/lib" "$parts/toolchain"
-    ln -s -- "$own/toolchain/bin"/* "$parts/toolchain/bin"
+    ln -s -- "$kit/toolchain/lib" "$parts/toolchain"
+    ln -s -- "$kit/toolchain/bin"/* "$parts/toolchain/bin"
     rm -f -- "$parts/toolchain/bin/clang"
     # shellcheck disable=SC2016 # the words are those of the compiler's own call
     printf '#!/usr/bin/env bash\nfor word; do case $word in *.bc) cp -- "$word" %q ;; esac; done\nexec %q "$@"\n' "$parts/module.bc" "$clang" \
@@ -251,22 +272,24 @@ keeping_toolchain() {
     chmod +x -- "$parts/toolchain/bin/clang"
 }
 
-# keep_module: has the prover build the archive of the calls once more, and keeps the module that it hands its compiler, module.bc. The archive is
-# the one that programs are linked with, to the byte, so the module is theirs.
+# keep_module: has the prover build the archive of the calls once more, as rt has it do, and keeps the module that it hands its compiler, module.bc.
+# The archive is the one that programs are linked with, to the byte, so the module is theirs.
 keep_module() {
     local crates crate externs=()
-    needed_by capi
-    for crate in "${crates[@]:0:${#crates[@]}-1}"; do externs+=(--extern "$crate=$root/target/rlib/$crate.rlib"); done
-    watch compiling "$parts" "$own/bin/rattle" build --crate-name capi "$root/crates/capi/src/lib.rt" \
-        --extern "std=$own/rlib/std.rlib" "${externs[@]}" -L "dependency=$root/target/rlib" -L "dependency=$own/rlib" \
-        --antt-project "$kit/logic/antt-project.json" --logic-built "$own/logic-built" \
-        --toolchain "$parts/toolchain" --crate-type staticlib -o libcapi.a
+    needed_by capi_c
+    for crate in "${crates[@]:0:${#crates[@]}-1}"; do
+        externs+=(--extern "$crate=$root/crates/$crate/out/rlib/$crate.rlib" -L "dependency=$root/crates/$crate/out/rlib")
+    done
+    watch compiling "$parts" "$kit/bin/rattle" build --crate-name capi_c "$root/crates/capi_c/src/lib.rt" \
+        --extern "std=$kit/rlibs/std.rlib" -L "dependency=$kit/rlibs" "${externs[@]}" \
+        --antt-project "$kit/rattle/logic/antt-project.json" --logic-built "$kit/logic_built" --links capi_c= \
+        --crate-type staticlib --toolchain "$parts/toolchain" --backend llvm -o libcapi.a
     cmp -s -- "$parts/libcapi.a" "$archives/libcapi.a" ||
         fail 1 'the prover builds another archive now than target/staticlib/libcapi.a: remove that one'
     [[ -s $parts/module.bc ]] || fail 1 'the prover handed its compiler no module'
 }
 
-# retarget: leaves the module as text, native.ll, and the same for the other machine, wasm.ll: the two lines that name the machine exchanged and two
+# retarget: leaves the module as text, native.ll, and the same for the other machine, wasm.ll: the two lines that name the machine exchanged and three
 # attributes taken off. Where something is left that only the one has, or that depends on how wide a pointer is, this fails.
 retarget() {
     local layout changed found
@@ -274,7 +297,7 @@ retarget() {
     layout=$("$clang" --target=wasm32-unknown-unknown -S -emit-llvm -x c /dev/null -o - | grep '^target datalayout = ') ||
         fail 1 "$clang can't compile for WebAssembly: this is another toolchain than VERSION names"
     sed -E -e "s|^target datalayout = .*|$layout|" -e 's|^(target triple = ).*|\1"wasm32-unknown-unknown"|' \
-        -e '/^attributes /s| "probe-stack"="inline-asm" "target-cpu"="x86-64"||' "$parts/native.ll" >"$parts/wasm.ll"
+        -e '/^attributes /s| "probe-stack"="inline-asm" "stack-probe-size"="[0-9]+" "target-cpu"="x86-64-v2"||' "$parts/native.ll" >"$parts/wasm.ll"
     changed=$(diff -- "$parts/native.ll" "$parts/wasm.ll" | grep -c '^<') || true
     ((changed == 3)) || fail 1 "$changed lines of the module name its machine, and not 3: diff $parts/native.ll $parts/wasm.ll"
     if found=$(grep -nEm 1 'ptrtoint|ptrtoaddr|inttoptr|\<asm\>|x86|addrspace|x ptr\]|getelementptr( [a-z]+)* ptr,' "$parts/wasm.ll"); then
@@ -282,19 +305,21 @@ retarget() {
     fi
 }
 
-# wasm: makes the proved calls for a page, target/wasm/fugu.wasm, where they are older. The compiler has the flags that the prover gives it, and may
-# use of the new machine what its first version has and the moving of memory. The stack stands below all else, so that a call that ran out of it
+# wasm: makes the proved calls for a page, target/wasm/fugu.wasm, where they are older. The compiler has the flags that the prover gives it but for those
+# of its machine, and may use of the new machine what its first version has and the moving of memory. The stack stands below all else, so that a call that ran out of it
 # would end and overwrite nothing.
 wasm() {
-    local made=$root/target/wasm/fugu.wasm parts=$root/target/wasm/parts began=$SECONDS kit own clang exports
+    local made=$root/target/wasm/fugu.wasm parts=$root/target/wasm/parts began=$SECONDS kit clang exports
     if ! is_older "$made" "$archives/libcapi.a" "$root/capi/fugu.h"; then return; fi
-    find_kit
+    find_compiler
     rm -rf -- "$parts"
     keeping_toolchain
     keep_module
     retarget
     watch compiling "$parts" "$clang" --target=wasm32-unknown-unknown -mcpu=mvp -mbulk-memory \
-        -mllvm -trap-unreachable -mllvm -no-trap-after-noreturn --no-default-config -Werror -O3 -c -x ir wasm.ll -o wasm.o
+        -mllvm -trap-unreachable -mllvm -no-trap-after-noreturn -mllvm -disable-machine-licm -mllvm -disable-postra-machine-licm \
+        -mllvm -sink-common-insts=false -mllvm -expand-div-rem-bits=64 -mllvm -expand-fp-convert-bits=64 \
+        --no-default-config -no-canonical-prefixes -Werror -O3 -c -x ir wasm.ll -o wasm.o
     mapfile -t exports < <(calls)
     ln -s -- "$clang" "$parts/wasm-ld"
     watch compiling "$parts" ./wasm-ld --no-entry "${exports[@]/#/--export=}" --export=__heap_base \

@@ -12,7 +12,7 @@ fn main() {
     println!("cargo:rerun-if-changed={}", archive.display());
     if !archive.is_file() {
         eprintln!(
-            "error: {} is not there: `rt staticlib capi` proves and writes it",
+            "error: {} is not there: `bin/library` proves and writes it",
             archive.display()
         );
         exit(1);

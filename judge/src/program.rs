@@ -32,8 +32,8 @@ const MEASURED_MAIL: [(&str, usize); 2] = [("C, no mail", 0), ("C, queue full", 
 /// With as many words as a message has room for.
 const LONGEST_ARRIVAL: &str = "A,1,11,12,13,14,15,16,17,18";
 /// What tests the memory before every step is measured with the script's first lines, so many times
-/// over: those that end in its first bytes, which are the most that target/bin/tested takes, and no
-/// more than so many, for the judge takes long.
+/// over: those that end in its first bytes, which are the most that crates/tested/out/tested takes, and
+/// no more than so many, for the judge takes long.
 const TESTED_BYTES: usize = 64 << 10;
 const TESTED_LINES: usize = 4096;
 pub const TESTED_TIMES: usize = 64;

@@ -15,8 +15,7 @@ const PORTION: u32 = 3;
 const END: u32 = 2;
 
 // The listing's header.
-#[unsafe(no_mangle)]
-pub extern "C" fn fugu_header(out: &mut [u8]) -> u32
+pub fn fugu_header(out: &mut [u8]) -> u32
     ensures { WritesHeader out.old out.new result }
 {
     if out.len() < HEADER as usize {
@@ -27,8 +26,7 @@ pub extern "C" fn fugu_header(out: &mut [u8]) -> u32
 }
 
 // The next portion of a script: the lines that it completes are stepped on the memory and listed.
-#[unsafe(no_mangle)]
-pub extern "C" fn fugu_feed(
+pub fn fugu_feed(
     memory: &mut [u32],
     state: &mut [u64],
     kept: &mut [u8],
@@ -51,8 +49,7 @@ pub extern "C" fn fugu_feed(
 }
 
 // The script's end: a line that has begun is its last.
-#[unsafe(no_mangle)]
-pub extern "C" fn fugu_feed_end(
+pub fn fugu_feed_end(
     memory: &mut [u32],
     state: &[u64],
     kept: &[u8],

@@ -7,8 +7,7 @@ use node::head_part;
 const HEAD: u32 = 2;
 
 // Where the running group's first message stands in the memory and how many words it has: 0 and 0 where there is none.
-#[unsafe(no_mangle)]
-pub extern "C" fn fugu_head(memory: &[u32], part: &mut [u32]) -> u32
+pub fn fugu_head(memory: &[u32], part: &mut [u32]) -> u32
     ensures { TellsHead memory.now part.old part.new result }
 {
     if part.len() < HEAD as usize {

@@ -1,5 +1,5 @@
 // The node for programs in other languages: calls over numbers and lent words, under plain names. What a call tells goes into a part that its
-// caller lends, and it returns how many words it wrote there: 0 where the part is too short, and then nothing at all has changed.
+// caller lends, and it returns how many words it wrote there: 0 where the part is too short, and then nothing at all has changed. C has them by `capi_c`.
 #![tactic(auto)]
 
 pub mod carried;
@@ -21,16 +21,14 @@ use memory::map;
 use validate::is_node;
 
 // The words of a node.
-#[unsafe(no_mangle)]
-pub extern "C" fn fugu_size() -> u32
+pub fn fugu_size() -> u32
     ensures { result ≡ size }
 {
     map::SIZE as u32
 }
 
 // 1 where the memory is a node, else 0.
-#[unsafe(no_mangle)]
-pub extern "C" fn fugu_test(memory: &[u32]) -> u32
+pub fn fugu_test(memory: &[u32]) -> u32
     ensures { result ≡ cond (is_memory memory.now) 1 0 }
 {
     if is_node(memory) {

@@ -7,8 +7,7 @@ use crate::report::{REPORT, put_report};
 use script::line;
 
 // A script line, without its newline.
-#[unsafe(no_mangle)]
-pub extern "C" fn fugu_line(memory: &mut [u32], text: &[u8], report: &mut [u32]) -> u32
+pub fn fugu_line(memory: &mut [u32], text: &[u8], report: &mut [u32]) -> u32
     ensures { Reports memory.old report.old (step_memory memory.old (read_line text.now)) memory.new report.new result }
 {
     if report.len() < REPORT as usize {

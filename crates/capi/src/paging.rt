@@ -7,8 +7,7 @@ use node::page_counts;
 const COUNTS: u32 = 2;
 
 // Pages sent out and pages brought in so far: 0 and 0 where the memory is no node.
-#[unsafe(no_mangle)]
-pub extern "C" fn fugu_paging(memory: &[u32], part: &mut [u32]) -> u32
+pub fn fugu_paging(memory: &[u32], part: &mut [u32]) -> u32
     ensures { TellsPages memory.now part.old part.new result }
 {
     if part.len() < COUNTS as usize {

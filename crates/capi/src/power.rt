@@ -6,8 +6,7 @@ use crate::report::{REPORT, put_report};
 use memory::Node;
 
 // Power-on: any memory that is long enough becomes a node.
-#[unsafe(no_mangle)]
-pub extern "C" fn fugu_power_on(memory: &mut [u32], report: &mut [u32]) -> u32
+pub fn fugu_power_on(memory: &mut [u32], report: &mut [u32]) -> u32
     ensures { Reports memory.old report.old (power_on_memory memory.old) memory.new report.new result }
 {
     if report.len() < REPORT as usize {

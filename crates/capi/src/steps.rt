@@ -13,13 +13,7 @@ use script::play::words_of;
 use script::read::operation;
 
 // A step: the operation by its letter and its numbers; those of an arrival are the group and the words.
-#[unsafe(no_mangle)]
-pub extern "C" fn fugu_step(
-    memory: &mut [u32],
-    letter: u8,
-    arguments: &[u32],
-    report: &mut [u32],
-) -> u32
+pub fn fugu_step(memory: &mut [u32], letter: u8, arguments: &[u32], report: &mut [u32]) -> u32
     ensures { Reports memory.old report.old (step_memory memory.old (operation_of letter (some arguments.now))) memory.new report.new result }
 {
     if report.len() < REPORT as usize {

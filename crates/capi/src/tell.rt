@@ -11,8 +11,7 @@ const PORTION: u32 = 3;
 const END: u32 = 2;
 
 // The next portion of a script: of each message that leaves the hardware queue in it the line that tells why goes into the output.
-#[unsafe(no_mangle)]
-pub extern "C" fn fugu_tell(
+pub fn fugu_tell(
     memory: &mut [u32],
     state: &mut [u64],
     kept: &mut [u8],
@@ -35,8 +34,7 @@ pub extern "C" fn fugu_tell(
 }
 
 // The script's end: a line that has begun is its last, and of the messages that are still queued it is told so.
-#[unsafe(no_mangle)]
-pub extern "C" fn fugu_tell_end(
+pub fn fugu_tell_end(
     memory: &mut [u32],
     state: &[u64],
     kept: &[u8],

@@ -13,8 +13,7 @@ const WHY: u32 = 4;
 const WORD_NUMBERS: u64 = 4294967296;
 
 // Why the message of a line was buffered, and in which line: the memory becomes a node, and the whole script is played on it.
-#[unsafe(no_mangle)]
-pub extern "C" fn fugu_why(memory: &mut [u32], script: &[u8], line: u32, part: &mut [u32]) -> u32
+pub fn fugu_why(memory: &mut [u32], script: &[u8], line: u32, part: &mut [u32]) -> u32
     ensures { TellsWhy memory.old part.old (why_memory memory.old script.now line) memory.new part.new result }
 {
     if part.len() < WHY as usize {

@@ -1,7 +1,7 @@
 -- What the program promises where all goes well: what a read brings is fed whole, by calls of `feed` that `PortionsListed` speaks of, each with
 -- line numbers enough; and to the end of its input a run lists its script. Assumes nothing.
 use Rattle.std.specs.Prelude.{ℕ, ◌≤◌, ◌<◌, false, true, List, [], ◌++◌, ◌≡◌, ℤ, pos, length, take}
-use Rattle.libc.specs.Io.{Moved}
+use Rattle.streams.specs.Moved.{Moved}
 use Rattle.rules.specs.Lists.{is_empty}
 use Rattle.rules.specs.Memory.{size}
 use Rattle.rules.specs.MemoryTest.{power_on_memory}

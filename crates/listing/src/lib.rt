@@ -3,15 +3,16 @@
 #![tactic(auto)]
 
 ghost use Rattle.std.specs.Prelude.{◌≡◌, true, ◌≤◌, ◌<◌, length};
-ghost use Rattle.libc.specs.Io.{Moved};
+ghost use Rattle.streams.specs.Moved.{Moved};
 ghost use Rattle.script.specs.Written.{line_room};
 ghost use Rattle.listing.specs.Run.{Plays, PlaysAll, Finishes, TakesIn, Turns, Runs, Exits};
 
-use libc::{STDERR_FILENO, STDIN_FILENO, STDOUT_FILENO};
 use memory::Node;
 use memory::map::SIZE;
 use script::feed::{LAST_NUMBER, State, feed};
 use script::write::put_header;
+use std::io::Read;
+use streams::{put_all, read_some, say};
 
 // How many bytes are read at a time, and how many the output holds.
 const PORTION: usize = 65536;
@@ -30,16 +31,12 @@ struct Run {
 }
 
 // Writes bytes of the listing, or says why not.
-fn put(bytes: &[u8]) -> bool {
-    let written = io::write_all(STDOUT_FILENO, bytes);
-    if !written {
-        os::fail(b"fugu: standard output");
-    }
-    written
+fn put(rt: &impl Print, bytes: &[u8]) -> bool {
+    put_all(b"fugu", rt, bytes)
 }
 
 // Some lines of a portion: what they list is written at once.
-fn play(memory: &mut [u32], run: Run, input: &[u8], out: &mut [u8]) -> Run
+fn play(rt: &impl Print, memory: &mut [u32], run: Run, input: &[u8], out: &mut [u8]) -> Run
     requires { (run.used < length input.now) × (line_room ≤ length out.old) }
     ensures { result.well ≡ true → Plays memory.old run input.now memory.new result }
 {
@@ -48,7 +45,7 @@ fn play(memory: &mut [u32], run: Run, input: &[u8], out: &mut [u8]) -> Run
     let f = feed(memory, state, &input[from..], out);
     let next = f.state;
     if f.stop == LAST_NUMBER {
-        io::write_all(STDERR_FILENO, b"fugu: out of line numbers\n");
+        say(b"fugu: out of line numbers\n");
         return Run {
             state: next,
             used: from,
@@ -60,13 +57,13 @@ fn play(memory: &mut [u32], run: Run, input: &[u8], out: &mut [u8]) -> Run
     Run {
         state: next,
         used: from + f.used,
-        well: put(&out[..end]),
+        well: put(rt, &out[..end]),
         ended: false,
     }
 }
 
 // A portion, all of it.
-fn play_all(memory: &mut [u32], state: State, input: &[u8], out: &mut [u8]) -> Run
+fn play_all(rt: &impl Print, memory: &mut [u32], state: State, input: &[u8], out: &mut [u8]) -> Run
     requires { line_room ≤ length out.old }
     ensures { result.well ≡ true → PlaysAll memory.old state input.now memory.new result }
 {
@@ -77,7 +74,7 @@ fn play_all(memory: &mut [u32], state: State, input: &[u8], out: &mut [u8]) -> R
         ended: false,
     };
     while run.used < input.len() {
-        run = play(memory, run, input, out);
+        run = play(rt, memory, run, input, out);
         if !run.well {
             break;
         }
@@ -86,21 +83,34 @@ fn play_all(memory: &mut [u32], state: State, input: &[u8], out: &mut [u8]) -> R
 }
 
 // One read, and what came of it.
-fn turn(memory: &mut [u32], state: State, input: &mut [u8], out: &mut [u8]) -> Run
+fn turn<R: Read>(
+    rt: &impl Print,
+    script: &mut R,
+    memory: &mut [u32],
+    state: State,
+    input: &mut [u8],
+    out: &mut [u8],
+) -> Run
     requires { line_room ≤ length out.old }
     ensures { result.well ≡ true → Turns memory.old state input.new memory.new result }
 {
-    let got = libc::read(STDIN_FILENO, input);
-    take_in(memory, state, got, input, out)
+    let got = read_some(b"fugu", script, input);
+    take_in(rt, memory, state, got, input, out)
 }
 
 // What a read answered: the bytes that it brought are played, all of them; with none the input is at its end.
-fn take_in(memory: &mut [u32], state: State, got: isize, input: &[u8], out: &mut [u8]) -> Run
+fn take_in(
+    rt: &impl Print,
+    memory: &mut [u32],
+    state: State,
+    got: isize,
+    input: &[u8],
+    out: &mut [u8],
+) -> Run
     requires { Moved (length input.now) got × (line_room ≤ length out.old) }
     ensures { result.well ≡ true → TakesIn memory.old state got input.now memory.new result }
 {
     if got < 0 {
-        os::fail(b"fugu: standard input");
         return Run {
             state: state,
             used: 0,
@@ -110,13 +120,13 @@ fn take_in(memory: &mut [u32], state: State, got: isize, input: &[u8], out: &mut
     }
     let n = io::count(got, input);
     if n > 0 {
-        return play_all(memory, state, &input[..n], out);
+        return play_all(rt, memory, state, &input[..n], out);
     }
-    finish(memory, state, out)
+    finish(rt, memory, state, out)
 }
 
 // The end of the input: a line that has begun gets its newline.
-fn finish(memory: &mut [u32], state: State, out: &mut [u8]) -> Run
+fn finish(rt: &impl Print, memory: &mut [u32], state: State, out: &mut [u8]) -> Run
     requires { line_room ≤ length out.old }
     ensures { result.well ≡ true → Finishes memory.old state memory.new result }
 {
@@ -128,7 +138,7 @@ fn finish(memory: &mut [u32], state: State, out: &mut [u8]) -> Run
             ended: true,
         };
     }
-    let run = play_all(memory, state, b"\n", out);
+    let run = play_all(rt, memory, state, b"\n", out);
     let next = run.state;
     Run {
         state: next,
@@ -139,7 +149,14 @@ fn finish(memory: &mut [u32], state: State, out: &mut [u8]) -> Run
 }
 
 // Turns to the end of the input, or until something fails. They are counted down, since a loop has to end and nothing says that an input does.
-fn play_script(memory: &mut [u32], state: State, input: &mut [u8], out: &mut [u8]) -> Run
+fn play_script<R: Read>(
+    rt: &impl Print,
+    script: &mut R,
+    memory: &mut [u32],
+    state: State,
+    input: &mut [u8],
+    out: &mut [u8],
+) -> Run
     requires { line_room ≤ length out.old }
     ensures { result.well ≡ true → Runs memory.old state memory.new result }
 {
@@ -152,32 +169,32 @@ fn play_script(memory: &mut [u32], state: State, input: &mut [u8], out: &mut [u8
     let mut turns = u64::MAX;
     while turns > 0 && run.well && !run.ended {
         let next = run.state;
-        run = turn(memory, next, input, out);
+        run = turn(rt, script, memory, next, input, out);
         turns -= 1;
     }
     run
 }
 
-// A script from standard input, its listing to standard output, and the exit status: 0 where the whole script is listed; else it is said on standard
-// error why not.
-#[unsafe(no_mangle)]
-pub extern "C" fn listing_program() -> u32
-    ensures { Exits result }
+// A script from a reader, which is standard input, its listing to standard output, and the exit status: 0 where the whole script is listed; else it is
+// said on standard error why not.
+pub fn listing_program<R: Read>(rt: &impl Print, script: &mut R) -> u32
+    ensures listed { Exits result }
+    ensures small { result ≤ 1 }
 {
     let mut memory = [0u32; SIZE];
     let mut input = [0u8; PORTION];
     let mut out = [0u8; PORTION];
     Node::start(&mut memory);
     let header = put_header(&mut out, 0);
-    if !put(&out[..header]) {
+    if !put(rt, &out[..header]) {
         return FAILED;
     }
-    let run = play_script(&mut memory, State::new(), &mut input, &mut out);
+    let run = play_script(rt, script, &mut memory, State::new(), &mut input, &mut out);
     if !run.well {
         return FAILED;
     }
     if !run.ended {
-        io::write_all(STDERR_FILENO, b"fugu: the input does not end\n");
+        say(b"fugu: the input does not end\n");
         return FAILED;
     }
     0

@@ -6,12 +6,16 @@ ghost use Rattle.std.specs.Prelude.{ℕ, ◌+◌, ◌≤◌, length};
 ghost use Rattle.script.specs.Written.{line_room, Countable, Counts};
 ghost use Rattle.tested.specs.Counted.{CountsTo};
 
-use libc::{STDIN_FILENO, STDOUT_FILENO};
 use memory::Node;
 use memory::map::SIZE;
 use script::line;
 use script::read::end_of_line;
 use script::write::{LINE_ROOM, PLACES, next, put_header, put_line, put_number};
+
+// Standard input and standard output.
+const STDIN: i32 = 0;
+
+const STDOUT: i32 = 1;
 
 // How many bytes a script has at most, and how many are written at a time.
 const PORTION: usize = 65536;
@@ -52,7 +56,7 @@ fn room(out: &[u8], at: usize) -> usize
     if out.len() - at >= LINE_ROOM {
         return at;
     }
-    io::write_all(STDOUT_FILENO, &out[..at]);
+    io::write_all(STDOUT, &out[..at]);
     0
 }
 
@@ -87,7 +91,7 @@ fn main() {
     let mut out = [0u8; PORTION];
     let mut digits = [0u8; PLACES];
     Node::start(&mut memory);
-    let n = io::read_full(STDIN_FILENO, &mut script);
+    let n = io::read_full(STDIN, &mut script);
     let at = put_header(&mut out, 0);
     let len = put_number(&mut digits, 0, 0);
     let mut l = Listing { at: at, len: len };
@@ -97,5 +101,5 @@ fn main() {
         times -= 1;
     }
     let end = l.at;
-    io::write_all(STDOUT_FILENO, &out[..end]);
+    io::write_all(STDOUT, &out[..end]);
 }

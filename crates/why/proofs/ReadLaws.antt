@@ -10,7 +10,7 @@ use mir.Facts.{to_z-of_z}
 use mir.Syntax.{w64}
 use mir.Val.{SFits, of_z, to_z}
 use Rattle.io.specs.Counts.{clamp_len}
-use Rattle.libc.specs.Io.{Moved}
+use Rattle.streams.specs.Moved.{Moved}
 use Rattle.why.specs.Reads.{Brought, got_of}
 use Rattle.why.specs.declared.reads.Got.{Got as Got·rt}
 

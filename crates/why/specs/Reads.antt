@@ -1,6 +1,6 @@
 -- What reading a portion promises. Assumes nothing.
 use Rattle.std.specs.Prelude.{ℕ, true, false, ◌≡◌, ℤ, pos, negsuc}
-use Rattle.libc.specs.Io.{Moved}
+use Rattle.streams.specs.Moved.{Moved}
 use Rattle.why.specs.declared.reads.Got.{Got as Got·rt}
 
 -- what a read has answered: so many bytes, or a failure

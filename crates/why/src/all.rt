@@ -9,6 +9,7 @@ use crate::writes::{no_end, no_number, put};
 use follow::every::{State, finish, tell};
 use memory::Node;
 use script::feed::LAST_NUMBER;
+use std::io::Read;
 
 // Where a run stands: what is carried from portion to portion, how many bytes of this one are used, whether all went well, and whether the input is
 // at its end.
@@ -21,7 +22,7 @@ struct Run {
 }
 
 // Some lines of a portion: what is told of them is written at once.
-fn play(memory: &mut [u32], run: Run, input: &[u8], out: &mut [u8]) -> Run
+fn play(rt: &impl Print, memory: &mut [u32], run: Run, input: &[u8], out: &mut [u8]) -> Run
     requires { (run.used < length input.now) × (lines_room ≤ length out.old) }
     ensures { result.well ≡ true → Plays memory.old run input.now memory.new result }
 {
@@ -42,13 +43,13 @@ fn play(memory: &mut [u32], run: Run, input: &[u8], out: &mut [u8]) -> Run
     Run {
         state: next,
         used: from + t.used,
-        well: put(&out[..end]),
+        well: put(rt, &out[..end]),
         ended: run.ended,
     }
 }
 
 // A portion, all of it; one without bytes is the end of the input.
-fn play_all(memory: &mut [u32], state: State, input: &[u8], out: &mut [u8]) -> Run
+fn play_all(rt: &impl Print, memory: &mut [u32], state: State, input: &[u8], out: &mut [u8]) -> Run
     requires { lines_room ≤ length out.old }
     ensures { result.well ≡ true → PlaysAll memory.old state input.now memory.new result }
 {
@@ -59,7 +60,7 @@ fn play_all(memory: &mut [u32], state: State, input: &[u8], out: &mut [u8]) -> R
         ended: input.len() == 0,
     };
     while run.used < input.len() {
-        run = play(memory, run, input, out);
+        run = play(rt, memory, run, input, out);
         if !run.well {
             break;
         }
@@ -68,7 +69,14 @@ fn play_all(memory: &mut [u32], state: State, input: &[u8], out: &mut [u8]) -> R
 }
 
 // What a read brought is played, all of it.
-fn take_in(memory: &mut [u32], state: State, got: Got, input: &[u8], out: &mut [u8]) -> Run
+fn take_in(
+    rt: &impl Print,
+    memory: &mut [u32],
+    state: State,
+    got: Got,
+    input: &[u8],
+    out: &mut [u8],
+) -> Run
     requires { (got.count ≤ length input.now) × (lines_room ≤ length out.old) }
     ensures { result.well ≡ true → TakesIn memory.old state got input.now memory.new result }
 {
@@ -81,20 +89,34 @@ fn take_in(memory: &mut [u32], state: State, got: Got, input: &[u8], out: &mut [
         };
     }
     let n = got.count;
-    play_all(memory, state, &input[..n], out)
+    play_all(rt, memory, state, &input[..n], out)
 }
 
 // One read, and what came of it.
-fn turn(memory: &mut [u32], state: State, input: &mut [u8], out: &mut [u8]) -> Run
+fn turn<R: Read>(
+    rt: &impl Print,
+    script: &mut R,
+    memory: &mut [u32],
+    state: State,
+    input: &mut [u8],
+    out: &mut [u8],
+) -> Run
     requires { lines_room ≤ length out.old }
     ensures { result.well ≡ true → Turns memory.old state input.new memory.new result }
 {
-    let got = read_some(input);
-    take_in(memory, state, got, input, out)
+    let got = read_some(script, input);
+    take_in(rt, memory, state, got, input, out)
 }
 
 // Turns to the end of the input, or until something fails. They are counted down, since a loop has to end and nothing says that an input does.
-fn play_script(memory: &mut [u32], state: State, input: &mut [u8], out: &mut [u8]) -> Run
+fn play_script<R: Read>(
+    rt: &impl Print,
+    script: &mut R,
+    memory: &mut [u32],
+    state: State,
+    input: &mut [u8],
+    out: &mut [u8],
+) -> Run
     requires { lines_room ≤ length out.old }
     ensures { result.well ≡ true → Runs memory.old state memory.new result }
 {
@@ -107,14 +129,14 @@ fn play_script(memory: &mut [u32], state: State, input: &mut [u8], out: &mut [u8
     let mut turns = u64::MAX;
     while turns > 0 && run.well && !run.ended {
         let next = run.state;
-        run = turn(memory, next, input, out);
+        run = turn(rt, script, memory, next, input, out);
         turns -= 1;
     }
     run
 }
 
 // The script's end. A line that has begun needs a number.
-fn end(memory: &mut [u32], state: State, out: &mut [u8]) -> bool
+fn end(rt: &impl Print, memory: &mut [u32], state: State, out: &mut [u8]) -> bool
     requires { 2 * lines_room ≤ length out.old }
     ensures { result ≡ true → Ends memory.old state out.old memory.new out.new }
 {
@@ -125,17 +147,23 @@ fn end(memory: &mut [u32], state: State, out: &mut [u8]) -> bool
     }
     let e = finish(memory, state, out);
     let n = e.written;
-    put(&out[..n])
+    put(rt, &out[..n])
 }
 
 // The answers for the script that is read; whether all went well.
-pub fn tell_all(memory: &mut [u32], input: &mut [u8], out: &mut [u8]) -> bool
+pub fn tell_all<R: Read>(
+    rt: &impl Print,
+    script: &mut R,
+    memory: &mut [u32],
+    input: &mut [u8],
+    out: &mut [u8],
+) -> bool
     requires { (size ≤ length memory.old) × (2 * lines_room ≤ length out.old) }
     ensures { result ≡ true → Tells memory.old }
 {
     Node::start(memory);
     let state = State::new();
-    let run = play_script(memory, state, input, out);
+    let run = play_script(rt, script, memory, state, input, out);
     if !run.well {
         return false;
     }
@@ -144,5 +172,5 @@ pub fn tell_all(memory: &mut [u32], input: &mut [u8], out: &mut [u8]) -> bool
         return false;
     }
     let last = run.state;
-    end(memory, last, out)
+    end(rt, memory, last, out)
 }

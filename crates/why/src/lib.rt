@@ -16,10 +16,11 @@ ghost use Rattle.why.specs.Program.{LineTold, Ends};
 
 use all::tell_all;
 use asked::{Asked, asked_of};
-use libc::STDERR_FILENO;
 use memory::map::SIZE;
 use one::answer;
 use reads::PORTION;
+use std::io::Read;
+use streams::say;
 use writes::put;
 
 // The exit status where something failed,
@@ -32,38 +33,52 @@ const REFUSED: u32 = 1;
 const MISUSED: u32 = 2;
 
 // The answer for one line: a refusal is told on standard error.
-fn tell_one(memory: &mut [u32], wanted: u64, input: &mut [u8], out: &mut [u8]) -> u32
+fn tell_one<R: Read>(
+    rt: &impl Print,
+    script: &mut R,
+    memory: &mut [u32],
+    wanted: u64,
+    input: &mut [u8],
+    out: &mut [u8],
+) -> u32
     requires { (size ≤ length memory.old) × (why_room ≤ length out.old) }
     ensures { (result ≡ 0 → LineTold memory.old wanted) × (result ≤ 1) }
 {
-    let t = answer(memory, wanted, input, out);
+    let t = answer(script, memory, wanted, input, out);
     let end = t.end;
     if !t.well {
         return FAILED;
     }
     if t.refused {
-        io::write_all(STDERR_FILENO, &out[..end]);
+        say(&out[..end]);
         return REFUSED;
     }
-    if !put(&out[..end]) {
+    if !put(rt, &out[..end]) {
         return FAILED;
     }
     0
 }
 
-// A script from standard input, what the argument asks of it to standard output, and the exit status: 0 where it is told, and 2 where the argument asks
-// for nothing; else it is said on standard error what failed or was refused.
-#[unsafe(no_mangle)]
-pub extern "C" fn why_program(argument: &[u8]) -> u32
-    ensures { Ends argument.now result }
+// A script from a reader, which is standard input, what the argument asks of it to standard output, and the exit status: 0 where it is told, and 2 where
+// the argument asks for nothing; else it is said on standard error what failed or was refused.
+pub fn why_program<R: Read>(rt: &impl Print, script: &mut R, argument: &[u8]) -> u32
+    ensures told { Ends argument.now result }
+    ensures small { result ≤ 2 }
 {
     let mut memory = [0u32; SIZE];
     let mut input = [0u8; PORTION];
     let mut out = [0u8; PORTION];
     match asked_of(argument) {
-        Asked::Line(wanted) => tell_one(&mut memory, wanted as u64, &mut input, &mut out),
+        Asked::Line(wanted) => tell_one(
+            rt,
+            script,
+            &mut memory,
+            wanted as u64,
+            &mut input,
+            &mut out,
+        ),
         Asked::All => {
-            if tell_all(&mut memory, &mut input, &mut out) {
+            if tell_all(rt, script, &mut memory, &mut input, &mut out) {
                 return 0;
             }
             FAILED

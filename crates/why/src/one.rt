@@ -14,9 +14,10 @@ use follow::text::{put_named, put_why};
 use memory::Node;
 use rules::Report;
 use script::write::put_text;
+use std::io::Read;
 
 // Where a run stands: what is carried from portion to portion, whether all went well, and whether the input is at its end.
-#[derive(Drop)]
+#[derive(Clone, Copy)]
 struct Run {
     state: State,
     well: bool,
@@ -75,10 +76,10 @@ fn take_in(memory: &mut [u32], state: State, got: Got, input: &[u8]) -> Run
 }
 
 // One read, and what came of it.
-fn turn(memory: &mut [u32], state: State, input: &mut [u8]) -> Run
+fn turn<R: Read>(script: &mut R, memory: &mut [u32], state: State, input: &mut [u8]) -> Run
     ensures { result.well ≡ true → Turns memory.old state input.new memory.new result }
 {
-    let got = read_some(input);
+    let got = read_some(script, input);
     take_in(memory, state, got, input)
 }
 
@@ -109,7 +110,7 @@ fn goes_on(run: Run) -> bool
 }
 
 // Turns, as long as there is more to read. They are counted down, since a loop has to end and nothing says that an input does.
-fn follow_script(memory: &mut [u32], state: State, input: &mut [u8]) -> Run
+fn follow_script<R: Read>(script: &mut R, memory: &mut [u32], state: State, input: &mut [u8]) -> Run
     ensures { result.well ≡ true → Runs memory.old state memory.new result }
 {
     let mut run = Run {
@@ -120,7 +121,7 @@ fn follow_script(memory: &mut [u32], state: State, input: &mut [u8]) -> Run
     let mut turns = u64::MAX;
     while turns > 0 && goes_on(run) {
         let next = run.state;
-        run = turn(memory, next, input);
+        run = turn(script, memory, next, input);
         turns -= 1;
     }
     run
@@ -209,13 +210,19 @@ fn put_told(out: &mut [u8], wanted: u64, t: Told) -> Text
 }
 
 // The answer for a line of the script that is read.
-pub fn answer(memory: &mut [u32], wanted: u64, input: &mut [u8], out: &mut [u8]) -> Text
+pub fn answer<R: Read>(
+    script: &mut R,
+    memory: &mut [u32],
+    wanted: u64,
+    input: &mut [u8],
+    out: &mut [u8],
+) -> Text
     requires { (size ≤ length memory.old) × (why_room ≤ length out.old) }
     ensures { IsPrefixLen result.end out.new × (result.well ≡ true → Answers memory.old wanted out.new result) }
 {
     Node::start(memory);
     let state = State::new(wanted);
-    let run = follow_script(memory, state, input);
+    let run = follow_script(script, memory, state, input);
     let known = tell(memory, run);
     if !known.well {
         return Text {

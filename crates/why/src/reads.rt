@@ -1,9 +1,9 @@
 // A script read in portions.
 ghost use Rattle.std.specs.Prelude.{◌≡◌, ◌≤◌, length};
-ghost use Rattle.libc.specs.Io.{Moved};
+ghost use Rattle.streams.specs.Moved.{Moved};
 ghost use Rattle.why.specs.Reads.{got_of, Brought};
 
-use libc::STDIN_FILENO;
+use std::io::Read;
 
 // How many bytes are read at a time.
 pub const PORTION: usize = 65536;
@@ -15,13 +15,12 @@ pub struct Got {
     pub count: usize,
 }
 
-// What a read answered; one that failed says why.
+// What a read answered.
 fn counted(got: isize, input: &[u8]) -> Got
     requires { Moved (length input.now) got }
     ensures { (result ≡ got_of got) × (result.count ≤ length input.now) }
 {
     if got < 0 {
-        os::fail(b"why: standard input");
         return Got {
             well: false,
             count: 0,
@@ -33,10 +32,10 @@ fn counted(got: isize, input: &[u8]) -> Got
     }
 }
 
-// The next portion: its bytes stand first in the input.
-pub fn read_some(input: &mut [u8]) -> Got
+// The next portion: its bytes stand first in the input. Where the read failed it is said why.
+pub fn read_some<R: Read>(script: &mut R, input: &mut [u8]) -> Got
     ensures { Brought (length input.new) result }
 {
-    let got = libc::read(STDIN_FILENO, input);
+    let got = streams::read_some(b"why", script, input);
     counted(got, input)
 }

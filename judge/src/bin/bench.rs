@@ -122,10 +122,10 @@ fn bench_one(
         &whole,
     )?;
 
-    let tested = project.join("target/bin/tested");
+    let tested = project.join("crates/tested/out/tested");
     if !tested.exists() {
         return print(
-            "target/bin/tested is not there, so the tested calls are left out: rt check builds it\n",
+            "crates/tested/out/tested is not there, so the tested calls are left out: rt run tested, in its folder, builds it\n",
         );
     }
     let first = tested_lines(script);

@@ -299,7 +299,7 @@ fn bench_tells_times_and_ratios() {
         let ratio = format!(" times the time of {other}\n");
         assert!(told.contains(&ratio), "{told}");
     }
-    assert!(told.contains("target/bin/tested is not there"));
+    assert!(told.contains("crates/tested/out/tested is not there"));
 }
 
 /// A program for the shell in a folder of the project.

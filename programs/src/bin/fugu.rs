@@ -4,10 +4,6 @@ use std::process::ExitCode;
 
 use cli::{Command, Failure};
 
-extern "C" {
-    fn listing_program() -> u32;
-}
-
 const COMMAND: Command = Command {
     name: "fugu",
     help: include_str!("../../../bin/help/fugu"),
@@ -19,8 +15,6 @@ fn main() -> ExitCode {
             let message = "no argument is taken: the script comes on standard input";
             return Err(Failure::Misused(message.to_string()));
         }
-        // It takes nothing.
-        let status = programs::play(|| unsafe { listing_program() })?;
-        Ok(status.into())
+        Ok(programs::play()?.into())
     })
 }

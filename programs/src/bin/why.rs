@@ -4,10 +4,6 @@ use std::process::ExitCode;
 
 use cli::{Command, Failure};
 
-extern "C" {
-    fn why_program(argument: *const u8, length: usize) -> u32;
-}
-
 const COMMAND: Command = Command {
     name: "why",
     help: include_str!("../../../bin/help/why"),
@@ -19,7 +15,8 @@ const MISUSED: u8 = 2;
 fn main() -> ExitCode {
     COMMAND.run(|arguments| {
         let status = match arguments {
-            [argument] => tell(argument.as_encoded_bytes())?,
+            // The program reads it by itself.
+            [_] => programs::play()?,
             _ => MISUSED,
         };
         if status == MISUSED {
@@ -29,9 +26,4 @@ fn main() -> ExitCode {
         }
         Ok(status.into())
     })
-}
-
-fn tell(argument: &[u8]) -> Result<u8, Failure> {
-    // It only reads the bytes that it is lent.
-    programs::play(|| unsafe { why_program(argument.as_ptr(), argument.len()) })
 }

@@ -1,0 +1,10 @@
+-- `capi::steps::fugu_step` meets its contract: what the call under it answers is told, where the part has room. Assumes nothing.
+use Rattle.capi.proofs.ToldLaws.{reports-told, reports-nothing}
+use Rattle.capi.proofs.steps.fugu_step.Goals as goal
+
+pub returns-then-report : goal.returns-then-report
+returns-then-report c = reports-nothing _ _ _ c.if-report.true
+
+pub returns : goal.returns
+returns c =
+    reports-told c.if-report.false c.step_by_letter-stepped.ensures c.put_report.ensures

@@ -1,0 +1,23 @@
+-- `capi::tell::fugu_tell_end` meets its contract: the state that is found is ended. Assumes nothing.
+use native.Mathlib.Omega.{arith}
+use lib.ListN.{length-set}
+use Rattle.capi.proofs.TellLaws.{end-nothing, end-told}
+use Rattle.capi.proofs.tell.fugu_tell_end.Goals as goal
+
+pub returns-then-not-lent : goal.returns-then-not-lent
+returns-then-not-lent c =
+    end-nothing c.args.memory.now c.args.state.now c.args.kept.now c.args.out.now c.args.part.now
+    (c.lent.ensures.1 c.if-not-lent.true)
+
+pub load-requires : goal.load-requires
+load-requires c = let l = c.lent.ensures.0 c.if-not-lent.false in (l.state, l.line)
+
+pub bounds-part-0 : goal.bounds-part-0
+bounds-part-0 c = let l = c.lent.ensures.0 c.if-not-lent.false in omega arith
+
+pub bounds-part-1 : goal.bounds-part-1
+bounds-part-1 c = let l = c.lent.ensures.0 c.if-not-lent.false in simp length-set (omega arith)
+
+pub returns : goal.returns
+returns c =
+    end-told (c.lent.ensures.0 c.if-not-lent.false) c.load.ensures c.finish-e.ensures

@@ -255,6 +255,7 @@ first_passes t (x ∷ xs) some = go (t x) refl (first_passes t xs)
         let r = later (rw (filter-fail t x xs e) at some) in
         subst (λ (ys : List ℕ). (1 ≤ count_of (get_or ys 0 0) (x ∷ xs)) × (t (get_or ys 0 0) ≡ true)) (sym (filter-fail t x xs e))
         (more (cond (eqb x (get_or (filter t xs) 0 0)) 1 0) (count_of (get_or (filter t xs) 0 0) xs) r.0, r.1)
+
 -- where only the number k fails, no fewer pass than there are others
 pass-many : (t : ℕ → Bool) (k : ℕ) → ((x : ℕ) → t x ≡ false → x ≡ k) → (xs : List ℕ) → length xs ≤ length (filter t xs) + count_of k xs
 pass-many t k only [] = omega arith

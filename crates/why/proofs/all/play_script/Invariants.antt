@@ -1,0 +1,11 @@
+-- What the reads brought so far is used. The measure is the number of turns that are left. Assumes nothing.
+use mathlib.Core.Bool.{true}
+use mathlib.Core.Path.{◌≡◌}
+use Rattle.why.specs.All.{Runs}
+use Rattle.why.proofs.all.play_script.Given as goal
+
+abbrev pub invariant-loop-turns : goal.invariant-loop-turns
+invariant-loop-turns g l = l.run.well ≡ true → Runs l.initial.memory l.initial.run.state l.memory l.run
+
+abbrev pub decreases-loop-turns : goal.decreases-loop-turns
+decreases-loop-turns g l = l.turns

@@ -1,0 +1,9 @@
+-- `why::one::is_settled` meets its contract: the tests are those of the definition. Assumes nothing.
+use Rattle.why.proofs.ReachLaws.{settled-not, settled-past}
+use Rattle.why.proofs.one.is_settled.Goals as goal
+
+pub returns-then-state-script : goal.returns-then-state-script
+returns-then-state-script c = settled-not c.args.state c.if-state-script.true
+
+pub returns : goal.returns
+returns c = settled-past c.args.state c.if-state-script.false

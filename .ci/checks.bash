@@ -48,9 +48,11 @@ prove_here() {
 
 # copy_crates: copies them to the scratch folder with what is proved of them, which rt takes there by the sum of its files. Fails if they are not.
 copy_crates() {
-    check 'the crates are proved' prove_here || return 1
+    local status=0
+    check 'the crates are proved' prove_here || status=1
     cp -R -- "$root/crates" "$root/crates.txt" "$scratch"
     if [ -e "$root/HANDLES" ]; then cp -- "$root/HANDLES" "$scratch"; fi
+    return "$status"
 }
 
 # new_crate NAME CRATE..: an empty one over the others, beside these copies.
@@ -67,13 +69,14 @@ check_crate() {
     (cd -- "$scratch/crates/$1" && rt check) >"$scratch/$1.log" 2>&1
 }
 
-# is_proved NAME, is_refused NAME: the verdict that it gave. Where it gave none, neither is so.
-is_proved() {
-    grep -q '^logic=proved ' "$scratch/$1.log"
+# verdict NAME WORDS: this is the verdict that it gave on the crate, and not on one below that was built first.
+verdict() {
+    [[ $(sed -n "/^crate $1: modules /,\$p" "$scratch/$1.log" | grep '^logic=') =~ ^logic=$2($|\ ) ]]
 }
 
-is_refused() {
-    grep -qxF 'logic=not-proved' "$scratch/$1.log"
+# errors_in NAME FILES: what it refused in these files of the crate's proofs, a pattern.
+errors_in() {
+    grep -E "^(\./)?proofs/$2:[0-9]+:[0-9]+: error: " "$scratch/$1.log"
 }
 
 # cargo_tests FOLDER: the tests of a crate in Rust, each counted from cargo's "test result:" lines. One that waits for ever ends them.

@@ -78,10 +78,11 @@ apply() {
         END { if (!failed && count) write(); if (!count) exit 1 }' "$1"
 }
 
-# try LANE CRATE EDIT FOLDER: what the prover says of the crate with this edit, in FOLDER/.log, and the proofs that it read, in FOLDER/proofs. The
-# lane is a folder beside the scratch folder's crates: several tries at once have one each. Of the other crates it has what rt built of them.
+# try LANE CRATE EDIT FOLDER [RENAMED]: what the prover says of the crate with this edit, in FOLDER/.log, and the proofs that it read, in
+# FOLDER/proofs. The lane is a folder beside the scratch folder's crates: several tries at once have one each. Of the other crates it has what rt
+# built of them. The last is a file of names that proofs are to have in place of others.
 try() {
-    local lane=$scratch/lanes/$1 crate=$2 edit=$3 folder=$4 each
+    local lane=$scratch/lanes/$1 crate=$2 edit=$3 folder=$4 each proof old new
     mkdir -p -- "$folder"
     rm -rf -- "$lane"
     mkdir -p -- "$lane/crates"
@@ -99,6 +100,9 @@ try() {
         fi
     done
     if apply "$edit" "$lane/crates/$crate" >"$folder/.log" 2>&1; then
+        while read -r proof old new; do
+            sed -Ei "s/-$old([^[:alnum:]_]|$)/-$new\\1/g" "$lane/crates/$crate/$proof"/*.antt
+        done <"${5:-/dev/null}"
         (cd -- "$lane/crates/$crate" && rt check --jobs 1) >"$folder/.log" 2>&1
     fi
     mv -- "$lane/crates/$crate/proofs" "$folder"
@@ -140,18 +144,22 @@ lost() {
         sub(/^[^ ]+ /, "", said)
         named = sub(/^`[^`]*`: /, "", said)
         gsub(/`[^`]*`/, "", said)
-        if (!named || said ~ /is not in scope|has no field|has no +that can be named|is no name|operand is missing|expected the end|cannot continue/) print
+        if (said != "" && (!named || said ~ /is not in scope|has no field|has no +that can be named|is no name|operand is missing|expected the end|cannot continue/)) print
     }'
 }
 
-# refused_function FOLDER CRATE NAME: where a fact that it asks for is not proved, by its answers or by the search that rattle tries.
+# refused_function FOLDER CRATE NAME: where a fact that it asks for is not proved, by its answer or by the search that rattle tries. Each fact is
+# asked for by a name, and has a declaration of that name as its answer: one that cites what is not there is lost, and says nothing. Nothing is
+# said of any fact where a file can't be read, or the loops have lost their invariants.
 refused_function() {
     local proof=proofs/${3//:://} found
     found=$(errors "$1" "$proof/(Invariants|Answers|Proof)\.antt")
-    if lost <<<"$found" | grep -q ' ' || grep -qE "^note: (\./)?$proof/[^:]+: .* is no name that rattle asks for" "$1/.log"; then
+    if lost <<<"$found" | grep -qE '^[^ ]+ [^`]|/(Invariants|Proof)\.antt:' || grep -qE "^note: (\./)?$proof/[^:]+: .* is no name that rattle asks for" "$1/.log"; then
         return 1
     fi
-    grep -qE "^fn $2::$3: no proof: .*\`search\` did not prove \`" "$1/.log" || { test -n "$found" && grep -qE "^fn $2::$3: not proved" "$1/.log"; }
+    grep -qE "^fn $2::$3: no proof: .*\`search\` did not prove \`" "$1/.log" && return
+    grep -qE "^fn $2::$3: not proved" "$1/.log" &&
+        grep . <<<"$found" | cut -d ' ' -f 2 | grep -qvxF -f <(lost <<<"$found" | cut -d ' ' -f 2 | grep . || printf ' \n')
 }
 
 # refused_laws FOLDER: the laws and the cases that are refused. A case is a field of its table's proof.
@@ -201,24 +209,47 @@ refused_by() {
     test -n "$named" && ! grep -vxF -f <(printf '%s\n' "$1") <<<"$named"
 }
 
+# renamed FOLDER EDIT NAME..: rattle names what follows a condition by its text, as `if-m-gt0` and `returns-then-m-gt0`. Where only the comparison
+# was changed in a function that these wrong programs name, its proof has lost its place by that alone, and finds it by the new names: these, each
+# as 'PROOF OLD NEW', with the same on the left of the comparison.
+renamed() {
+    local name proof
+    for name in "${@:3}"; do
+        facts "$2" | sed -n "s/^$name fn //p"
+    done | while read -r proof; do
+        proof=proofs/${proof//:://}
+        errors "$1" "$proof/(Invariants|Answers|Proof)\.antt" | awk -v proof="$proof" '
+            function left(name) { return match(name, /-(lt|le|gt|ge|eq|ne)(-|[0-9])/) ? substr(name, 1, RSTART) : "" }
+            match($0, /has no field `if-[^`]*` \(nearest: \.if-[^,)]*/) {
+                split(substr($0, RSTART, RLENGTH), name, /`if-|` \(nearest: \.if-/)
+                if (left(name[2]) != "" && left(name[2]) == left(name[3])) print proof, name[2], name[3]
+            }'
+    done | sort -u
+}
+
 # try_whole LANE CRATE EDIT FOLDER: tries all its wrong programs at once, in FOLDER/1, and leaves in FOLDER/by the facts by which they are refused.
-# The search is not tried in a function that calls one whose answers are refused. So those that are not refused by what they name are tried
-# again without the others, in FOLDER/2 and so on, as long as they grow fewer.
+# What a function asks for is not always tried where it calls one that is refused, and its proof can have lost its place by the name of a condition.
+# So those that are not refused by what they name are tried again without the others and with the new names, in FOLDER/2 and so on, as long as
+# they grow fewer or get new names.
 try_whole() {
-    local lane=$1 crate=$2 edit=$3 folder=$4 at=0 were left=() name facts
+    local lane=$1 crate=$2 edit=$3 folder=$4 at=0 left=() names were name facts
     mkdir -p -- "$folder"
     mapfile -t left < <(programs "$edit" | cut -d ' ' -f 1)
     : >"$folder/by"
-    while were=${#left[@]} && ((were > 0)); do
+    : >"$folder/renamed"
+    while ((${#left[@]} > 0)); do
         at=$((at + 1))
+        were=${#left[@]}
+        names=$(wc -l <"$folder/renamed")
         part "$edit" "${left[@]}" >"$folder/edit"
-        try "$lane" "$crate" "$folder/edit" "$folder/$at"
+        try "$lane" "$crate" "$folder/edit" "$folder/$at" "$folder/renamed"
         refused "$folder/$at" "$crate" "$edit" >>"$folder/by"
         left=()
         while read -r name facts; do
             refused_by "$(cat -- "$folder/by")" "$edit" "$name" >"$folder/lacking" || left+=("$name")
         done < <(programs "$edit")
-        if ((${#left[@]} == were)); then break; fi
+        renamed "$folder/$at" "$edit" "${left[@]}" >>"$folder/renamed"
+        if ((${#left[@]} == were && $(wc -l <"$folder/renamed") == names)); then break; fi
     done
     printf '%s\n' "$at" >"$folder/parts"
 }

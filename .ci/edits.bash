@@ -115,10 +115,18 @@ was_tried() {
     ! errors "$1" '(src|specs)/[^:]+' | lost | grep .
 }
 
+# were_tried FOLDER: each part of the edit was.
+were_tried() {
+    local part
+    test -e "$1/1" || return 1
+    for part in "$1"/[0-9]*; do was_tried "$part" || return 1; done
+}
+
 # in_lanes COMMAND..: calls it with a free lane before each line that is read, split into words: as many at once as RT_JOBS says, or else as there
-# are processors.
+# are processors, and 3 GB of memory for each.
 in_lanes() {
-    local lanes lane words count=${RT_JOBS:-$(nproc)}
+    local lanes lane words count
+    count=${RT_JOBS:-$(awk -v count="$(nproc)" '/^MemAvailable:/ { fit = int($2 / 3e6); if (fit < count) count = fit } END { print count > 1 ? count : 1 }' /proc/meminfo)}
     mkfifo -- "$scratch/free" && exec {lanes}<>"$scratch/free" && rm -- "$scratch/free"
     seq "$count" >&"$lanes"
     while read -r -a words; do

@@ -41,21 +41,42 @@ summary() {
     test "$failed" -eq 0
 }
 
-# copy_crates: copies them to the scratch folder, with what is proved of them already, which rt takes by the sum of its files.
+# prove_here: what the crates have in out/ is what rt keeps of their proofs as they stand; what it began with, it takes again.
+prove_here() {
+    (cd -- "$root" && rt all check) >"$scratch/proved" 2>&1 || { tail -n 40 -- "$scratch/proved" && false; }
+}
+
+# copy_crates: copies them to the scratch folder with what is proved of them, which rt takes there by the sum of its files. Fails if they are not.
 copy_crates() {
-    local part
+    local status=0
+    check 'the crates are proved' prove_here || status=1
     cp -R -- "$root/crates" "$root/crates.txt" "$scratch"
-    mkdir "$scratch/target"
-    for part in rlib stamp; do
-        if [ -d "$root/target/$part" ]; then cp -R -- "$root/target/$part" "$scratch/target"; fi
-    done
+    if [ -e "$root/HANDLES" ]; then cp -- "$root/HANDLES" "$scratch"; fi
+    return "$status"
 }
 
 # new_crate NAME CRATE..: an empty one over the others, beside these copies.
 new_crate() {
     mkdir -p "$scratch/crates/$1"/{src,specs,proofs}
-    printf '// Nothing: what it is for is in specs/ and proofs/.\n' >"$scratch/crates/$1/src/lib.rt"
+    printf '// Nothing: what it is for is in specs/ and proofs/.\n#![tactic(auto)]\n' >"$scratch/crates/$1/src/lib.rt"
+    : >"$scratch/crates/$1/specs/Lib.antt"
+    : >"$scratch/crates/$1/proofs/Lib.antt"
     printf '%s: %s\n' "$1" "${*:2}" >>"$scratch/crates.txt"
+}
+
+# check_crate NAME: has the checker check one of these crates; what it said is left beside them, in NAME.log.
+check_crate() {
+    (cd -- "$scratch/crates/$1" && rt check) >"$scratch/$1.log" 2>&1
+}
+
+# verdict NAME WORDS: this is the verdict that it gave on the crate, and not on one below that was built first.
+verdict() {
+    [[ $(sed -n "/^crate $1: modules /,\$p" "$scratch/$1.log" | grep '^logic=') =~ ^logic=$2($|\ ) ]]
+}
+
+# errors_in NAME FILES: what it refused in these files of the crate's proofs, a pattern.
+errors_in() {
+    grep -E "^(\./)?proofs/$2:[0-9]+:[0-9]+: error: " "$scratch/$1.log"
 }
 
 # cargo_tests FOLDER: the tests of a crate in Rust, each counted from cargo's "test result:" lines. One that waits for ever ends them.

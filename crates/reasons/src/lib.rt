@@ -1,4 +1,6 @@
 // Why a message left the hardware queue: the reasons and the refusal by their numbers.
+#![tactic(auto)]
+
 pub const DISPOSED_OF: u32 = 1;
 
 pub const STILL_QUEUED: u32 = 2;

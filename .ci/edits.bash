@@ -132,7 +132,7 @@ in_lanes() {
     while read -r -a words; do
         read -r -u "$lanes" lane
         {
-            "$@" "$lane" "${words[@]}"
+            ("$@" "$lane" "${words[@]}")
             echo "$lane" >&"$lanes"
         } </dev/null &
     done

@@ -126,13 +126,13 @@ were_tried() {
 # are processors, and 3 GB of memory for each.
 in_lanes() {
     local lanes lane words count
-    count=${RT_JOBS:-$(awk -v count="$(nproc)" '/^MemAvailable:/ { fit = int($2 / 3e6); if (fit < count) count = fit } END { print count > 1 ? count : 1 }' /proc/meminfo)}
+    count=${RT_JOBS:-$(awk -v count="$(nproc)" '/^MemAvailable:/ { fit = int($2 / 3e6); if (fit < count) count = fit } END { print (count > 1 ? count : 1) }' /proc/meminfo)}
     mkfifo -- "$scratch/free" && exec {lanes}<>"$scratch/free" && rm -- "$scratch/free"
     seq "$count" >&"$lanes"
     while read -r -a words; do
         read -r -u "$lanes" lane
         {
-            "$@" "$lane" "${words[@]}"
+            ("$@" "$lane" "${words[@]}")
             echo "$lane" >&"$lanes"
         } </dev/null &
     done

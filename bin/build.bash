@@ -171,6 +171,7 @@ prove() {
     local crates crate at=0 began=$SECONDS spent=0 expected=0 left=0 kit
     if ! is_older "$made" "${sources[@]}"; then return; fi
     find_kit
+    if [[ $made == *.o ]]; then needs objcopy "the linker's companion, which names"; fi
     needed_by "$1"
     for crate in "${crates[@]}"; do left=$((left + ${takes[$crate]-0})); done
     for crate in "${crates[@]:0:${#crates[@]}-1}"; do prove_one "$crate" rt lib "$crate"; done
@@ -184,7 +185,6 @@ prove() {
     *.o)
         # rt has no command that builds a program and does not run it. It gets no input here.
         prove_one "$1" rt run "$1" -- --all
-        needs objcopy "the linker's companion, which names"
         objcopy --redefine-sym main=proved_program --redefine-sym __sysv_signal=proved_program_signal "$root/crates/$1/out/$1.o" "$made"
         cp -f -- "$kit"/c/lib{os,libc}_c.a "$objects"
         ;;

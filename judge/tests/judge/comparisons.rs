@@ -316,7 +316,7 @@ fn tested_project(name: &str, times: u32) -> PathBuf {
     let text = format!(
         "script=$(cat)\nfor _ in $(seq {times}); do printf '%s\\n' \"$script\"; done | {JUDGE}"
     );
-    let folder = project.join("target/bin");
+    let folder = project.join("crates/tested/out");
     fs::create_dir_all(&folder).expect("made");
     shell_program(&folder, "tested", &text);
     project

@@ -1,49 +1,22 @@
 -- What is carried from portion to portion, in lent words and bytes: numbers and bytes copied, and a state that is put there is the one that is found.
 -- Assumes nothing.
-use Prim.Native.Nat.{ℕ, ◌+◌, ◌≤◌, ◌<◌}
-use native.Mathlib.Numerals.{add-one}
+use Prim.Native.Nat.{ℕ, ◌≤◌}
 use native.Mathlib.Omega.{arith}
 use mathlib.Core.List.{List, [], ◌∷◌, ◌++◌}
-use mathlib.Core.Path.{◌≡◌, ◌∙◌, ap, refl, sym}
-use lib.ListN.{length, drop, get_or, set, take, length-set}
-use lib.Seq.{drop_at, take_all, take_at, take-suc, take-suc-set}
+use mathlib.Core.Path.{◌≡◌, ◌∙◌, ap, refl}
+use lib.ListN.{length, drop, get_or, set, take}
+use lib.Seq.{drop_at, take_at}
 use Rattle.rules.specs.Build.{paper01}
 use Rattle.memory.proofs.WriteLaws.{wrote-next, wrote-set}
-use Rattle.script.specs.Written.{Appended}
+use denote.Enum.Declared.{tag_of}
+use Rattle.script.specs.Play.{stop_number}
+use Rattle.script.specs.contracts.play.Stop.{the_type}
+use Rattle.script.specs.declared.play.Stop.{Stop as Stop·rt}
+use Rattle.script.specs.declared.play.Stop.TheVariants.{AllUsed, NoRoom, LastNumber}
 use Rattle.follow.specs.declared.every.State.{State as State·rt}
 use Rattle.script.specs.declared.feed.State.{State as Script·rt}
-use Rattle.capi.specs.Carried.{Carried, ScriptCarried, Unchanged, end_room, line_room, portion_room, script_of, script_room, state_of, state_room, waiting_at}
+use Rattle.capi.specs.Carried.{Carried, ScriptCarried, Unchanged, end_room, line_room, portion_room, script_of, script_room, state_of, state_room, stop_of, waiting_at}
 use Rattle.capi.proofs.ToldLaws.{front-written}
-
--- the first i numbers are copied
-pub record Copied (from to : List ℕ) (i : ℕ) : Type 0 where
-  pub few : i ≤ length from
-  pub same : length to ≡ length from
-  pub front : take i to ≡ take i from
-
-module _ {from to : List ℕ} {i : ℕ} (c : Copied from to i) where
-  pub copied_more : i < length from → Copied from (set to i (get_or from i 0)) (i + 1)
-  copied_more l =
-      let s = c.same in
-      record {
-        few = omega arith;
-        same = simp length-set c.same;
-        front =
-            rw add-one
-            (take-suc-set to i (get_or from i 0) (omega arith) ∙ ap (λ (t : List ℕ). t ++ (get_or from i 0 ∷ [])) c.front ∙ sym (take-suc from i 0 l));
-      }
-
-  pub copied_all : length from ≤ i → to ≡ from
-  copied_all l =
-      let s = c.same in
-      sym (take_all i to (omega arith)) ∙ c.front ∙ take_all i from l
-
--- a text written over as many bytes is what stands there
-pub text-copied : {o o' t : List ℕ} {e : ℕ} → Appended o 0 o' e t → length o ≡ length t → o' ≡ t
-text-copied {o} {o'} {t} {e} w l =
-    let s = w.same_length in
-    let n = w.end in
-    sym (take_all e o' (omega arith)) ∙ w.written
 
 -- The words and bytes that are read make the state.
 
@@ -114,6 +87,18 @@ end-words p stop written room =
     let w0 = wrote-set p 0 stop (omega arith) in
     let w1 = wrote-next w0 1 written refl (omega arith) in
     front-written end_room refl room w1
+
+-- why playing stopped is found again from its number
+pub stop-found : (s : Stop·rt) → stop_of (stop_number s) ≡ s
+stop-found AllUsed = refl
+stop-found NoRoom = refl
+stop-found LastNumber = refl
+
+-- which is the one that the enum has
+pub stop-told : (s : Stop·rt) → tag_of the_type s ≡ stop_number s
+stop-told AllUsed = refl
+stop-told NoRoom = refl
+stop-told LastNumber = refl
 
 -- Where something is too short, nothing has changed.
 pub unchanged : (m w b out p : List ℕ) → Unchanged m w b out p m w b out p 0

@@ -2,18 +2,20 @@
 -- of them is too short. Assumes nothing.
 use Prim.Native.Nat.{ℕ, ◌≤◌, ◌<◌}
 use native.Mathlib.Omega.{arith}
-use mathlib.Core.List.{List, ◌∷◌}
+use mathlib.Core.List.{List}
 use mathlib.Core.Path.{◌≡◌, ◌∙◌, ap, refl, subst, sym}
 use lib.ListN.{length, drop, get_or, set}
 use Rattle.rules.specs.Script.{header}
 use Rattle.script.specs.Feed.{FedTo}
+use Rattle.script.specs.Play.{stop_number}
 use Rattle.script.specs.Portions.{last_newline}
 use Rattle.script.specs.Written.{Appended}
 use Rattle.script.specs.declared.feed.Fed.{Fed as Fed·rt}
 use Rattle.script.specs.declared.feed.State.{State as State·rt}
-use Rattle.capi.specs.Carried.{Lent, ScriptCarried, end_room, portion_room, script_of, script_room}
+use Rattle.script.specs.declared.play.Stop.{Stop as Stop·rt}
+use Rattle.capi.specs.Carried.{Lent, ScriptCarried, end_room, portion_room, script_of, script_room, stop_of}
 use Rattle.capi.specs.Feed.{FeedsEnd, FeedsPortion, WritesHeader, fed_of}
-use Rattle.capi.proofs.CarriedLaws.{end-words, portion-words, script-bytes-behind, script-found, script-words-behind, unchanged}
+use Rattle.capi.proofs.CarriedLaws.{end-words, portion-words, script-bytes-behind, script-found, script-words-behind, stop-found, unchanged}
 
 -- The header.
 
@@ -32,16 +34,18 @@ header-nothing out short = record { written = λ long. absurd (omega arith); out
 -- A portion's numbers.
 
 abbrev fed : List ℕ → Fed·rt → List ℕ
-fed p f = set (set (set p 0 f.stop) 1 f.written) 2 f.used
+fed p f = set (set (set p 0 (stop_number f.stop)) 1 f.written) 2 f.used
 
--- the same with another state
-abbrev fed_at : Fed·rt → State·rt → Fed·rt
-fed_at f st = record { state = st; used = f.used; written = f.written; stop = f.stop }
+-- the same with another state, and stopped for another reason
+abbrev fed_at : Fed·rt → State·rt → Stop·rt → Fed·rt
+fed_at f st s = record { state = st; used = f.used; written = f.written; stop = s }
 
 -- with the state in the words and bytes they are what the portion came to
 fed-found : (w b p : List ℕ) (f : Fed·rt) → portion_room ≤ length p → script_of w b ≡ f.state → f ≡ fed_of w b (fed p f)
 unfolding fed_of
-fed-found w b p f room e = sym (ap (fed_of w b) (portion-words p f.stop f.written f.used room) ∙ ap (fed_at f) e)
+fed-found w b p f room e =
+    sym (ap (fed_of w b) (portion-words p (stop_number f.stop) f.written f.used room) ∙ ap (λ (x : State·rt). fed_at f x (stop_of (stop_number f.stop))) e
+    ∙ ap (fed_at f f.state) (stop-found f.stop))
 
 pub portion-fed : {m w b input out p m' w' b' out' : List ℕ} {st : State·rt} {f : Fed·rt} → Lent script_room (length w) (length b) (length p) portion_room
     → st ≡ script_of w b
@@ -50,13 +54,16 @@ pub portion-fed : {m w b input out p m' w' b' out' : List ℕ} {st : State·rt} 
     → FeedsPortion m w b input out p m' w' b' out' (fed p f) portion_room
 portion-fed {m} {w} {b} {input} {out} {p} {m'} {w'} {b'} {out'} {st} {f} l e h c =
     let h₁ = subst (λ (x : State·rt). FedTo m x input out m' out' f) e h in
+    let words = portion-words p (stop_number f.stop) f.written f.used l.room in
+    let found = fed-found w' b' p f l.room (script-found c) in
     record {
       room = λ _.
           record {
-            fed = subst (λ (x : Fed·rt). FedTo m (script_of w b) input out m' out' x) (fed-found w' b' p f l.room (script-found c)) h₁;
+            fed = subst (λ (x : Fed·rt). FedTo m (script_of w b) input out m' out' x) found h₁;
+            stopped = ap (λ (x : List ℕ). get_or x 0 0) words ∙ ap (λ (x : Fed·rt). stop_number x.stop) found;
             words-behind = script-words-behind c;
             bytes-behind = script-bytes-behind c;
-            part-behind = ap (drop portion_room) (portion-words p f.stop f.written f.used l.room);
+            part-behind = ap (drop portion_room) words;
             counted = refl;
           };
       short = λ fewer. absurd (fewer l);
@@ -71,9 +78,9 @@ portion-unfed m w b input out p fewer = record { room = λ l. absurd (fewer l); 
 pub end-fed : {m w b out p m' out' : List ℕ} {st : State·rt} {f : Fed·rt} → Lent script_room (length w) (length b) (length p) end_room
     → st ≡ script_of w b
     → FedTo m st (last_newline st) out m' out' f
-    → FeedsEnd m w b out p m' out' (set (set p 0 f.stop) 1 f.written) end_room
+    → FeedsEnd m w b out p m' out' (set (set p 0 (stop_number f.stop)) 1 f.written) end_room
 end-fed {m} {w} {b} {out} {p} {m'} {out'} {st} {f} l e h =
-    let words = end-words p f.stop f.written l.room in
+    let words = end-words p (stop_number f.stop) f.written l.room in
     record {
       room = λ _.
           record {

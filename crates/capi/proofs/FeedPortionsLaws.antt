@@ -1,17 +1,19 @@
 -- Calls over a script's portions are calls of `feed`, and what is carried between them is its state: so all that is proved of those holds of these.
 -- Assumes nothing.
-use Prim.Native.Nat.{ℕ, ◌+◌, ◌≤◌, ◌<◌}
+use Prim.Native.Nat.{ℕ}
 use native.Mathlib.Omega.{arith}
 use mathlib.Core.List.{List, [], ◌∷◌, ◌++◌}
 use mathlib.Core.Path.{◌≡◌, ◌∙◌, ap, refl, subst, sym}
-use lib.ListN.{length, get_or, take}
+use lib.ListN.{get_or, take}
 use Rattle.rules.specs.MemoryTest.{power_on_memory}
 use Rattle.rules.specs.Script.{header}
 use Rattle.script.specs.Feed.{FedTo, kept_line}
+use Rattle.script.specs.Play.{stop_number}
 use Rattle.script.specs.Portions.{Feeds, last_memory, last_newline, last_state, listed_bytes}
 use Rattle.script.specs.Read.{line_of}
 use Rattle.script.specs.declared.feed.State.{State as State·rt}
 use Rattle.script.proofs.PortionsLaws.{end-listed}
+use Rattle.script.proofs.play.StopLaws.{stop-all}
 use Rattle.script.proofs.feed.FedLaws.{fed-numbers}
 use Rattle.capi.specs.Calls.{Call, last_bytes, last_words}
 use Rattle.capi.specs.Carried.{script_of}
@@ -22,9 +24,9 @@ calls-feed : (m w b : List ℕ) (cs : List Call) → Feedings m w b cs → Feeds
 unfolding Feedings portions Feeds fed_of
 calls-feed m w b [] h = tt
 calls-feed m w b (c ∷ cs) h =
-    let fed = (h.0.room h.1.0).fed in
+    let here = h.0.room h.1.0 in
     let few = h.1.1.0 in
-    (fed, (fed-numbers fed (λ e. omega arith), calls-feed c.memory-after c.state-after c.kept-after cs h.1.1.1))
+    (here.fed, (fed-numbers here.fed (λ e. let n = here.stopped ∙ ap stop_number e in omega arith), calls-feed c.memory-after c.state-after c.kept-after cs h.1.1.1))
 
 calls-state : (w b : List ℕ) (cs : List Call) → last_state (script_of w b) (portions cs) ≡ script_of (last_words w cs) (last_bytes b cs)
 unfolding portions last_state last_words last_bytes fed_of
@@ -51,5 +53,5 @@ calls-listed =
           ap (λ (x : List ℕ). x ++ (listed_bytes (portions cs) ++ take (get_or p' 1 0) out')) (q.begins.written q.room).written
           ∙ ap (λ (n : ℕ). header ++ (listed_bytes (portions cs) ++ take n out')) e.written
           ∙ end-listed m s (script_of w b) (portions cs) q.long (new-lines w b ∙ q.no_lines) (new_line w b q.no-line-begun)
-          (calls-feed m₀ w b cs q.calls) q.read ends (sym e.stopped ∙ q.stopped);
+          (calls-feed m₀ w b cs q.calls) q.read ends (stop-all e.fed.stop (sym e.stopped ∙ q.stopped));
     }

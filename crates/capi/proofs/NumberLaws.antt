@@ -11,11 +11,6 @@ use Rattle.rules.specs.Types.{operation_of}
 use Rattle.rules.specs.declared.Operation.{Operation as Operation·rt}
 use Rattle.script.specs.Read.{Lettered}
 
--- no numbers have 0 for their first
-pub first-none : (ns : List ℕ) → length ns ≡ 0 → 0 ≡ get_or ns 0 0
-first-none [] e = refl
-first-none (n ∷ ns) e = absurd (omega arith)
-
 -- the first, whatever stands for one that is not there
 first-same : (ns : List ℕ) → get_or ns 0 (get_or ns 0 0) ≡ get_or ns 0 0
 first-same [] = refl

@@ -3,33 +3,35 @@
 use Prim.Native.Nat.{ℕ, ◌≤◌}
 use mathlib.Core.List.{List, ◌∷◌}
 use mathlib.Core.Path.{◌≡◌, ◌∙◌, ap, refl, subst, sym}
-use lib.ListN.{length, drop, set}
+use lib.ListN.{length, drop, get_or, set}
 use Rattle.follow.specs.Every.{FinishedTo, ToldTo}
 use Rattle.follow.specs.declared.every.End.{End as End·rt}
 use Rattle.follow.specs.declared.every.State.{State as State·rt}
 use Rattle.follow.specs.declared.every.Told.{Told as Told·rt}
-use Rattle.capi.specs.Carried.{Carried, Lent, end_room, portion_room, state_of, state_room}
+use Rattle.script.specs.Play.{stop_number}
+use Rattle.script.specs.declared.play.Stop.{Stop as Stop·rt}
+use Rattle.capi.specs.Carried.{Carried, Lent, end_room, portion_room, state_of, state_room, stop_of}
 use Rattle.capi.specs.Tell.{TellsEnd, TellsPortion, end_of, portion_of}
-use Rattle.capi.proofs.CarriedLaws.{end-words, portion-words, unchanged}
+use Rattle.capi.proofs.CarriedLaws.{end-words, portion-words, stop-found, unchanged}
 
 -- A portion's numbers, one behind the other.
 
 abbrev told : List ℕ → Told·rt → List ℕ
-told p t = set (set (set p 0 t.stop) 1 t.written) 2 t.used
+told p t = set (set (set p 0 (stop_number t.stop)) 1 t.written) 2 t.used
 
--- the same with another state
-abbrev told_at : Told·rt → State·rt → Told·rt
-told_at t st = record { state = st; used = t.used; written = t.written; stop = t.stop }
+-- the same with another state, and stopped for another reason
+abbrev told_at : Told·rt → State·rt → Stop·rt → Told·rt
+told_at t st s = record { state = st; used = t.used; written = t.written; stop = s }
 
 module _ (p : List ℕ) (t : Told·rt) (room : portion_room ≤ length p) where
-  told-words : told p t ≡ t.stop ∷ t.written ∷ t.used ∷ drop portion_room p
-  told-words = portion-words p t.stop t.written t.used room
+  told-words : told p t ≡ stop_number t.stop ∷ t.written ∷ t.used ∷ drop portion_room p
+  told-words = portion-words p (stop_number t.stop) t.written t.used room
 
   -- with the state in the words and bytes they are what the portion came to
   told-found : (w b : List ℕ) → state_of w b ≡ t.state → t ≡ portion_of w b (told p t)
   unfolding portion_of
   told-found w b e =
-      sym (ap (portion_of w b) told-words ∙ ap (told_at t) e)
+      sym (ap (portion_of w b) told-words ∙ ap (λ (x : State·rt). told_at t x (stop_of (stop_number t.stop))) e ∙ ap (told_at t t.state) (stop-found t.stop))
 
 pub portion-told : {m w b input out p m' w' b' out' : List ℕ} {st : State·rt} {t : Told·rt} → Lent state_room (length w) (length b) (length p) portion_room
     → st ≡ state_of w b
@@ -38,10 +40,12 @@ pub portion-told : {m w b input out p m' w' b' out' : List ℕ} {st : State·rt}
     → TellsPortion m w b input out p m' w' b' out' (told p t) portion_room
 portion-told {m} {w} {b} {input} {out} {p} {m'} {w'} {b'} {out'} {st} {t} l e h c =
     let h₁ = subst (λ (x : State·rt). ToldTo m x input out m' out' t) e h in
+    let found = told-found p t l.room w' b' c.state in
     record {
       room = λ _.
           record {
-            told = subst (λ (x : Told·rt). ToldTo m (state_of w b) input out m' out' x) (told-found p t l.room w' b' c.state) h₁;
+            told = subst (λ (x : Told·rt). ToldTo m (state_of w b) input out m' out' x) found h₁;
+            stopped = ap (λ (x : List ℕ). get_or x 0 0) (told-words p t l.room) ∙ ap (λ (x : Told·rt). stop_number x.stop) found;
             words-behind = c.words-behind;
             bytes-behind = c.bytes-behind;
             part-behind = ap (drop portion_room) (told-words p t l.room);
@@ -53,15 +57,15 @@ portion-told {m} {w} {b} {input} {out} {p} {m'} {w'} {b'} {out'} {st} {t} l e h 
 -- The end's.
 
 abbrev ended : List ℕ → End·rt → List ℕ
-ended p e = set (set p 0 e.stop) 1 e.written
+ended p e = set (set p 0 (stop_number e.stop)) 1 e.written
 
 module _ (p : List ℕ) (e : End·rt) (room : end_room ≤ length p) where
-  ended-words : ended p e ≡ e.stop ∷ e.written ∷ drop end_room p
-  ended-words = end-words p e.stop e.written room
+  ended-words : ended p e ≡ stop_number e.stop ∷ e.written ∷ drop end_room p
+  ended-words = end-words p (stop_number e.stop) e.written room
 
   ended-found : e ≡ end_of (ended p e)
   unfolding end_of
-  ended-found = sym (ap end_of ended-words)
+  ended-found = sym (ap end_of ended-words ∙ ap (λ (s : Stop·rt). record { written = e.written; stop = s }) (stop-found e.stop))
 
 pub end-told : {m w b out p m' out' : List ℕ} {st : State·rt} {e : End·rt} → Lent state_room (length w) (length b) (length p) end_room
     → st ≡ state_of w b
@@ -73,6 +77,7 @@ end-told {m} {w} {b} {out} {p} {m'} {out'} {st} {e} l s h =
       room = λ _.
           record {
             told = subst (λ (x : End·rt). FinishedTo m (state_of w b) out m' out' x) (ended-found p e l.room) h₁;
+            stopped = ap (λ (x : List ℕ). get_or x 0 0) (ended-words p e l.room) ∙ ap (λ (x : End·rt). stop_number x.stop) (ended-found p e l.room);
             part-behind = ap (drop end_room) (ended-words p e l.room);
             counted = refl;
           };

@@ -10,6 +10,9 @@ use lib.ListN.{length, get_or}
 use borrow.Author.Tests.{ltb-false, ltb-true}
 use Rattle.rules.specs.MemoryTest.{power_on_memory}
 use Rattle.script.specs.Feed.{kept_line, last_number}
+use Rattle.script.specs.Play.{stop_number}
+use Rattle.script.specs.declared.play.Stop.TheVariants.{AllUsed, LastNumber}
+use Rattle.script.proofs.play.StopLaws.{all-or-room}
 use Rattle.follow.specs.Every.{FinishedTo, ToldTo, waiting_of}
 use Rattle.follow.specs.EveryPortions.{Tells, last_memory, last_state}
 use Rattle.follow.specs.Waiting.{lines_room}
@@ -18,13 +21,13 @@ use Rattle.follow.specs.declared.every.State.{State as State·rt}
 use Rattle.follow.specs.declared.every.Told.{Told as Told·rt}
 use Rattle.follow.proofs.EveryPortionsLaws.{portions-all-told}
 use Rattle.capi.specs.Calls.{Call, last_bytes, last_words}
-use Rattle.capi.specs.Carried.{state_of}
+use Rattle.capi.specs.Carried.{state_of, stop_of}
 use Rattle.capi.specs.Tell.{end_of, portion_of}
 use Rattle.capi.specs.TellPortions.{Calls, CallsTold, portions}
 use Rattle.capi.proofs.FeedPortionsLaws.{new_line, new-lines}
 
 -- a portion that did not run out of line numbers had enough
-enough : {m input out m' out' : List ℕ} {st : State·rt} {t : Told·rt} → ToldTo m st input out m' out' t → t.stop ≤ 1
+enough : {m input out m' out' : List ℕ} {st : State·rt} {t : Told·rt} → ToldTo m st input out m' out' t → (t.stop ≡ LastNumber → ⊥)
     → st.script.lines + length input < last_number
 enough {input = input} {st = st} {t} h few = go (ltb (st.script.lines + length input) last_number) refl
   where
@@ -32,15 +35,15 @@ enough {input = input} {st = st} {t} h few = go (ltb (st.script.lines + length i
     go true e = ltb-true (st.script.lines + length input) last_number e
     go false e =
         let last = h.last-number (ltb-false (st.script.lines + length input) last_number e) in
-        let z : t.stop ≡ 2 = ap (λ (x : Told·rt). x.stop) last.1.1 in
-        absurd (omega arith)
+        absurd (few (ap (λ (x : Told·rt). x.stop) last.1.1))
 
 calls-tell : (m w b : List ℕ) (cs : List Call) → Calls m w b cs → Tells m (state_of w b) (portions cs)
 unfolding Calls portions Tells portion_of
 calls-tell m w b [] h = tt
 calls-tell m w b (c ∷ cs) h =
-    let told = (h.0.room h.1.0).told in
-    (told, (enough told h.1.1.0, calls-tell c.memory-after c.state-after c.kept-after cs h.1.1.1))
+    let here = h.0.room h.1.0 in
+    let few = h.1.1.0 in
+    (here.told, (enough here.told (λ e. let n = here.stopped ∙ ap stop_number e in omega arith), calls-tell c.memory-after c.state-after c.kept-after cs h.1.1.1))
 
 calls-state : (w b : List ℕ) (cs : List Call) → last_state (state_of w b) (portions cs) ≡ state_of (last_words w cs) (last_bytes b cs)
 unfolding portions last_state last_words last_bytes portion_of
@@ -62,13 +65,12 @@ module _ (w b : List ℕ) where
   no_lines = new-lines w b
 
 -- an end that didn't stop for want of room had enough
-roomy : {m out m' out' : List ℕ} {st : State·rt} {e : End·rt} → FinishedTo m st out m' out' e → e.stop ≡ 0 → 2 * lines_room ≤ length out
+roomy : {m out m' out' : List ℕ} {st : State·rt} {e : End·rt} → FinishedTo m st out m' out' e → e.stop ≡ AllUsed → 2 * lines_room ≤ length out
 roomy {out = out} {e = e} h z = go (ltb (length out) (2 * lines_room)) refl
   where
     go : (x : Bool) → ltb (length out) (2 * lines_room) ≡ x → 2 * lines_room ≤ length out
     go true l =
-        let s : e.stop ≡ 1 = ap (λ (x : End·rt). x.stop) (h.no_room (ltb-true (length out) (2 * lines_room) l)).1.1 in
-        absurd (omega arith)
+        absurd (all-or-room (sym z ∙ ap (λ (x : End·rt). x.stop) (h.no_room (ltb-true (length out) (2 * lines_room) l)).1.1))
     go false l = ltb-false (length out) (2 * lines_room) l
 
 pub calls-told : CallsTold
@@ -87,7 +89,7 @@ calls-told =
             nobody = new-waiting w b q.nobody;
             tells = calls-tell m₀ w b cs q.calls;
             read = q.read;
-            room = roomy ends q.stopped;
+            room = roomy ends (ap stop_of q.stopped);
             number = rw (last, no_lines) q.number;
             finishes = subst (λ (x : State·rt). FinishedTo (last_memory m₀ (portions cs)) x out m' out' (end_of p')) (sym last) ends;
           });

@@ -1,9 +1,11 @@
 -- What is carried from portion to portion in lent words and bytes, of a script and of the messages that are followed in it, and what is lent beside them.
 -- Assumes nothing.
-use Rattle.std.specs.Prelude.{ℕ, ◌≤◌, List, ◌∷◌, ◌++◌, ◌≡◌, drop, get_or, length, take}
+use Rattle.std.specs.Prelude.{ℕ, ◌==◌, ◌≤◌, if◌then◌else◌, List, ◌∷◌, ◌++◌, ◌≡◌, drop, get_or, length, take}
 use Rattle.rules.specs.Build.{paper01}
 use Rattle.follow.specs.declared.every.State.{State as State·rt}
 use Rattle.script.specs.declared.feed.State.{State as Script·rt}
+use Rattle.script.specs.declared.play.Stop.{Stop as Stop·rt}
+use Rattle.script.specs.declared.play.Stop.TheVariants.{AllUsed, NoRoom, LastNumber}
 
 -- the words of a script: how many lines there were, and how long the line is that has begun
 abbrev pub script_room : ℕ
@@ -52,6 +54,10 @@ portion_room = 3
 
 abbrev pub end_room : ℕ
 end_room = 2
+
+-- why playing stopped, by the word that says so
+abbrev pub stop_of : ℕ → Stop·rt
+stop_of n = if n == 0 then AllUsed else (if n == 1 then NoRoom else LastNumber)
 
 -- so many words and bytes hold a state of this many words and its line, and so many a part of this count
 pub record Lent (words-needed words bytes part count : ℕ) : Type 0 where

@@ -6,9 +6,9 @@ ghost use Rattle.capi.specs.Carried.{script_room, state_room, waiting_at, line_r
 
 use follow::every;
 use memory::map::PLACES;
+use memory::words::copy_all;
 use script::feed;
 use script::feed::KEPT_LINE;
-use script::write::put_text;
 
 // How many words are carried of a script,
 pub const SCRIPT: usize = 2;
@@ -23,25 +23,7 @@ pub const STATE: usize = 19;
 pub fn lent(state: usize, words: usize, bytes: usize, part: usize, count: u32) -> bool
     ensures { (result ≡ true → Lent state words bytes part count) × (result ≡ false → Lent state words bytes part count → ⊥) }
 {
-    if words < state {
-        return false;
-    }
-    if bytes < KEPT_LINE {
-        return false;
-    }
-    part >= count as usize
-}
-
-// Numbers, copied.
-fn copy(to: &mut [u64], from: &[u64])
-    requires { length to.old ≡ length from.now }
-    ensures { to.new ≡ from.now }
-{
-    let mut i = 0;
-    while i < from.len() {
-        to[i] = from[i];
-        i += 1;
-    }
+    words >= state && bytes >= KEPT_LINE && part >= count as usize
 }
 
 // What words and bytes say of a script.
@@ -50,10 +32,10 @@ pub fn load_script(words: &[u64], bytes: &[u8]) -> feed::State
     ensures { result ≡ script_of words.now bytes.now }
 {
     let mut kept = [0u8; KEPT_LINE];
-    put_text(&mut kept, 0, &bytes[0..KEPT_LINE]);
+    copy_all(&mut kept, &bytes[..KEPT_LINE]);
     feed::State {
         lines: words[0],
-        kept: kept,
+        kept,
         count: words[1] as usize,
     }
 }
@@ -64,10 +46,10 @@ pub fn load(words: &[u64], bytes: &[u8]) -> every::State
     ensures { result ≡ state_of words.now bytes.now }
 {
     let mut waiting = [0u64; PLACES];
-    copy(&mut waiting, &words[WAITING_AT..STATE]);
+    copy_all(&mut waiting, &words[WAITING_AT..STATE]);
     every::State {
         script: load_script(words, bytes),
-        waiting: waiting,
+        waiting,
         count: words[2] as usize,
     }
 }
@@ -77,7 +59,7 @@ fn put_kept(bytes: &mut [u8], kept: [u8; KEPT_LINE])
     requires { line_room ≤ length bytes.old }
     ensures { (bytes.new ≡ kept ++ drop line_room bytes.old) × (length kept ≡ line_room) }
 {
-    put_text(&mut bytes[0..KEPT_LINE], 0, &kept);
+    copy_all(&mut bytes[..KEPT_LINE], &kept);
 }
 
 // What is to be said of a script, in words and bytes.
@@ -87,8 +69,7 @@ pub fn save_script(words: &mut [u64], bytes: &mut [u8], st: feed::State)
 {
     words[0] = st.lines;
     words[1] = st.count as u64;
-    let kept = st.kept;
-    put_kept(bytes, kept);
+    put_kept(bytes, st.kept);
 }
 
 // The lines of those that wait; how many they are is told too.
@@ -96,7 +77,7 @@ fn put_waiting(words: &mut [u64], waiting: [u64; PLACES])
     requires { state_room ≤ length words.old }
     ensures { (words.new ≡ take waiting_at words.old ++ (waiting ++ drop state_room words.old)) × (length waiting ≡ paper01.places) }
 {
-    copy(&mut words[WAITING_AT..STATE], &waiting);
+    copy_all(&mut words[WAITING_AT..STATE], &waiting);
 }
 
 // A state, in words and bytes.
@@ -104,9 +85,7 @@ pub fn save(words: &mut [u64], bytes: &mut [u8], st: every::State)
     requires { (state_room ≤ length words.old) × (line_room ≤ length bytes.old) }
     ensures { Carried words.old bytes.old st words.new bytes.new }
 {
-    let script = st.script;
-    save_script(words, bytes, script);
+    save_script(words, bytes, st.script);
     words[2] = st.count as u64;
-    let waiting = st.waiting;
-    put_waiting(words, waiting);
+    put_waiting(words, st.waiting);
 }

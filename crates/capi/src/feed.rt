@@ -40,8 +40,7 @@ pub fn fugu_feed(
         return 0;
     }
     let f = feed(memory, load_script(state, kept), input, out);
-    let after = f.state;
-    save_script(state, kept, after);
+    save_script(state, kept, f.state);
     part[0] = f.stop as u64;
     part[1] = f.written as u64;
     part[2] = f.used as u64;

@@ -31,8 +31,5 @@ pub fn fugu_size() -> u32
 pub fn fugu_test(memory: &[u32]) -> u32
     ensures { result ≡ cond (is_memory memory.now) 1 0 }
 {
-    if is_node(memory) {
-        return 1;
-    }
-    0
+    u32::from(is_node(memory))
 }

@@ -23,8 +23,7 @@ pub fn put_report(part: &mut [u32], r: Report)
     part[5] = s.node;
     part[6] = s.group;
     part[7] = s.len;
-    let words = s.words;
-    put_words(part, words);
+    put_words(part, s.words);
 }
 
 // The words that were sent, behind the first eight of the report. That they are eight is told too: of an array in a struct it isn't known.

@@ -37,8 +37,5 @@ fn step_by_letter(memory: &mut [u32], letter: u8, arguments: &[u32]) -> Report
 fn first_of(numbers: &[u32]) -> u32
     ensures { result ≡ get_or numbers.now 0 0 }
 {
-    if numbers.len() == 0 {
-        return 0;
-    }
-    numbers[0]
+    numbers.first().copied().unwrap_or(0)
 }

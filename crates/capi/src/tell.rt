@@ -25,8 +25,7 @@ pub fn fugu_tell(
         return 0;
     }
     let t = tell(memory, load(state, kept), input, out);
-    let after = t.state;
-    save(state, kept, after);
+    save(state, kept, t.state);
     part[0] = t.stop as u64;
     part[1] = t.written as u64;
     part[2] = t.used as u64;

@@ -2,3 +2,4 @@
 pub mod ReadLaws
 pub mod ReasonLaws
 pub mod SeenLaws
+pub mod QuietLaws

@@ -5,6 +5,7 @@ use Rattle.reasons.specs.Follow.{still_waiting, tell_lines, tell_queued, telling
 use Rattle.script.specs.Feed.{kept_line, kept_room, last_number}
 use Rattle.script.specs.Feeding.{after_lines, begun, last_line, lines_behind, rest_behind, whole}
 use Rattle.script.specs.Written.{Appended}
+use Rattle.script.specs.declared.play.Stop.TheVariants.{AllUsed, NoRoom, LastNumber}
 use Rattle.follow.specs.Portion.{LinesAhead}
 use Rattle.follow.specs.Seen.{seen_memory}
 use Rattle.follow.specs.Waiting.{lines_room}
@@ -43,10 +44,10 @@ pub record LinesTold (m b u : List ℕ) (lines : ℕ) (ws out m' kept' waiting' 
   pub waits : take r.count waiting' ≡ still_waiting (lines + 1) ws (seen_memory m (whole (b ++ take r.used u)))
   pub told : Appended out 0 out' r.end (telling_lines (tell_lines (lines + 1) ws (seen_memory m (whole (b ++ take r.used u)))))
   pub at_most : r.end ≤ lines_room * length (whole (b ++ take r.used u))
-  pub stopped : r.stop ≡ 1 → r.used < length u
-  pub all-used : r.stop ≡ 0 → r.used ≡ length u
-  pub no_room : r.stop ≡ 1 → length out < r.end + lines_room
-  pub stops : r.stop ≤ 1
+  pub stopped : r.stop ≡ NoRoom → r.used < length u
+  pub all-used : r.stop ≡ AllUsed → r.used ≡ length u
+  pub no_room : r.stop ≡ NoRoom → length out < r.end + lines_room
+  pub stops : r.stop ≡ LastNumber → ⊥
 
 -- a portion behind a line b that has begun
 pub record PortionTold (m : List ℕ) (st : State·rt) (input out m' out' : List ℕ) (t : Told·rt) : Type 0 where
@@ -59,16 +60,16 @@ pub record PortionTold (m : List ℕ) (st : State·rt) (input out m' out' : List
   pub told : Appended out 0 out' t.written
       (telling_lines (tell_lines (st.script.lines + 1) (waiting_of st) (seen_memory m (lines_behind (kept_line st.script) (take t.used input)))))
   pub at_most : t.written ≤ lines_room * length (lines_behind (kept_line st.script) (take t.used input))
-  pub stopped : t.stop ≡ 1 → t.used < length input
-  pub all-used : t.stop ≡ 0 → t.used ≡ length input
-  pub no_room : t.stop ≡ 1 → length out < t.written + lines_room
-  pub stops : t.stop ≤ 1
+  pub stopped : t.stop ≡ NoRoom → t.used < length input
+  pub all-used : t.stop ≡ AllUsed → t.used ≡ length input
+  pub no_room : t.stop ≡ NoRoom → length out < t.written + lines_room
+  pub stops : t.stop ≡ LastNumber → ⊥
 
 -- for any state and memory; where fewer line numbers are left than the portion has bytes, nothing of it is used
 pub record ToldTo (m : List ℕ) (st : State·rt) (input out m' out' : List ℕ) (t : Told·rt) : Type 0 where
   pub enough : st.script.lines + length input < last_number → PortionTold m st input out m' out' t
   pub last-number : last_number ≤ st.script.lines + length input
-      → (m' ≡ m) × ((out' ≡ out) × (t ≡ record { state = st; used = 0; written = 0; stop = 2 }))
+      → (m' ≡ m) × ((out' ≡ out) × (t ≡ record { state = st; used = 0; written = 0; stop = LastNumber }))
 
 -- the script's end, with these last lines: they are stepped and told, and of those that still wait it is told so
 pub record EndTold (m : List ℕ) (st : State·rt) (ls : List (List ℕ)) (out m' out' : List ℕ) (e : End·rt) : Type 0 where
@@ -77,7 +78,7 @@ pub record EndTold (m : List ℕ) (st : State·rt) (ls : List (List ℕ)) (out m
       (telling_lines
       (tell_lines (st.script.lines + 1) (waiting_of st) (seen_memory m ls)
       ++ tell_queued (st.script.lines + length ls) (still_waiting (st.script.lines + 1) (waiting_of st) (seen_memory m ls))))
-  pub stop : e.stop ≡ 0
+  pub stop : e.stop ≡ AllUsed
 
 -- for any state and memory: a line that has begun is the last. Where the output has no room for twice as many messages as the queue has places, nothing
 -- is done; and where no line number is left for a line that has begun
@@ -85,5 +86,5 @@ pub record FinishedTo (m : List ℕ) (st : State·rt) (out m' out' : List ℕ) (
   pub enough : 2 * lines_room ≤ length out → st.script.lines + 1 < last_number → EndTold m st (last_line (kept_line st.script)) out m' out' e
   pub none-begun : 2 * lines_room ≤ length out → kept_line st.script ≡ [] → EndTold m st [] out m' out' e
   pub last-number : 2 * lines_room ≤ length out → (kept_line st.script ≡ [] → ⊥) → last_number ≤ st.script.lines + 1
-      → (m' ≡ m) × ((out' ≡ out) × (e ≡ record { written = 0; stop = 2 }))
-  pub no_room : length out < 2 * lines_room → (m' ≡ m) × ((out' ≡ out) × (e ≡ record { written = 0; stop = 1 }))
+      → (m' ≡ m) × ((out' ≡ out) × (e ≡ record { written = 0; stop = LastNumber }))
+  pub no_room : length out < 2 * lines_room → (m' ≡ m) × ((out' ≡ out) × (e ≡ record { written = 0; stop = NoRoom }))

@@ -1,5 +1,5 @@
 -- What is seen of a script's lines on lent memory, and what the function that steps a line tells of it. Assumes nothing.
-use Rattle.std.specs.Prelude.{ℕ, ◌+◌, ◌≤◌, ◌<◌, Bool, true, List, [], ◌∷◌, map, ◌≡◌, length}
+use Rattle.std.specs.Prelude.{ℕ, ◌+◌, ◌≤◌, ◌<◌, Bool, true, List, [], ◌∷◌, map, ◌≡◌, ◌≢◌, length, Option, None, Some, is_some}
 use Rattle.rules.specs.Build.{paper01, group_count}
 use Rattle.rules.specs.Memory.{node_at, running_at, size, word}
 use Rattle.rules.specs.MemoryTest.{is_memory, power_on_memory, step_memory}
@@ -12,7 +12,10 @@ use Rattle.rules.specs.declared.Operation.{Operation as Operation·rt}
 use Rattle.rules.specs.declared.Operation.TheVariants.{Arrive, Schedule, Preempt, Dispatch, Tick, Turn, Poll, Peek, Dispose, BeginAtomic, EndAtomic, Describe, Launch, Unknown}
 use Rattle.reasons.specs.ByPlace.{first_reason, later_reason, leaving}
 use Rattle.reasons.specs.Follow.{Seen, seen_of, seen_run}
+use Rattle.reasons.specs.Numbers.{reason_number}
+use Rattle.reasons.specs.declared.Reason.{Reason as Reason·rt}
 use Rattle.script.specs.Read.{field_limit}
+use Rattle.follow.specs.declared.seen.Leaving.{Leaving as Leaving·rt}
 use Rattle.follow.specs.declared.seen.Line.{Line as Line·rt}
 
 -- what is seen of a step on memory
@@ -65,13 +68,34 @@ ArrivalKnown m (Describe w) left = Unit
 ArrivalKnown m (Launch k) left = Unit
 ArrivalKnown m Unknown left = Unit
 
+-- a reason's number, 0 where there is none
+abbrev pub number_or_none : Option Reason·rt → ℕ
+number_or_none None = 0
+number_or_none (Some r) = reason_number r
+
 -- why the first leaves, where one does
-unfoldable pub First : List ℕ → Operation·rt → ℕ → ℕ → Type 0
-First m op left reason = (ws : List ℕ) → 0 < left → reason ≡ first_reason (operation_of op ws) (node_at m)
+unfoldable pub First : List ℕ → Operation·rt → ℕ → Option Reason·rt → Type 0
+First m op left reason = (ws : List ℕ) → 0 < left → number_or_none reason ≡ first_reason (operation_of op ws) (node_at m)
 
 -- why those behind it leave
-unfoldable pub Later : Operation·rt → ℕ → Type 0
-Later op reason = (ws : List ℕ) → reason ≡ later_reason (operation_of op ws)
+unfoldable pub Later : Operation·rt → Reason·rt → Type 0
+Later op reason = (ws : List ℕ) → reason_number reason ≡ later_reason (operation_of op ws)
+
+-- how many leave, and for which reasons
+abbrev pub left_of : Option Leaving·rt → ℕ
+left_of None = 0
+left_of (Some l) = l.count
+
+abbrev pub reasons_of : Option Leaving·rt → List ℕ
+reasons_of None = []
+reasons_of (Some l) = leaving l.count (reason_number l.first) (reason_number l.later)
+
+-- those that leave are told where the operation has a reason for the first, as it has wherever one leaves
+unfoldable pub Gone : List ℕ → Operation·rt → ℕ → Option Leaving·rt → Type 0
+Gone m op left gone =
+    (ws : List ℕ)
+    → (0 < left → first_reason (operation_of op ws) (node_at m) ≢ 0)
+    → reasons_of gone ≡ leaving left (first_reason (operation_of op ws) (node_at m)) (later_reason (operation_of op ws))
 
 -- more than a step's count of messages
 abbrev pub left_limit : ℕ
@@ -80,10 +104,10 @@ left_limit = 4_294_967_296
 -- what is told of a line is what is seen of it; how many are queued is told of an accepted arrival alone
 pub record Sees (l : Line·rt) (s : Seen) : Type 0 where
   pub answer : l.answer ≡ s.answer
-  pub arrival : l.arrival ≡ s.arrival
-  pub queued : s.arrival ≡ true → l.queued ≡ s.queued
-  pub reasons : s.reasons ≡ leaving l.left l.first l.later
-  pub few : l.left ≤ left_limit
+  pub arrival : is_some l.queued ≡ s.arrival
+  pub queued : s.arrival ≡ true → l.queued ≡ Some s.queued
+  pub reasons : s.reasons ≡ reasons_of l.leaving
+  pub few : left_of l.leaving ≤ left_limit
 
 -- memory of which it is known whether it is a node, and a line at a position
 pub record Steppable (m : List ℕ) (good : Bool) (s : List ℕ) (from : ℕ) (fields : List ℕ) : Type 0 where

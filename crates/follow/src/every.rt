@@ -5,16 +5,17 @@ ghost use Rattle.script.specs.Feed.{kept_line};
 ghost use Rattle.follow.specs.Every.{waiting_of, portion_told, Tellable, LinesTold, ToldTo, FinishedTo};
 ghost use Rattle.follow.specs.Waiting.{lines_room};
 ghost use Rattle.script.specs.Written.{Appended};
+ghost use Rattle.script.specs.declared.play.Stop.TheVariants.{AllUsed};
 
 use crate::portion::next;
-use crate::seen::Line;
+use crate::seen::Leaving;
 use crate::text::WHY_ROOM;
 use crate::waiting::{fewer, put_left, tell_line};
 use memory::map::PLACES;
-use reasons::STILL_QUEUED;
+use reasons::Reason;
 use script::feed;
-use script::feed::{KEPT_LINE, LAST_NUMBER, behind_last, keep, kept_count};
-use script::play::{ALL_USED, NO_ROOM};
+use script::feed::{KEPT_LINE, behind_last, keep, kept_count};
+use script::play::Stop;
 use script::read::FIELDS;
 use validate::is_node;
 
@@ -35,14 +36,14 @@ pub struct Told {
     pub state: State,
     pub used: usize,
     pub written: usize,
-    pub stop: u32,
+    pub stop: Stop,
 }
 
 // What the script's end came to: how many bytes of the output were written, and why it stopped.
 #[derive(Clone, Copy)]
 pub struct End {
     pub written: usize,
-    pub stop: u32,
+    pub stop: Stop,
 }
 
 // How far lines are told: the position behind those used, how many there were, how long the line is that is kept, how many messages wait, the end
@@ -54,7 +55,7 @@ struct Lines {
     kept: usize,
     count: usize,
     end: usize,
-    stop: u32,
+    stop: Stop,
 }
 
 impl State {
@@ -64,7 +65,7 @@ impl State {
     {
         let script = feed::State::new();
         State {
-            script: script,
+            script,
             waiting: [0u64; PLACES],
             count: 0,
         }
@@ -89,15 +90,15 @@ fn tell_lines(
     let mut fields = [0u32; FIELDS];
     let mut r = Lines {
         used: 0,
-        lines: lines,
+        lines,
         kept: begun,
-        count: count,
+        count,
         end: 0,
-        stop: ALL_USED,
+        stop: Stop::AllUsed,
     };
     while r.used < whole.len() {
         if out.len() - r.end < LINES_ROOM {
-            r.stop = NO_ROOM;
+            r.stop = Stop::NoRoom;
             break;
         }
         let l = next(memory, good, kept, r.kept, whole, r.used, &mut fields);
@@ -109,7 +110,7 @@ fn tell_lines(
             kept: 0,
             count: w.count,
             end: w.end,
-            stop: ALL_USED,
+            stop: Stop::AllUsed,
         };
     }
     r
@@ -129,13 +130,13 @@ fn portion_told(
         state: State {
             script: feed::State {
                 lines: r.lines,
-                kept: kept,
-                count: count,
+                kept,
+                count,
             },
-            waiting: waiting,
+            waiting,
             count: r.count,
         },
-        used: used,
+        used,
         written: r.end,
         stop: r.stop,
     }
@@ -151,10 +152,10 @@ pub fn tell(memory: &mut [u32], state: State, input: &[u8], out: &mut [u8]) -> T
     let lines = script.lines;
     if u64::MAX - lines <= input.len() as u64 {
         return Told {
-            state: state,
+            state,
             used: 0,
             written: 0,
-            stop: LAST_NUMBER,
+            stop: Stop::LastNumber,
         };
     }
     let good = is_node(memory);
@@ -174,7 +175,7 @@ pub fn tell(memory: &mut [u32], state: State, input: &[u8], out: &mut [u8]) -> T
         count,
         out,
     );
-    if r.stop != ALL_USED {
+    if r.stop != Stop::AllUsed {
         return portion_told(r, kept, r.kept, waiting, r.used);
     }
     let grown = keep(&mut kept, r.kept, &input[last..]);
@@ -184,23 +185,19 @@ pub fn tell(memory: &mut [u32], state: State, input: &[u8], out: &mut [u8]) -> T
 // Of those that wait it is told that they are still queued.
 fn put_queued(state: State, out: &mut [u8], at: usize) -> End
     requires { at + lines_room ≤ length out.old }
-    ensures { Appended out.old at out.new result.written (telling_lines (tell_queued state.script.lines (waiting_of state))) × (result.stop ≡ 0) }
+    ensures { Appended out.old at out.new result.written (telling_lines (tell_queued state.script.lines (waiting_of state))) × (result.stop ≡ AllUsed) }
 {
     let script = state.script;
     let waiting = state.waiting;
     let count = fewer(state.count, PLACES as u64);
-    let queued = Line {
-        next: 0,
-        answer: 0,
-        arrival: false,
-        queued: 0,
-        left: PLACES as u64,
-        first: STILL_QUEUED,
-        later: STILL_QUEUED,
+    let queued = Leaving {
+        count: PLACES as u64,
+        first: Reason::StillQueued,
+        later: Reason::StillQueued,
     };
     End {
         written: put_left(out, at, &waiting, count, script.lines, queued),
-        stop: ALL_USED,
+        stop: Stop::AllUsed,
     }
 }
 
@@ -211,13 +208,13 @@ pub fn finish(memory: &mut [u32], state: State, out: &mut [u8]) -> End
     if out.len() < 2 * LINES_ROOM {
         return End {
             written: 0,
-            stop: NO_ROOM,
+            stop: Stop::NoRoom,
         };
     }
     let script = state.script;
     if script.begun() {
         let t = tell(memory, state, b"\n", out);
-        if t.stop != ALL_USED {
+        if t.stop != Stop::AllUsed {
             return End {
                 written: 0,
                 stop: t.stop,

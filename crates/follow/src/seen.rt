@@ -1,32 +1,47 @@
 // A script line stepped on lent memory, and what is seen of it: how many messages leave the hardware queue at it, and why.
-ghost use Rattle.std.specs.Prelude.{◌≡◌, true, false, cond, not, ◌&&◌, List, ℕ, ◌+◌, ◌≤◌, eqb, length, drop};
+ghost use Rattle.std.specs.Prelude.{◌≡◌, true, false, cond, not, ◌&&◌, List, ℕ, ◌+◌, ◌≤◌, eqb, length, drop, SomeIff};
 ghost use Rattle.rules.specs.Lists.{is_empty};
 ghost use Rattle.rules.specs.Memory.{node_at};
 ghost use Rattle.rules.specs.MemoryTest.{is_memory};
 ghost use Rattle.rules.specs.Run.{arrived_by};
 ghost use Rattle.rules.specs.Types.{operation_of};
 ghost use Rattle.reasons.specs.ByPlace.{own_reason};
+ghost use Rattle.reasons.specs.Numbers.{reason_number};
 ghost use Rattle.script.specs.Read.{line_end, line_of};
-ghost use Rattle.follow.specs.Seen.{left_limit, Leaves, Arrival, ArrivalKnown, First, Later, Steppable, LineStepped};
+ghost use Rattle.follow.specs.Seen.{left_limit, left_of, Leaves, Arrival, ArrivalKnown, First, Later, Gone, Steppable, LineStepped};
 
 use memory::map;
 use node::step_known;
-use reasons::{DISPOSED_OF, NOT_RUNNING, OLDER_WAITING, PROCESSOR_TAKEN, REVOKED, TIMEOUT};
+use reasons::Reason;
 use rules::Operation;
 use script::play::words_of;
 use script::read::read_at;
 
-// What is seen of a line: where the next one begins, its answer, whether it is an accepted arrival, how many are queued after it then, how many
-// leave the queue at it, and why the first of them and those behind it do.
+// Those that leave the queue at a line, from the head on: how many, why the first of them does, and why those behind it do.
+#[derive(Clone, Copy)]
+pub struct Leaving {
+    pub count: u64,
+    pub first: Reason,
+    pub later: Reason,
+}
+
+// What is seen of a line: where the next one begins, its answer, of an accepted arrival how many are queued after it, and those that leave the
+// queue at it.
 #[derive(Clone, Copy)]
 pub struct Line {
     pub next: usize,
     pub answer: u32,
-    pub arrival: bool,
-    pub queued: u32,
-    pub left: u64,
-    pub first: u32,
-    pub later: u32,
+    pub queued: Option<u32>,
+    pub leaving: Option<Leaving>,
+}
+
+impl Leaving {
+    // Why one of them does, by how many leave ahead of it.
+    pub fn reason_at(self, ahead: u64) -> Reason
+        ensures { reason_number result ≡ cond (eqb ahead 0) (reason_number self.first) (reason_number self.later) }
+    {
+        if ahead == 0 { self.first } else { self.later }
+    }
 }
 
 // Whether a step is an accepted arrival.
@@ -43,13 +58,7 @@ fn is_arrival(op: Operation, accepted: bool) -> bool
 fn disposed(answer: u32, trap: u32) -> u64
     ensures { result ≡ cond (eqb answer 0 && eqb trap 0) 1 0 }
 {
-    if answer != 0 {
-        return 0;
-    }
-    if trap != 0 {
-        return 0;
-    }
-    1
+    if answer == 0 && trap == 0 { 1 } else { 0 }
 }
 
 // How many leave the queue: those moved, and one that is disposed of there.
@@ -63,56 +72,71 @@ fn left_by(op: Operation, answer: u32, trap: u32, moved: u32) -> u64
 }
 
 // Why a message of group g moved at its own line: its group doesn't run, or older ones wait in its buffer, or it was revoked.
-fn own_reason(memory: &[u32], g: u32) -> u32
+fn own_reason(memory: &[u32], g: u32) -> Reason
     requires { Arrival memory.now g }
-    ensures { result ≡ own_reason (node_at memory.now) g }
+    ensures { reason_number result ≡ own_reason (node_at memory.now) g }
 {
     if g != memory[map::RUNNING] {
-        return NOT_RUNNING;
+        Reason::NotRunning
+    } else if map::group_word(memory, g, map::COUNT) > 1 {
+        Reason::OlderWaiting
+    } else {
+        Reason::Revoked
     }
-    if map::group_word(memory, g, map::COUNT) > 1 {
-        return OLDER_WAITING;
-    }
-    REVOKED
 }
 
 // Why the first leaves, where one does.
-fn first_reason(memory: &[u32], op: Operation, left: u64) -> u32
+fn first_reason(memory: &[u32], op: Operation, left: u64) -> Option<Reason>
     requires { ArrivalKnown memory.now op left }
     ensures { First memory.now op left result }
 {
     if left == 0 {
-        return 0;
+        return None;
     }
     match op {
-        Operation::Arrive(g) => own_reason(memory, g),
-        Operation::Schedule(_) => PROCESSOR_TAKEN,
-        Operation::Preempt => PROCESSOR_TAKEN,
-        Operation::Tick(_) => TIMEOUT,
-        Operation::Dispose => DISPOSED_OF,
-        _ => 0,
+        Operation::Arrive(g) => Some(own_reason(memory, g)),
+        Operation::Schedule(_) | Operation::Preempt => Some(Reason::ProcessorTaken),
+        Operation::Tick(_) => Some(Reason::Timeout),
+        Operation::Dispose => Some(Reason::DisposedOf),
+        _ => None,
     }
 }
 
 // Why those behind it leave.
-fn later_reason(op: Operation) -> u32
+fn later_reason(op: Operation) -> Reason
     ensures { Later op result }
 {
     match op {
-        Operation::Tick(_) => TIMEOUT,
-        _ => NOT_RUNNING,
+        Operation::Tick(_) => Reason::Timeout,
+        _ => Reason::NotRunning,
+    }
+}
+
+// Those that leave, where some do.
+fn gone(memory: &[u32], op: Operation, left: u64) -> Option<Leaving>
+    requires { ArrivalKnown memory.now op left }
+    ensures { Gone memory.now op left result × (left_of result ≤ left) }
+{
+    match first_reason(memory, op, left) {
+        Some(first) => Some(Leaving {
+            count: left,
+            first,
+            later: later_reason(op),
+        }),
+        None => None,
     }
 }
 
 // How many are queued after an accepted arrival.
-fn queued_after(memory: &[u32], arrival: bool) -> u32
+fn queued_after(memory: &[u32], arrival: bool) -> Option<u32>
     requires { arrival ≡ true → is_memory memory.now ≡ true }
-    ensures { arrival ≡ true → result ≡ length (node_at memory.now).queue }
+    ensures { SomeIff result (arrival ≡ true) (length (node_at memory.now).queue) }
 {
     if arrival {
-        return memory[map::QUEUED];
+        Some(memory[map::QUEUED])
+    } else {
+        None
     }
-    0
 }
 
 // The line at a position, read and stepped, with what is seen of it.
@@ -130,10 +154,7 @@ pub fn step_line(memory: &mut [u32], good: bool, s: &[u8], from: usize, fields: 
     Line {
         next: l.next,
         answer: r.answer,
-        arrival: arrival,
         queued: queued_after(memory, arrival),
-        left: left,
-        first: first_reason(memory, op, left),
-        later: later_reason(op),
+        leaving: gone(memory, op, left),
     }
 }

@@ -5,11 +5,24 @@ ghost use Rattle.rules.specs.Text.{decimal};
 ghost use Rattle.script.specs.Written.{Appended, places};
 ghost use Rattle.follow.specs.Text.{words_room, why_room};
 
-use reasons::{DISPOSED_OF, NOT_RUNNING, OLDER_WAITING, REVOKED, STILL_QUEUED, TIMEOUT};
+use reasons::Reason;
 use script::write::{put_number, put_text};
 
 // The room that any line takes, at most.
 pub const WHY_ROOM: usize = 140;
+
+// The reasons by the numbers that a line is written with, but for the last.
+const DISPOSED_OF: u32 = Reason::DisposedOf as u32;
+
+const STILL_QUEUED: u32 = Reason::StillQueued as u32;
+
+const NOT_RUNNING: u32 = Reason::NotRunning as u32;
+
+const OLDER_WAITING: u32 = Reason::OlderWaiting as u32;
+
+const REVOKED: u32 = Reason::Revoked as u32;
+
+const TIMEOUT: u32 = Reason::Timeout as u32;
 
 // A reason in words.
 fn put_reason(out: &mut [u8], at: usize, reason: u32) -> usize

@@ -1,12 +1,12 @@
 // The numbers of the lines whose messages are queued, from the head on.
-ghost use Rattle.std.specs.Prelude.{◌≡◌, cond, [], ◌∷◌, ◌++◌, ◌+◌, ◌≤◌, ◌<◌, eqb, ltb, length, take, drop};
+ghost use Rattle.std.specs.Prelude.{◌≡◌, cond, [], ◌∷◌, ◌++◌, ◌+◌, ◌≤◌, ◌<◌, eqb, ltb, length, take, drop, Some};
 ghost use Rattle.rules.specs.Build.{paper01};
-ghost use Rattle.reasons.specs.ByPlace.{leaving};
 ghost use Rattle.reasons.specs.Follow.{tellings, telling_lines};
 ghost use Rattle.script.specs.Written.{Appended};
+ghost use Rattle.follow.specs.Seen.{reasons_of};
 ghost use Rattle.follow.specs.Waiting.{lines_room, LineTellable, LineTold};
 
-use crate::seen::Line;
+use crate::seen::{Leaving, Line};
 use crate::text::put_why;
 use memory::map::PLACES;
 
@@ -41,22 +41,10 @@ fn leave(waiting: &mut [u64], count: usize, left: u64) -> usize
         return 0;
     }
     let n = left as usize;
-    let mut k = 0;
-    while k < count - n {
+    for k in 0..count - n {
         waiting[k] = waiting[k + n];
-        k += 1;
     }
-    k
-}
-
-// Why the message at a place of those that leave does.
-fn reason_at(l: Line, k: usize) -> u32
-    ensures { result ≡ cond (eqb k 0) l.first l.later }
-{
-    if k == 0 {
-        return l.first;
-    }
-    l.later
+    count - n
 }
 
 // How many of those that wait leave.
@@ -64,22 +52,29 @@ pub fn fewer(count: usize, left: u64) -> usize
     ensures { result ≡ cond (ltb left count) left count }
 {
     if left < count as u64 {
-        return left as usize;
+        left as usize
+    } else {
+        count
     }
-    count
 }
 
 // The lines of those that leave in line i.
-pub fn put_left(out: &mut [u8], at: usize, waiting: &[u64], count: usize, i: u64, l: Line) -> usize
+pub fn put_left(
+    out: &mut [u8],
+    at: usize,
+    waiting: &[u64],
+    count: usize,
+    i: u64,
+    gone: Leaving,
+) -> usize
     requires { (at + lines_room ≤ length out.old) × ((count ≤ length waiting.now) × (count ≤ paper01.places)) }
-    ensures { Appended out.old at out.new result (telling_lines (tellings i (take count waiting.now) (leaving l.left l.first l.later))) × (result ≤ at + lines_room) }
+    ensures { Appended out.old at out.new result (telling_lines (tellings i (take count waiting.now) (reasons_of (Some gone)))) × (result ≤ at + lines_room) }
 {
-    let n = fewer(count, l.left);
+    let n = fewer(count, gone.count);
     let mut end = at;
-    let mut k = 0;
-    while k < n {
-        end = put_why(out, end, waiting[k], reason_at(l, k), i);
-        k += 1;
+    for k in 0..n {
+        let reason = gone.reason_at(k as u64);
+        end = put_why(out, end, waiting[k], reason as u32, i);
     }
     end
 }
@@ -96,13 +91,15 @@ pub fn tell_line(
     requires { LineTellable waiting.old count out.old at }
     ensures { LineTold waiting.old count i l out.old at waiting.new out.new result }
 {
-    let n = join(waiting, count, i, l.arrival);
-    if l.left == 0 {
-        return Waiting { count: n, end: at };
-    }
-    let end = put_left(out, at, waiting, n, i, l);
-    Waiting {
-        count: leave(waiting, n, l.left),
-        end: end,
+    let n = join(waiting, count, i, l.queued.is_some());
+    match l.leaving {
+        Some(gone) => {
+            let end = put_left(out, at, waiting, n, i, gone);
+            Waiting {
+                count: leave(waiting, n, gone.count),
+                end,
+            }
+        }
+        None => Waiting { count: n, end: at },
     }
 }

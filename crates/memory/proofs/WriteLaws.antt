@@ -3,10 +3,12 @@
 use Prim.Native.Nat.{ℕ, zero, suc, ◌+◌, ◌-◌, ◌≤◌, ◌<◌}
 use mathlib.Core.Path.{◌≡◌, refl, sym, subst, ap, ◌∙◌}
 use mathlib.Core.List.{List, [], ◌∷◌, ◌++◌, append-nil, append_assoc}
+use native.Mathlib.Decide.{dec_lt}
 use native.Mathlib.Omega.{arith}
 use native.Mathlib.Nat.{add-zero}
-use lib.ListN.{length, take, drop, get_or, set, replicate, length-append, length-set, length-drop, get_or-append, drop_of_length-le, replicate-append-replicate, length-replicate}
-use lib.Seq.{get_or-set_same, get_or-set_other, get_or-take, get_or-drop, get_or-append-add, length-take-le, take_all}
+use lib.ListN.{length, take, drop, get_or, get_or-eq_default, set, replicate, length-append, length-set, length-drop, get_or-append, take-append-drop, replicate-append-replicate, length-replicate}
+use lib.Seq.{get_or-set_same, get_or-set_other, get_or-append-add, get_or-append_right, length-take-le, take_all}
+use borrow.Rule.Slice.PartMut.{put_mid}
 use Rattle.rules.specs.Lists.{pad}
 use Rattle.rules.specs.Memory.{word, words_at}
 use Rattle.rules.proofs.Steps.ListLaws.{pad-fits}
@@ -200,36 +202,93 @@ lengthened-by {m} {m'} a N us vs k b at fits h w =
     ∙ append_assoc us (vs ++ replicate k 0) (replicate j 0) ∙ ap (λ (t : List ℕ). us ++ t) (append_assoc vs (replicate k 0) (replicate j 0)) in
     wrote_as (widened w a us zv (replicate k 0 ++ replicate j 0) at lv (rw e at h)) (sym f)
 
--- a write into a lent part is one into the whole
-pub wrote-part : (m p : List ℕ) (a k : ℕ) (ws : List ℕ) → a ≤ length m → length m - a ≤ k → Wrote (take k (drop a m)) p 0 ws
-    → Wrote m (take a m ++ (p ++ drop k (drop a m))) a ws
-unfolding word words_at Stands
-wrote-part m p a k ws h l v =
-    let short : length (drop a m) ≤ k = rw length-drop l in
-    let w : Wrote (drop a m) p 0 ws = rw (take_all k (drop a m) short) at v in
-    let none : drop k (drop a m) ≡ [] = drop_of_length-le (drop a m) short in
-    rw (none, append-nil)
-    (record {
-      same_length = omega (arith, length-append (take a m) p, length-take-le a m h, w.same_length, length-drop a m);
-      here = here w.here;
-      below = λ b g. get_or-append (take a m) p 0 b (omega (arith, length-take-le a m h)) ∙ get_or-take a m b 0 g;
-      above = λ b g. let e : a + (b - a) ≡ b = omega arith in rw (sym e) (behind (b - a) ∙ w.above (b - a) (omega arith) ∙ get_or-drop a m (b - a) 0);
-    })
-  where
-    behind : (j : ℕ) → get_or (take a m ++ p) (a + j) 0 ≡ get_or p j 0
-    behind j =
-        subst (λ (k : ℕ). get_or (take a m ++ p) (k + j) 0 ≡ get_or p j 0) (length-take-le a m h) (get_or-append-add (take a m) p j 0)
+-- a memory is written whole
+pub wrote-whole : (m m' : List ℕ) → length m' ≡ length m → Wrote m m' 0 m'
+unfolding words_at word
+wrote-whole m m' e =
+    record {
+      same_length = e;
+      here = sym (words_at-whole m' (length m') refl);
+      below = λ b h. absurd (omega arith);
+      above = λ b h. get_or-eq_default m' 0 (omega arith) ∙ sym (get_or-eq_default m 0 (omega arith));
+    }
 
-    moved : (b k : ℕ) → words_at (take a m ++ p) (a + b) k ≡ words_at p b k
+-- a write is one with words behind it
+pub wrote-front : {m m' : List ℕ} {a : ℕ} {ws : List ℕ} → Wrote m m' a ws → a + length ws ≤ length m → (r : List ℕ) → Wrote (m ++ r) (m' ++ r) a ws
+unfolding word
+wrote-front {m} {m'} {a} {ws} w inside r =
+    let l = w.same_length in
+    record {
+      same_length = omega (arith, length-append m r, length-append m' r);
+      here = same-words_at m' (m' ++ r) a (length ws) (λ b g h. get_or-append m' r 0 b (omega arith)) ∙ w.here;
+      below = λ b h. get_or-append m' r 0 b (omega arith) ∙ w.below b h ∙ sym (get_or-append m r 0 b (omega arith));
+      above = λ b h. go b h (dec_lt b (length m));
+    }
+  where
+    go : (b : ℕ) → a + length ws ≤ b → Dec (b < length m) → get_or (m' ++ r) b 0 ≡ get_or (m ++ r) b 0
+    go b h (yes g) =
+        let l = w.same_length in
+        get_or-append m' r 0 b (omega arith) ∙ w.above b h ∙ sym (get_or-append m r 0 b g)
+    go b h (no g) =
+        get_or-append_right m' r b 0 (omega (arith, w.same_length))
+        ∙ rw w.same_length (sym (get_or-append_right m r b 0 (omega arith)))
+
+-- and one with words before it
+pub wrote-behind : {m m' : List ℕ} {a : ℕ} {ws : List ℕ} → Wrote m m' a ws → (us : List ℕ) → Wrote (us ++ m) (us ++ m') (length us + a) ws
+unfolding word words_at
+wrote-behind {m} {m'} {a} {ws} w us =
+    record {
+      same_length = omega (arith, length-append us m, length-append us m', w.same_length);
+      here = moved a (length ws) ∙ w.here;
+      below = λ b h. go b h (dec_lt b (length us));
+      above = λ b h.
+          let e : length us + (b - length us) ≡ b = omega arith in
+          rw (sym e) (get_or-append-add us m' (b - length us) 0 ∙ w.above (b - length us) (omega arith) ∙ sym (get_or-append-add us m (b - length us) 0));
+    }
+  where
+    moved : (b k : ℕ) → words_at (us ++ m') (length us + b) k ≡ words_at m' b k
     moved b zero = refl
     moved b (suc k) =
-        let e : a + b + 1 ≡ a + (b + 1) = omega arith in
+        let e : length us + b + 1 ≡ length us + (b + 1) = omega arith in
         let r = moved (b + 1) k in
-        let f = behind b in
+        let f = get_or-append-add us m' b 0 in
         rw e (cc (r, f))
 
-    here : words_at p 0 (length ws) ≡ ws → words_at (take a m ++ p) a (length ws) ≡ ws
-    here q = let e = add-zero a in rw e at (moved 0 (length ws)) ∙ q
+    go : (b : ℕ) → b < length us + a → Dec (b < length us) → get_or (us ++ m') b 0 ≡ get_or (us ++ m) b 0
+    go b h (yes g) = get_or-append us m' 0 b g ∙ sym (get_or-append us m 0 b g)
+    go b h (no g) =
+        let e : length us + (b - length us) ≡ b = omega arith in
+        rw (sym e) (get_or-append-add us m' (b - length us) 0 ∙ w.below (b - length us) (omega arith) ∙ sym (get_or-append-add us m (b - length us) 0))
+
+-- a part that is written keeps the memory's length
+pub length-part : (m p : List ℕ) (a k : ℕ) → length p ≡ length (take k (drop a m)) → length (put_mid a k m p) ≡ length m
+length-part m p a k e =
+    let us = drop a m in
+    omega (
+      arith,
+      length-append (take a m) (p ++ drop k us),
+      length-append p (drop k us),
+      length-append (take a m) us,
+      ap length (take-append-drop a m),
+      length-append (take k us) (drop k us),
+      ap length (take-append-drop k us),
+    )
+
+-- a write into a lent part is one into the memory
+pub wrote-part : (m p : List ℕ) (a k : ℕ) (ws : List ℕ) → a ≤ length m → 0 + length ws ≤ length (take k (drop a m)) → Wrote (take k (drop a m)) p 0 ws
+    → Wrote m (put_mid a k m p) a ws
+wrote-part m p a k ws h l v =
+    let behind : List ℕ = drop k (drop a m) in
+    let parts : take a m ++ (take k (drop a m) ++ behind) ≡ m =
+    ap (λ (t : List ℕ). take a m ++ t) (take-append-drop k (drop a m)) ∙ take-append-drop a m in
+    let w = wrote-behind (wrote-front v l behind) (take a m) in
+    subst (λ (t : List ℕ). Wrote t (put_mid a k m p) a ws) parts (wrote_at w (omega (arith, length-take-le a m h)))
+
+-- and so is a part that is written whole
+pub wrote_range : (m p : List ℕ) (a k : ℕ) → a + k ≤ length m → length p ≡ k → Wrote m (put_mid a k m p) a p
+wrote_range m p a k h e =
+    let l : length (take k (drop a m)) ≡ k = length-take-le k (drop a m) (omega (arith, length-drop a m)) in
+    wrote-part m p a k p (omega arith) (omega arith) (wrote-whole (take k (drop a m)) p (omega arith))
 
 -- six words, written one behind the other
 pub wrote-six : (m : List ℕ) (a t u v x y z : ℕ) → a + 6 ≤ length m
@@ -241,34 +300,3 @@ wrote-six m a t u v x y z h =
     let w₄ = wrote-next w₃ (a + 3) x refl (omega arith) in
     let w₅ = wrote-next w₄ (a + 4) y refl (omega arith) in
     wrote-next w₅ (a + 5) z refl (omega arith)
-
--- one element more
-pub replicate_more : (k x : ℕ) → replicate (k + 1) x ≡ replicate k x ++ (x ∷ [])
-replicate_more k x = sym (replicate-append-replicate k 1 x)
-
--- a length and eight words, written one behind the other
-pub wrote-message : (p ws : List ℕ) (len : ℕ) → 9 ≤ length p → length ws ≡ 8
-    → Wrote p
-    (set (set (set (set (set (set (set (set (set p 0 len) 1 (get_or ws 0 0)) 2 (get_or ws 1 0)) 3 (get_or ws 2 0)) 4 (get_or ws 3 0)) 5 (get_or ws 4 0)) 6 (get_or ws 5 0)) 7 (get_or ws 6 0)) 8 (get_or ws 7 0))
-    0 (len ∷ ws)
-unfolding word words_at
-wrote-message p ws len long eight =
-    let w0 = wrote-set p 0 len (omega arith) in
-    let w1 = wrote-next w0 1 (get_or ws 0 0) refl (omega arith) in
-    let w2 = wrote-next w1 2 (get_or ws 1 0) refl (omega arith) in
-    let w3 = wrote-next w2 3 (get_or ws 2 0) refl (omega arith) in
-    let w4 = wrote-next w3 4 (get_or ws 3 0) refl (omega arith) in
-    let w5 = wrote-next w4 5 (get_or ws 4 0) refl (omega arith) in
-    let w6 = wrote-next w5 6 (get_or ws 5 0) refl (omega arith) in
-    let w7 = wrote-next w6 7 (get_or ws 6 0) refl (omega arith) in
-    let w8 = wrote-next w7 8 (get_or ws 7 0) refl (omega arith) in
-    wrote_as w8 (ap (λ (us : List ℕ). len ∷ us) (sym (words_at-whole ws 8 eight)))
-
--- eight words, one by one
-pub eight-words : (m : List ℕ) (a : ℕ)
-    → words_at m a 8
-    ≡ get_or m a 0 ∷ get_or m (a + 1) 0 ∷ get_or m (a + 2) 0 ∷ get_or m (a + 3) 0 ∷ get_or m (a + 4) 0 ∷ get_or m (a + 5) 0 ∷ get_or m (a + 6) 0 ∷ get_or m (a + 7) 0 ∷ []
-unfolding words_at word
-eight-words m a =
-    let next : (k : ℕ) → a + k + 1 ≡ a + suc k = λ k. omega arith in
-    rw (next 1, next 2, next 3, next 4, next 5, next 6)

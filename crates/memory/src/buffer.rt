@@ -7,47 +7,48 @@ ghost use Rattle.rules.specs.Paging.{store};
 ghost use Rattle.memory.specs.Holds.{Some, Becomes, Room, Storable, Kept, Waits, Emptied, putting, wiping, using_up, freeing, removing};
 ghost use Rattle.memory.specs.Paging.{Wanting};
 
+use super::descriptor::Descriptor;
 use super::{Node, frames, group, map, paging, words};
 
 // The last place of a frame.
 const LAST_PLACE: u32 = 7;
 
 // A message is put behind the last of group g's buffer, which has room for it.
-pub fn put(m: &mut [u32], g: u32, len: u32, words: [u32; 8])
+pub fn put(m: &mut [u32], g: u32, message: Descriptor)
     requires le_g { (1 ≤ g) × (g ≤ group_count) }
     requires some { Some m.old (Room g) }
-    ensures { (x : Message) → Kept g len words x → Becomes m.old m.new (Room g) (putting x) }
+    ensures { (x : Message) → Kept g message.len message.words x → Becomes m.old m.new (Room g) (putting x) }
 {
     let x = group::read(m, g);
     let end = x.used + x.count;
     let last = map::group_word(m, g, map::LIST + (end / Node::PER_FRAME) as usize);
     let at = map::place_at(last, end % Node::PER_FRAME);
-    words::put_message(&mut m[at..], len, words);
+    words::put_message(&mut m[at..], message);
     group::set_counts(m, g, x.used, x.count + 1);
 }
 
 // A message is put at the end of group g's buffer, in a frame taken for it where the buffer is full.
-pub fn append(m: &mut [u32], g: u32, len: u32, words: [u32; 8])
+pub fn append(m: &mut [u32], g: u32, message: Descriptor)
     requires le_g { (1 ≤ g) × (g ≤ group_count) }
     requires some { Some m.old (Storable g) }
-    ensures { (x : Message) → Kept g len words x → Becomes m.old m.new (Storable g) (put paper01 x) }
+    ensures { (x : Message) → Kept g message.len message.words x → Becomes m.old m.new (Storable g) (put paper01 x) }
 {
     let end = map::group_word(m, g, map::USED) + map::group_word(m, g, map::COUNT);
     let places = Node::PER_FRAME * map::group_word(m, g, map::HELD);
     if places <= end {
         frames::extend(m, g);
     }
-    put(m, g, len, words);
+    put(m, g, message);
 }
 
 // A message moves to the end of group g's buffer: its page is in a frame first.
-pub fn store(m: &mut [u32], g: u32, len: u32, words: [u32; 8])
+pub fn store(m: &mut [u32], g: u32, message: Descriptor)
     requires le_g { (1 ≤ g) × (g ≤ group_count) }
     requires some { Some m.old (Wanting g) }
-    ensures { (x : Message) → Kept g len words x → Becomes m.old m.new (Wanting g) (store paper01 x) }
+    ensures { (x : Message) → Kept g message.len message.words x → Becomes m.old m.new (Wanting g) (store paper01 x) }
 {
     paging::prepare(m, g);
-    append(m, g, len, words);
+    append(m, g, message);
 }
 
 // The place of the first message of group g's buffer is wiped.
@@ -90,13 +91,9 @@ pub fn unbuffer(m: &mut [u32], g: u32)
     ensures { Becomes m.old m.new (Waits g) (removing g) }
 {
     wipe_first(m, g);
-    if map::group_word(m, g, map::COUNT) == 1 {
+    if map::group_word(m, g, map::COUNT) == 1 || map::group_word(m, g, map::USED) == LAST_PLACE {
         free_first(m, g);
-        return;
+    } else {
+        use_up(m, g);
     }
-    if map::group_word(m, g, map::USED) == LAST_PLACE {
-        free_first(m, g);
-        return;
-    }
-    use_up(m, g);
 }

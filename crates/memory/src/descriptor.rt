@@ -1,4 +1,4 @@
-// A group's descriptor, by value: adding a word or launching it hands back the next one.
+// A group's descriptor, by value: adding a word or launching it hands back the next one. What is sent of it is a message, so that is one too.
 ghost use Rattle.std.specs.Prelude.{List, [], ◌∷◌, ◌++◌, ◌≡◌, ℕ, ◌≤◌, ◌<◌, length};
 ghost use Rattle.rules.specs.Build.{group_count, word_limit};
 ghost use Rattle.rules.specs.Memory.{size};
@@ -44,13 +44,7 @@ pub fn read(m: &[u32], g: u32) -> Descriptor
     requires size_in_bounds { size ≤ length m.now }
     ensures { (n : Node) (r : List ℕ) → Holds m.now n r → result ≡ descriptor_of (group_of n g).descriptor }
 {
-    let len = map::group_word(m, g, map::DESCRIBED);
-    let at = map::group_at(g) + map::DESCRIPTOR;
-    let words = words::eight(m, at);
-    Descriptor {
-        len: len,
-        words: words,
-    }
+    words::message(m, map::group_at(g) + map::DESCRIBED)
 }
 
 // The same, written.
@@ -59,8 +53,6 @@ pub fn write(m: &mut [u32], g: u32, x: Descriptor)
     requires size_in_bounds { size ≤ length m.old }
     ensures { (d : List ℕ) → length d ≤ word_limit → x ≡ descriptor_of d → Becomes m.old m.new Any (redescribed g d) }
 {
-    map::set_group_word(m, g, map::DESCRIBED, x.len);
-    let at = map::group_at(g) + map::DESCRIPTOR;
-    let words = x.words;
-    words::put_eight(m, at, words);
+    let at = map::group_at(g) + map::DESCRIBED;
+    words::put_message(&mut m[at..], x);
 }

@@ -3,14 +3,15 @@ ghost use Rattle.std.specs.Prelude.{◌≤◌};
 ghost use Rattle.rules.specs.Build.{group_count};
 ghost use Rattle.memory.specs.Holds.{Some, Becomes, FrameLeft, OrderRoom, InOrder, Emptied, granting, taking, entering, departing, releasing};
 
-use super::{group, lines, map};
+use super::lines::Line;
+use super::{group, map};
 
 // Frame f enters: it is the last in the order of entry.
 pub fn enter(m: &mut [u32], f: u32)
     requires { Some m.old OrderRoom }
     ensures { Becomes m.old m.new OrderRoom (entering f) }
 {
-    lines::join(m, map::ENTERED_COUNT, map::ENTERED_AT, f);
+    Line::ENTERED.join(m, f);
 }
 
 // Frame f leaves the order of entry.
@@ -18,8 +19,8 @@ pub fn depart(m: &mut [u32], f: u32)
     requires { Some m.old (InOrder f) }
     ensures { Becomes m.old m.new (InOrder f) (departing f) }
 {
-    let i = lines::position(m, map::ENTERED_COUNT, map::ENTERED_AT, f);
-    lines::leave(m, map::ENTERED_COUNT, map::ENTERED_AT, i);
+    let i = Line::ENTERED.position(m, f).unwrap();
+    Line::ENTERED.leave(m, i);
 }
 
 // The front of the free line goes to the end of group g's list.
@@ -28,9 +29,8 @@ pub fn grant(m: &mut [u32], g: u32)
     requires some { Some m.old FrameLeft }
     ensures { Becomes m.old m.new FrameLeft (granting g) }
 {
-    let f = lines::leave(m, map::FREE_COUNT, map::FREE_AT, 0);
-    let at = map::group_at(g);
-    lines::join(m, at + map::HELD, at + map::LIST, f);
+    let f = Line::FREE.leave(m, 0);
+    Line::list_of(g).join(m, f);
 }
 
 // Group g takes a frame, which enters.
@@ -51,8 +51,7 @@ pub fn release(m: &mut [u32], g: u32)
     ensures { Becomes m.old m.new (Emptied g) (releasing g) }
 {
     let x = group::read(m, g);
-    let at = map::group_at(g);
-    let f = lines::leave(m, at + map::HELD, at + map::LIST, 0);
+    let f = Line::list_of(g).leave(m, 0);
     group::set_counts(m, g, 0, x.count - 1);
-    lines::join(m, map::FREE_COUNT, map::FREE_AT, f);
+    Line::FREE.join(m, f);
 }

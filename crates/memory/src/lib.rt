@@ -19,7 +19,7 @@ ghost use Rattle.rules.specs.MemoryTest.{power_on_memory, replaced};
 ghost use Rattle.rules.specs.Types.{build_of, limits};
 ghost use Rattle.memory.specs.Answers.{Answers};
 
-use rules::{Build, Limits, Report};
+use rules::{Build, Limits, Refusal, Report};
 
 // A node in lent memory: its limits belong to it by name.
 #[derive(Clone, Copy)]
@@ -74,7 +74,7 @@ impl Node {
         ensures { Answers memory.new result (power_on_memory memory.old) }
     {
         if memory.len() < map::SIZE {
-            return Report::refused(Report::NOT_NODE);
+            return Refusal::NotNode.into();
         }
         Node::start(memory);
         Report::accepted(0, 0, 0, 0)

@@ -1,26 +1,25 @@
 // Pages between frames and swap space.
-ghost use Rattle.std.specs.Prelude.{◌≡◌, [], ◌∷◌, ◌+◌, ◌≤◌, ◌<◌, length};
+ghost use Rattle.std.specs.Prelude.{◌≡◌, [], ◌∷◌, ◌+◌, ◌≤◌, ◌<◌, length, SomeIff};
 ghost use Rattle.rules.specs.Build.{paper01, page_count, group_count};
-ghost use Rattle.rules.specs.Memory.{word, group_address, frame_address, held_offset};
+ghost use Rattle.rules.specs.Memory.{word, group_address, frame_address, running_at, held_offset, list_offset};
 ghost use Rattle.rules.specs.Paging.{traded, more, resident, prepared, runner_resident};
 ghost use Rattle.rules.specs.Sound.{Sound};
 ghost use Rattle.memory.specs.Writes.{Wrote, InGroup};
 ghost use Rattle.memory.specs.Holds.{Some, Becomes};
 ghost use Rattle.memory.specs.Paging.{ListTraded, Traded, Listing, PageMoved, PagesSwapped, Crowded, Chosen, Sending, Away, Fetching, Exchanging, Owned, Wanting, sending, bringing};
 
-use super::{Node, frames, lines, map, words};
+use super::lines::Line;
+use super::{Node, frames, map, words};
 
 // Number p for q, and q for p.
 pub fn traded(x: u32, p: u32, q: u32) -> u32
     ensures { result ≡ traded p q x }
 {
-    if x == p {
-        return q;
+    match x {
+        _ if x == p => q,
+        _ if x == q => p,
+        _ => x,
     }
-    if x == q {
-        return p;
-    }
-    x
 }
 
 // The same in the list of group g.
@@ -31,11 +30,8 @@ pub fn trade_list(m: &mut [u32], g: u32, p: u32, q: u32)
 {
     let k = map::group_word(m, g, map::HELD) as usize;
     let at = map::group_at(g) + map::LIST;
-    let mut i = 0;
-    while i < k {
-        let x = traded(m[at + i], p, q);
-        m[at + i] = x;
-        i += 1;
+    for x in &mut m[at..at + k] {
+        *x = traded(*x, p, q);
     }
 }
 
@@ -44,10 +40,8 @@ pub fn trade(m: &mut [u32], p: u32, q: u32)
     requires { Listing m.old }
     ensures { Traded m.old m.new p q group_count }
 {
-    let mut g: u32 = 0;
-    while g < Node::GROUPS {
-        trade_list(m, g + 1, p, q);
-        g += 1;
+    for g in 1..=Node::GROUPS {
+        trade_list(m, g, p, q);
     }
 }
 
@@ -88,10 +82,7 @@ pub fn swap_pages(m: &mut [u32], f: u32, p: u32)
 pub fn more(k: u32) -> u32
     ensures { result ≡ more k }
 {
-    if k < 4294967295 {
-        return k + 1;
-    }
-    k
+    k.saturating_add(1)
 }
 
 // The count at address `at` is one more.
@@ -103,23 +94,29 @@ pub fn count(m: &mut [u32], at: usize)
     m[at] = k;
 }
 
+// The running group's first page, where a group runs and has one.
+fn runner_page(m: &[u32]) -> Option<u32>
+    requires { Some m.now (Sound paper01) }
+    ensures { let g = word m.now running_at in SomeIff result ((1 ≤ g) × (1 ≤ word m.now (group_address g + held_offset))) (word m.now (group_address g + list_offset)) }
+{
+    let g = m[map::RUNNING];
+    if g == 0 || map::group_word(m, g, map::HELD) == 0 {
+        None
+    } else {
+        Some(map::group_word(m, g, map::LIST))
+    }
+}
+
 // The page to send out: the one that has been in a frame longest, but for the running group's first page.
 pub fn victim(m: &[u32]) -> u32
     requires { Some m.now Crowded }
     ensures { Chosen m.now result }
 {
     let first = m[map::ENTERED_AT];
-    let g = m[map::RUNNING];
-    if g == 0 {
-        return first;
+    match runner_page(m) {
+        Some(page) if page == first => m[map::ENTERED_AT + 1],
+        _ => first,
     }
-    if map::group_word(m, g, map::HELD) == 0 {
-        return first;
-    }
-    if map::group_word(m, g, map::LIST) == first {
-        return m[map::ENTERED_AT + 1];
-    }
-    first
 }
 
 // It is sent out: its page goes to the front of the swap line, and its frame, wiped, joins the free line.
@@ -130,9 +127,9 @@ pub fn send_out(m: &mut [u32])
     let f = victim(m);
     frames::depart(m, f);
     count(m, map::OUT);
-    let s = lines::leave(m, map::SWAP_COUNT, map::SWAP_AT, 0);
+    let s = Line::SWAP.leave(m, 0);
     move_page(m, f, s);
-    lines::join(m, map::FREE_COUNT, map::FREE_AT, f);
+    Line::FREE.join(m, f);
 }
 
 // The page in swap page p comes into the front of the free line, and p, wiped, joins the swap line.
@@ -143,9 +140,9 @@ pub fn fetch(m: &mut [u32], p: u32)
     let front = m[map::FREE_AT];
     frames::enter(m, front);
     count(m, map::BROUGHT);
-    lines::leave(m, map::FREE_COUNT, map::FREE_AT, 0);
+    Line::FREE.leave(m, 0);
     move_page(m, p, front);
-    lines::join(m, map::SWAP_COUNT, map::SWAP_AT, p);
+    Line::SWAP.join(m, p);
 }
 
 // Where no frame is free, it trades places with the page to send out: nothing is wiped, since neither place is left without a page.
@@ -168,9 +165,9 @@ pub fn bring_in(m: &mut [u32], p: u32)
 {
     if m[map::FREE_COUNT] > 0 {
         fetch(m, p);
-        return;
+    } else {
+        exchange(m, p);
     }
-    exchange(m, p);
 }
 
 // Page p is in a frame from now on.
@@ -178,10 +175,9 @@ pub fn resident(m: &mut [u32], p: u32)
     requires { Some m.old (Owned p) }
     ensures { Becomes m.old m.new (Owned p) (resident paper01 p) }
 {
-    if p < Node::FRAMES {
-        return;
+    if Node::FRAMES <= p {
+        bring_in(m, p);
     }
-    bring_in(m, p);
 }
 
 // What a message for group g needs before it is written: its page in a frame, or a free frame where it begins a page.
@@ -194,9 +190,7 @@ pub fn prepare(m: &mut [u32], g: u32)
     if end < Node::PER_FRAME * map::group_word(m, g, map::HELD) {
         let last = map::group_word(m, g, map::LIST + (end / Node::PER_FRAME) as usize);
         resident(m, last);
-        return;
-    }
-    if m[map::FREE_COUNT] == 0 {
+    } else if m[map::FREE_COUNT] == 0 {
         send_out(m);
     }
 }
@@ -206,13 +200,7 @@ pub fn runner_resident(m: &mut [u32])
     requires { Some m.old (Sound paper01) }
     ensures { Becomes m.old m.new (Sound paper01) (runner_resident paper01) }
 {
-    let g = m[map::RUNNING];
-    if g == 0 {
-        return;
+    if let Some(p) = runner_page(m) {
+        resident(m, p);
     }
-    if map::group_word(m, g, map::HELD) == 0 {
-        return;
-    }
-    let p = map::group_word(m, g, map::LIST);
-    resident(m, p);
 }

@@ -1,40 +1,48 @@
 // Words copied, moved, cleared and tested, whatever they stand for.
 ghost use Rattle.std.specs.Prelude.{◌≡◌, ◌∷◌, ◌++◌, ◌+◌, ◌≤◌, ◌<◌, length, replicate};
-ghost use Rattle.rules.specs.Memory.{words_at};
+ghost use Rattle.rules.specs.Memory.{word, words_at};
 ghost use Rattle.rules.specs.MemoryTest.{zero_at};
 ghost use Rattle.memory.specs.Writes.{Wrote, Swapped};
+
+use super::descriptor::Descriptor;
 
 // Eight words from address a on.
 pub fn eight(m: &[u32], a: usize) -> [u32; 8]
     requires { a + 8 ≤ length m.now }
     ensures { result ≡ words_at m.now a 8 }
 {
-    [
-        m[a],
-        m[a + 1],
-        m[a + 2],
-        m[a + 3],
-        m[a + 4],
-        m[a + 5],
-        m[a + 6],
-        m[a + 7],
-    ]
+    m[a..a + 8].try_into().unwrap()
 }
 
-// A message's length and its eight words, at the start of a lent part.
-pub fn put_message(part: &mut [u32], len: u32, words: [u32; 8])
-    requires { 9 ≤ length part.old }
-    ensures { Wrote part.old part.new 0 (len ∷ words) }
+// A length and the eight words behind it, from address a on.
+pub fn message(m: &[u32], a: usize) -> Descriptor
+    requires { a + 9 ≤ length m.now }
+    ensures { result ≡ record { len = word m.now a; words = words_at m.now (a + 1) 8 } }
 {
-    part[0] = len;
-    part[1] = words[0];
-    part[2] = words[1];
-    part[3] = words[2];
-    part[4] = words[3];
-    part[5] = words[4];
-    part[6] = words[5];
-    part[7] = words[6];
-    part[8] = words[7];
+    Descriptor {
+        len: m[a],
+        words: eight(m, a + 1),
+    }
+}
+
+// The same, written at the start of a lent part.
+pub fn put_message(part: &mut [u32], message: Descriptor)
+    requires { 9 ≤ length part.old }
+    ensures { Wrote part.old part.new 0 (message.len ∷ message.words) }
+{
+    part[0] = message.len;
+    put_eight(part, 1, message.words);
+}
+
+// What a lent part has, copied to another of its length. It is a loop, since the library's own copy compares addresses, which a replay's page can't.
+pub fn copy_all<T: Copy>(to: &mut [T], from: &[T])
+    requires { length to.old ≡ length from.now }
+    ensures len { length to.new ≡ length to.old }
+    ensures after { to.new ≡ from.now }
+{
+    for i in 0..from.len() {
+        to[i] = from[i];
+    }
 }
 
 // Lent words are written from address `at` on.
@@ -42,11 +50,7 @@ pub fn copy_in(m: &mut [u32], at: usize, words: &[u32])
     requires { at + length words.now ≤ length m.old }
     ensures { Wrote m.old m.new at words.now }
 {
-    let mut i = 0;
-    while i < words.len() {
-        m[at + i] = words[i];
-        i += 1;
-    }
+    copy_all(&mut m[at..at + words.len()], words);
 }
 
 // Eight words are.
@@ -63,10 +67,8 @@ pub fn copy(m: &mut [u32], to: usize, from: usize, n: usize)
     requires n_bound { from < to → from + n ≤ to }
     ensures { Wrote m.old m.new to (words_at m.old from n) }
 {
-    let mut i = 0;
-    while i < n {
+    for i in 0..n {
         m[to + i] = m[from + i];
-        i += 1;
     }
 }
 
@@ -75,12 +77,10 @@ pub fn swap(m: &mut [u32], a: usize, b: usize, n: usize)
     requires { (a + n ≤ b) × (b + n ≤ length m.old) }
     ensures { Swapped m.old m.new a b n }
 {
-    let mut i = 0;
-    while i < n {
+    for i in 0..n {
         let x = m[a + i];
         m[a + i] = m[b + i];
         m[b + i] = x;
-        i += 1;
     }
 }
 
@@ -89,11 +89,7 @@ pub fn clear(m: &mut [u32], at: usize, n: usize)
     requires { at + n ≤ length m.old }
     ensures { Wrote m.old m.new at (replicate n 0) }
 {
-    let mut i = 0;
-    while i < n {
-        m[at + i] = 0;
-        i += 1;
-    }
+    m[at..at + n].fill(0);
 }
 
 // The first `by` words from address `at` on go: the n behind them move down, and zeros follow.
@@ -110,11 +106,9 @@ pub fn zeros(m: &[u32], a: usize, n: usize) -> bool
     requires { a + n ≤ length m.now }
     ensures { zero_at m.now a n ≡ result }
 {
-    let mut sum: u32 = 0;
-    let mut i = 0;
-    while i < n {
-        sum = sum | m[a + i];
-        i += 1;
+    let mut sum = 0;
+    for x in &m[a..a + n] {
+        sum |= *x;
     }
     sum == 0
 }

@@ -1,5 +1,5 @@
 -- Operations by their Rattle names: which are requests of the running group, and which operation each is. Assumes nothing.
-use Rattle.rules.specs.Types.{operation_of, report_of}
+use Rattle.rules.specs.Types.{operation_of}
 use Rattle.rules.specs.declared.Operation.TheVariants.{Arrive, Schedule, Preempt, Dispatch, Tick, Turn, Poll, Peek, Dispose, BeginAtomic, EndAtomic, Describe, Launch, Unknown}
 use Rattle.rules.specs.contracts.Operation.{the_type}
 use denote.Enum.Declared.{tag_of}
@@ -8,20 +8,20 @@ use Prim.Native.Nat.{ℕ}
 use native.Mathlib.Omega.{arith}
 use mathlib.Core.List.{List, [], ◌∷◌}
 use mathlib.Core.Logic.{◌≢◌}
-use mathlib.Core.Path.{◌∙◌, ◌≡◌, refl, subst, sym}
+use mathlib.Core.Path.{◌∙◌, ◌≡◌, refl, sym}
 use borrow.Author.Tests.{eq-eqb}
 use Rattle.rules.specs.Build.{paper01}
 use Rattle.rules.specs.Memory.{running_at, word}
 use Rattle.rules.specs.Node.{Node}
-use Rattle.rules.specs.Operation.{Operation, Request, begin_atomic, describe, dispose, end_atomic, launch, nobody_runs, peek, poll, refused, unknown, unreadable, user}
+use Rattle.rules.specs.Operation.{Request, begin_atomic, describe, dispose, end_atomic, launch, peek, poll, unknown, user}
 use Rattle.rules.specs.Refusal.{refusal}
 use Rattle.rules.specs.Valid.{Valid}
 use Rattle.rules.specs.declared.Operation.{Operation as Operation·rt}
 use Rattle.memory.specs.Holds.{Holds}
 use Rattle.memory.proofs.PieceLaws.{holds-pieces}
-use Rattle.node.specs.Steps.{Acted, Running, done}
-use Rattle.node.specs.declared.acted.Act.{Act as Act·rt}
-use Rattle.node.proofs.StepMap.{acted-refused}
+use Rattle.rules.specs.declared.Refusal.TheVariants.{NobodyRuns, Unreadable}
+use Rattle.node.specs.Steps.{Running, Stepping, report_refused}
+use Rattle.node.proofs.StepMap.{stepping-refused}
 
 -- the tags of M to L, and of the others
 abbrev request_tags : List ℕ
@@ -71,21 +71,16 @@ a-request (Describe w) k ws = record { request = describe w; alone = refl; besid
 a-request (Launch n) k ws = record { request = launch n; alone = refl; beside = refl }
 a-request Unknown k ws = absurd (miss request_tags 13 tt k)
 
--- what is told of an operation is told of it by another name
-pub acted-named : {m : List ℕ} {n : Node} {r : List ℕ} {o o' : Operation} {a : Act·rt} → o ≡ o' → Acted m n r o a → Acted m n r o' a
-acted-named {m} {n} {r} {a = a} e s = subst (λ (o : Operation). Acted m n r o a) e s
-
 -- nobody runs
-pub nobody-acts : {m : List ℕ} {n : Node} {r : List ℕ} {a : Act·rt} → Holds m n r → word m running_at ≡ 0 → (q : Request)
-    → a ≡ done (report_of (refused nobody_runs)) → Acted m n r (user q) a
+pub nobody-acts : {m : List ℕ} {n : Node} {r : List ℕ} → Holds m n r → word m running_at ≡ 0 → (q : Request) → Stepping m n r (user q) (report_refused NobodyRuns)
 unfolding refusal
-nobody-acts {n = n} h e q = acted-refused (user q) 6 (rw (eq-eqb n.running 0 (sym (holds-pieces h).running ∙ e))) h
+nobody-acts {n = n} h e q = stepping-refused (user q) 6 (rw (eq-eqb n.running 0 (sym (holds-pieces h).running ∙ e))) h
 
 -- somebody does
 pub somebody-runs : {m : List ℕ} {n : Node} {r : List ℕ} → Holds m n r → word m running_at ≢ 0 → Valid paper01 n → Running n
 somebody-runs h d v = record { valid = v; some = let e = (holds-pieces h).running in omega arith }
 
 -- an unknown operation
-pub unknown-acts : {m : List ℕ} {n : Node} {r : List ℕ} {a : Act·rt} → Holds m n r → a ≡ done (report_of (refused unreadable)) → Acted m n r unknown a
+pub unknown-acts : {m : List ℕ} {n : Node} {r : List ℕ} → Holds m n r → Stepping m n r unknown (report_refused Unreadable)
 unfolding refusal
-unknown-acts h = acted-refused unknown 1 refl h
+unknown-acts h = stepping-refused unknown 1 refl h

@@ -18,10 +18,9 @@ use Rattle.rules.specs.Sound.{Sound}
 use Rattle.rules.proofs.Steps.StepLaws.{act-sound}
 use Rattle.memory.specs.Holds.{Holds}
 use Rattle.memory.proofs.PieceLaws.{holds-pieces}
-use Rattle.node.specs.Steps.{Acted, Running, Stepping, done, effect, unsettled}
-use Rattle.node.specs.declared.acted.Act.{Act as Act·rt}
+use Rattle.node.specs.Steps.{Acting, Running, Stepping, effect}
 use Rattle.rules.proofs.Steps.QuietLaws.{Quiet}
-use Rattle.node.proofs.StepMap.{acted-refused, acted-unsettled, one-act, stepping-quiet, stepping-refused}
+use Rattle.node.proofs.StepMap.{acting-unsettled, one-act, stepping-quiet, stepping-refused}
 
 -- the running group is the first number of the memory
 pub runner : {m : List ℕ} {n : Node} {r : List ℕ} → Holds m n r → get_or m 0 0 ≡ n.running
@@ -43,25 +42,20 @@ module _ {n : Node} (runs : Running n) (q : Request) where
   unfolding act
   request-sound e = act-sound runs.valid (user q) (request-refusal ∙ e)
 
-  module _ {m : List ℕ} {r : List ℕ} {rep : Report·rt} where
+  module _ {m : List ℕ} {r : List ℕ} where
     -- refused
-    pub request-refused : Holds m n r → (k : ℕ) → refuse_request n q ≡ suc k → rep ≡ report_of (refused (suc k)) → Stepping m n r (user q) rep
-    request-refused h k e report = stepping-refused (user q) k (request-refusal ∙ e) h report
+    pub request-refused : Holds m n r → (k : ℕ) → refuse_request n q ≡ suc k → Stepping m n r (user q) (report_of (refused (suc k)))
+    request-refused h k e = stepping-refused (user q) k (request-refusal ∙ e) h
 
     -- accepted, with nothing to settle and no upcall due
-    pub request-quiet : refuse_request n q ≡ accepted → Quiet paper01 (serve paper01 n q).node
+    pub request-quiet : {rep : Report·rt} → refuse_request n q ≡ accepted → Quiet paper01 (serve paper01 n q).node
         → rep ≡ report_of (own_report (serve paper01 n q)) → Holds m (serve paper01 n q).node r → Stepping m n r (user q) rep
     unfolding act own_report
     request-quiet e quiet report h = stepping-quiet (user q) (serve paper01 n q) (one-act n (user q) tt (request-refusal ∙ e) refl) quiet h report
 
-  module _ {m : List ℕ} {r : List ℕ} {a : Act·rt} where
-    -- the same of one that acts: refused
-    pub acting-refused : Holds m n r → (k : ℕ) → refuse_request n q ≡ suc k → a ≡ done (report_of (refused (suc k))) → Acted m n r (user q) a
-    acting-refused h k e told = acted-refused (user q) k (request-refusal ∙ e) h told
-
     -- accepted, and to settle
-    pub acting-unsettled : (k : Node) (trap moved : ℕ) → refuse_request n q ≡ accepted → serve paper01 n q ≡ effect k trap moved → Sound paper01 k
-        → moved ≤ paper01.places → Holds m k r → a ≡ unsettled trap moved → Acted m n r (user q) a
+    pub request-unsettled : (k : Node) (trap moved : ℕ) → refuse_request n q ≡ accepted → serve paper01 n q ≡ effect k trap moved → Sound paper01 k
+        → moved ≤ paper01.places → Holds m k r → Acting m n r (user q) trap moved
     unfolding act
-    acting-unsettled k trap moved fine same s few h told =
-        acted-unsettled (user q) k trap moved (one-act n (user q) tt (request-refusal ∙ fine) same) s few h told
+    request-unsettled k trap moved fine same s few h =
+        acting-unsettled (user q) k trap moved (one-act n (user q) tt (request-refusal ∙ fine) same) s few h

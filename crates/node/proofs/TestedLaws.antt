@@ -4,7 +4,7 @@ use Rattle.node.specs.declared.message.Part.{Part as Part·rt}
 use Rattle.rules.specs.MemoryTest.{step_memory, head_part, MemoryStep, is_memory, page_counts, replaced}
 use Prim.Native.Nat.{ℕ}
 use mathlib.Core.Bool.{false, true}
-use mathlib.Core.List.{List, map}
+use mathlib.Core.List.{List}
 use mathlib.Core.Path.{◌∙◌, ◌≡◌, ap, refl, sym}
 use lib.ListN.{drop}
 use Rattle.rules.specs.Build.{paper01}
@@ -21,7 +21,6 @@ use Rattle.memory.specs.Answers.{Answers}
 use Rattle.node.specs.Parts.{FirstPart, part_of}
 use Rattle.node.specs.Steps.{IsNode, Steps}
 use Rattle.node.proofs.message.HeadLaws.{head-tested, tested-holds}
-use Rattle.node.proofs.user.SendLaws.{reported}
 
 -- memory that passes the test holds a node
 pub tested-node : (m : List ℕ) → is_memory m ≡ true → IsNode m

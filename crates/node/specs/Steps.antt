@@ -1,19 +1,24 @@
 -- What the functions over the memory of a node promise: settling, the upcall, and each step. Assumes nothing.
-use Rattle.std.specs.Prelude.{ℕ, ◌+◌, ◌%◌, ◌≤◌, true, cond, false, List, [], ◌∷◌, ◌≡◌, length, get_or}
+use Rattle.std.specs.Prelude.{ℕ, ◌+◌, ◌%◌, ◌≤◌, true, cond, false, List, [], ◌∷◌, ◌≡◌, length, get_or, Option, Some as Present, Result, Ok, Err}
 use Rattle.rules.specs.Build.{paper01}
 use Rattle.rules.specs.Lists.{is_empty}
 use Rattle.rules.specs.Node.{Message, Node, group_of, with_timer, buffered, forced, line}
-use Rattle.rules.specs.Operation.{Request, Operation, user, accepted_with, dispose_extend, no_trap, timeout_trap}
+use Rattle.rules.specs.Numbers.{refusal_number, trap_number}
+use Rattle.rules.specs.Operation.{Request, Operation, user, accepted, refused, dispose_extend, no_trap, timeout_trap}
 use Rattle.rules.specs.Paging.{store}
 use Rattle.rules.specs.Settling.{may_stay, settle, drain, upcall, upcall_group}
 use Rattle.rules.specs.Step.{Effect, finish, revoke, step, removed}
 use Rattle.rules.specs.Types.{operation_of, report_of}
 use Rattle.rules.specs.declared.Operation.{Operation as Operation·rt}
 use Rattle.rules.specs.Valid.{Valid}
+use Rattle.rules.specs.declared.Refusal.{Refusal as Refusal·rt}
 use Rattle.rules.specs.declared.Report.{Report as Report·rt}
+use Rattle.rules.specs.declared.Trap.{Trap as Trap·rt}
+use Rattle.rules.specs.declared.Trap.TheVariants.{TimedOut as TrapTimedOut}
 use Rattle.rules.specs.Sound.{Sound}
 use Rattle.memory.specs.Holds.{Holds, Some, blank, dropping}
 use Rattle.node.specs.declared.acted.Act.{Act as Act·rt}
+use Rattle.node.specs.declared.acted.Act.TheVariants.{Done, Settles as Unsettled}
 
 -- the memory holds a node
 abbrev pub IsNode : List ℕ → Type 0
@@ -39,43 +44,58 @@ Steps m m' op rep = (n : Node) (r : List ℕ) → Holds m n r → Valid paper01 
 
 -- the step is done, with this report
 abbrev pub done : Report·rt → Act·rt
-done rep = record { settles = false; report = rep }
+done rep = Done rep
 
 -- it is accepted, with this trap and so many messages moved, and settling is to come
-abbrev pub unsettled : ℕ → ℕ → Act·rt
-unsettled trap moved = record { settles = true; report = report_of (accepted_with 0 trap 0 moved) }
+abbrev pub unsettled : Option Trap·rt → ℕ → Act·rt
+unsettled trap moved = Unsettled trap moved
+
+-- the report of a step that is refused
+abbrev pub report_refused : Refusal·rt → Report·rt
+report_refused x = report_of (refused (refusal_number x))
+
+-- the number of the refusal, 0 where there is none
+abbrev pub answer_of : {A : Type 0} → Result A Refusal·rt → ℕ
+answer_of (Ok a) = accepted
+answer_of (Err x) = refusal_number x
 
 -- an operation without a value, that sends nothing
 abbrev pub effect : Node → ℕ → ℕ → Effect
 effect n trap moved = record { node = n; value = 0; trap = trap; moved = moved; sent = [] }
 
--- what an accepted operation has done before settling, told by this report: finished, it is the step
-pub record Acting (m' : List ℕ) (n : Node) (rest : List ℕ) (op : Operation) (rep : Report·rt) : Type 0 where
+-- what an accepted operation has done before settling, with this trap and so many messages moved: finished, it is the step
+pub record Acting (m' : List ℕ) (n : Node) (rest : List ℕ) (op : Operation) (trap moved : ℕ) : Type 0 where
   pub node : Node
-  pub same : step paper01 n op ≡ finish paper01 (effect node rep.trap rep.moved)
+  pub same : step paper01 n op ≡ finish paper01 (effect node trap moved)
   pub sound : Sound paper01 node
   pub holds : Holds m' node rest
-  pub few : rep.moved ≤ paper01.places
+  pub few : moved ≤ paper01.places
 
--- what an operation has done of its step: all, or what comes before settling
-pub record Acted (m' : List ℕ) (n : Node) (rest : List ℕ) (op : Operation) (a : Act·rt) : Type 0 where
-  pub whole : a.settles ≡ false → Stepping m' n rest op a.report
-  pub partly : a.settles ≡ true → Acting m' n rest op a.report
+-- what an operation has done of its step: it is refused, or has done all, or what comes before settling
+abbrev pub Acted : List ℕ → Node → List ℕ → Operation → Result Act·rt Refusal·rt → Type 0
+Acted m' n rest op (Err x) = Stepping m' n rest op (report_refused x)
+Acted m' n rest op (Ok (Done rep)) = Stepping m' n rest op rep
+Acted m' n rest op (Ok (Unsettled trap moved)) = Acting m' n rest op (trap_number trap) moved
 
 -- whatever node m held, this is what the operation has done
-abbrev pub Acts : List ℕ → List ℕ → Operation → Act·rt → Type 0
+abbrev pub Acts : List ℕ → List ℕ → Operation → Result Act·rt Refusal·rt → Type 0
 Acts m m' op a = (n : Node) (r : List ℕ) → Holds m n r → Valid paper01 n → Acted m' n r op a
 
 -- the same of a request of the group that runs
-abbrev pub ActsFor : List ℕ → List ℕ → Request → Act·rt → Type 0
+abbrev pub ActsFor : List ℕ → List ℕ → Request → Result Act·rt Refusal·rt → Type 0
 ActsFor m m' q a = (n : Node) (r : List ℕ) → Holds m n r → Running n → Acted m' n r (user q) a
 
+-- what one that is done at once reports: its own report, or that it is refused
+abbrev pub reported_as : Result Report·rt Refusal·rt → Report·rt
+reported_as (Ok rep) = rep
+reported_as (Err x) = report_refused x
+
 -- one that is done at once
-abbrev pub Serves : List ℕ → List ℕ → Request → Report·rt → Type 0
-Serves m m' q rep = (n : Node) (r : List ℕ) → Holds m n r → Running n → Stepping m' n r (user q) rep
+abbrev pub Serves : List ℕ → List ℕ → Request → Result Report·rt Refusal·rt → Type 0
+Serves m m' q a = (n : Node) (r : List ℕ) → Holds m n r → Running n → Stepping m' n r (user q) (reported_as a)
 
 -- a request by its Rattle name, whoever runs
-abbrev pub Requests : List ℕ → List ℕ → Operation·rt → Act·rt → Type 0
+abbrev pub Requests : List ℕ → List ℕ → Operation·rt → Result Act·rt Refusal·rt → Type 0
 Requests m m' op a = (q : Request) → operation_of op [] ≡ user q → Acts m m' (user q) a
 
 -- a node in the middle of a step, with a message in its queue
@@ -138,7 +158,7 @@ pub record Finished (m' : List ℕ) (e : Effect) (rest : List ℕ) (rep : Report
 
 -- what t ticks that reach the timeout have done
 pub record TimedOut (m' : List ℕ) (n : Node) (rest : List ℕ) (t : ℕ) (a : Act·rt) : Type 0 where
-  pub told : a ≡ unsettled timeout_trap (length n.queue)
+  pub told : a ≡ unsettled (Present TrapTimedOut) (length n.queue)
   pub holds : Holds m' (late t n).node rest
 
 -- whatever node with its timer running m held, this is what they have done
@@ -156,6 +176,6 @@ pub record WithLine (g : ℕ) (n : Node) : Type 0 where
   pub some : is_empty (line n n.running) ≡ false
 
 -- the first message of the running group's line is gone, with the trap that this brings
-pub record TookFirst (m' : List ℕ) (n : Node) (rest : List ℕ) (trap : ℕ) : Type 0 where
-  pub extended : trap ≡ cond (buffered n n.running) dispose_extend no_trap
+pub record TookFirst (m' : List ℕ) (n : Node) (rest : List ℕ) (trap : Option Trap·rt) : Type 0 where
+  pub extended : trap_number trap ≡ cond (buffered n n.running) dispose_extend no_trap
   pub holds : Holds m' (removed paper01 n) rest

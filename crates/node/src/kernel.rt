@@ -9,78 +9,81 @@ ghost use Rattle.node.specs.Steps.{IsNode, Acts, Ticking, LeftOver, TimesOut};
 use super::acted::Act;
 use super::settling;
 use memory::{Node, group, map};
-use rules::Report;
+use rules::{Refusal, Trap};
 
 // O: the processor is taken from whoever runs. Settling then moves the whole queue, and puts the timer to rest.
 pub fn preempt(m: &mut [u32]) -> Act
     requires { IsNode m.old }
-    ensures { Acts m.old m.new preempt result }
+    ensures { Acts m.old m.new preempt (Ok result) }
 {
     if m[map::RUNNING] == 0 {
         return Act::accepted();
     }
     m[map::RUNNING] = 0;
-    Act::unsettled(0, 0)
+    Act::Settles {
+        trap: None,
+        moved: 0,
+    }
 }
 
 // I: the processor, which nobody has, is given to group g.
-pub fn dispatch(m: &mut [u32], g: u32) -> Act
+pub fn dispatch(m: &mut [u32], g: u32) -> Result<Act, Refusal>
     requires { IsNode m.old }
     ensures { Acts m.old m.new (dispatch g) result }
 {
-    if g == 0 {
-        return Act::refused(Report::BAD_SCHEDULE);
-    }
-    if g > Node::GROUPS {
-        return Act::refused(Report::BAD_SCHEDULE);
+    if g == 0 || g > Node::GROUPS {
+        return Err(Refusal::BadSchedule);
     }
     if m[map::RUNNING] != 0 {
-        return Act::refused(Report::ALREADY_RUNS);
+        return Err(Refusal::AlreadyRuns);
     }
     m[map::RUNNING] = g;
-    Act::unsettled(0, 0)
+    Ok(Act::Settles {
+        trap: None,
+        moved: 0,
+    })
 }
 
 // S: O and I in one step, to group g, 0 to nobody. Nobody runs while the queue is moved, so nobody's first page is spared; and a timer that
 // group g has forced would not come to rest by settling.
-pub fn schedule(m: &mut [u32], g: u32) -> Act
+pub fn schedule(m: &mut [u32], g: u32) -> Result<Act, Refusal>
     requires { IsNode m.old }
     ensures { Acts m.old m.new (schedule g) result }
 {
     if g > Node::GROUPS {
-        return Act::refused(Report::BAD_SCHEDULE);
+        return Err(Refusal::BadSchedule);
     }
     if g == m[map::RUNNING] {
-        return Act::accepted();
+        return Ok(Act::accepted());
     }
     m[map::RUNNING] = 0;
-    let moved = settling::drain(m);
+    let waiting = settling::drain(m);
     m[map::RUNNING] = g;
     m[map::TIMER] = 0;
-    Act::unsettled(0, moved)
+    Ok(Act::Settles {
+        trap: None,
+        moved: waiting,
+    })
 }
 
 // T: k ticks, which count while the timer runs. They are not played one by one: ticks in a row leave what one timeout leaves, and on a forced
 // timer what is left over.
-pub fn tick(m: &mut [u32], k: u32) -> Act
+pub fn tick(m: &mut [u32], k: u32) -> Result<Act, Refusal>
     requires { IsNode m.old }
     ensures { Acts m.old m.new (tick k) result }
 {
-    if k == 0 {
-        return Act::refused(Report::BAD_TICKS);
-    }
-    if k > Node::TICK_LIMIT {
-        return Act::refused(Report::BAD_TICKS);
+    if k == 0 || k > Node::TICK_LIMIT {
+        return Err(Refusal::BadTicks);
     }
     if !settling::timer_runs(m) {
-        return Act::accepted();
+        return Ok(Act::accepted());
     }
     let t = m[map::TIMER] + k;
     if t < Node::TIMEOUT {
         m[map::TIMER] = t;
-        return Act::accepted();
+        return Ok(Act::accepted());
     }
-    timeout(m, t)
+    Ok(timeout(m, t))
 }
 
 // What is left over of t ticks on the timer once a timeout has come: nothing where it is not forced.
@@ -89,9 +92,10 @@ pub fn left_over(m: &[u32], t: u32) -> u32
     ensures { LeftOver m.now t result }
 {
     if settling::forced(m) {
-        return t % Node::TIMEOUT;
+        t % Node::TIMEOUT
+    } else {
+        0
     }
-    0
 }
 
 // The running group is marked revoked.
@@ -113,5 +117,8 @@ pub fn timeout(m: &mut [u32], t: u32) -> Act
     let moved = settling::drain(m);
     revoke(m);
     m[map::TIMER] = left;
-    Act::unsettled(Report::TIMED_OUT, moved)
+    Act::Settles {
+        trap: Some(Trap::TimedOut),
+        moved,
+    }
 }

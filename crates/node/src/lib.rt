@@ -21,7 +21,7 @@ ghost use Rattle.node.specs.Steps.{IsNode, Steps, Acts, Requests};
 use crate::acted::Act;
 use crate::message::Part;
 use memory::map;
-use rules::{Operation, Report};
+use rules::{Operation, Refusal, Report};
 use validate::is_node;
 
 // A step: any memory and any operation, an arrival's words lent beside it. D wipes the place of its message, and a page that goes from a frame
@@ -79,7 +79,7 @@ pub fn step_known(memory: &mut [u32], good: bool, op: Operation, words: &[u32]) 
     ensures { Answers memory.new result (step_memory memory.old (operation_of op words.now)) }
 {
     if !good {
-        return Report::refused(Report::NOT_NODE);
+        return Refusal::NotNode.into();
     }
     step_node(memory, op, words)
 }
@@ -89,47 +89,50 @@ pub fn step_node(memory: &mut [u32], op: Operation, words: &[u32]) -> Report
     requires { IsNode memory.old }
     ensures { Steps memory.old memory.new (operation_of op words.now) result }
 {
-    let a = act(memory, op, words);
-    let report = a.report;
-    if a.settles {
-        return settling::finish(memory, report.trap, report.moved);
+    match act(memory, op, words) {
+        Ok(Act::Done(report)) => report,
+        Ok(Act::Settles { trap, moved }) => settling::finish(
+            memory,
+            trap.map_or(0, |trap| trap as u32),
+            moved,
+        ),
+        Err(refusal) => refusal.into(),
     }
-    report
 }
 
 // What comes before settling.
-fn act(memory: &mut [u32], op: Operation, words: &[u32]) -> Act
+fn act(memory: &mut [u32], op: Operation, words: &[u32]) -> Result<Act, Refusal>
     requires { IsNode memory.old }
     ensures { Acts memory.old memory.new (operation_of op words.now) result }
 {
     match op {
         Operation::Arrive(g) => network::arrive(memory, g, words),
         Operation::Schedule(g) => kernel::schedule(memory, g),
-        Operation::Preempt => kernel::preempt(memory),
+        Operation::Preempt => Ok(kernel::preempt(memory)),
         Operation::Dispatch(g) => kernel::dispatch(memory, g),
         Operation::Tick(k) => kernel::tick(memory, k),
-        Operation::Turn => turn::turn(memory),
-        Operation::Unknown => Act::refused(Report::UNREADABLE),
+        Operation::Turn => Ok(turn::turn(memory)),
+        Operation::Unknown => Err(Refusal::Unreadable),
         _ => request(memory, op),
     }
 }
 
 // M to L: they belong to the running group.
-fn request(memory: &mut [u32], op: Operation) -> Act
+fn request(memory: &mut [u32], op: Operation) -> Result<Act, Refusal>
     requires { IsNode memory.old }
     ensures { Requests memory.old memory.new op result }
 {
     if memory[map::RUNNING] == 0 {
-        return Act::refused(Report::NOBODY_RUNS);
+        return Err(Refusal::NobodyRuns);
     }
     match op {
-        Operation::Poll => Act::done(user::poll(memory)),
-        Operation::Peek(i) => Act::done(user::peek(memory, i)),
+        Operation::Poll => Ok(Act::Done(user::poll(memory))),
+        Operation::Peek(i) => Ok(Act::Done(user::peek(memory, i)?)),
         Operation::Dispose => section::dispose(memory),
-        Operation::BeginAtomic(force) => Act::done(section::begin(memory, force)),
+        Operation::BeginAtomic(force) => Ok(Act::Done(section::begin(memory, force))),
         Operation::EndAtomic => section::end(memory),
-        Operation::Describe(w) => Act::done(user::describe(memory, w)),
-        Operation::Launch(k) => Act::done(user::launch(memory, k)),
-        _ => Act::refused(Report::UNREADABLE),
+        Operation::Describe(w) => Ok(Act::Done(user::describe(memory, w)?)),
+        Operation::Launch(k) => Ok(Act::Done(user::launch(memory, k)?)),
+        _ => Err(Refusal::Unreadable),
     }
 }

@@ -8,11 +8,11 @@ ghost use Rattle.rules.specs.Refusal.{queued, refusal};
 ghost use Rattle.rules.specs.Valid.{Valid};
 ghost use Rattle.rules.specs.Sound.{Sound};
 ghost use Rattle.memory.specs.Holds.{Holds, Some, Any};
-ghost use Rattle.node.specs.Steps.{IsNode, Acts};
+ghost use Rattle.node.specs.Steps.{IsNode, Acts, answer_of};
 
 use super::acted::Act;
 use memory::{map, queue};
-use rules::Report;
+use rules::Refusal;
 
 // How many messages of group g are in the hardware queue.
 pub fn queued_of(m: &[u32], g: u32) -> u32
@@ -20,12 +20,10 @@ pub fn queued_of(m: &[u32], g: u32) -> u32
     ensures { (n : Node) (r : List ℕ) → Holds m.now n r → result ≡ length (in_queue n g) }
 {
     let mut k: u32 = 0;
-    let mut i: u32 = 0;
-    while i < m[map::QUEUED] {
+    for i in 0..m[map::QUEUED] {
         if m[map::queue_at(i)] == g {
             k += 1;
         }
-        i += 1;
     }
     k
 }
@@ -50,52 +48,44 @@ pub fn pledges(m: &[u32], g: u32) -> u32
     ensures { (n : Node) (r : List ℕ) → Holds m.now n r → (x : Message) → x.group ≡ g → result ≡ pledges paper01 (queued x n) }
 {
     let mut sum: u32 = 0;
-    let mut i: u32 = 0;
-    while i < memory::Node::GROUPS {
-        i += 1;
+    for i in 1..=memory::Node::GROUPS {
         sum += pledge_of(m, i, g);
     }
     sum
 }
 
-// The number that an arrival is refused with, 0 where it is accepted.
-pub fn refusal(m: &[u32], g: u32, words: &[u32]) -> u32
+// Whether an arrival is accepted, and what it is refused with.
+pub fn refusal(m: &[u32], g: u32, words: &[u32]) -> Result<(), Refusal>
     requires { IsNode m.now }
-    ensures { (n : Node) (r : List ℕ) → Holds m.now n r → Valid paper01 n → result ≡ refusal paper01 n (arrive g words.now) }
+    ensures { (n : Node) (r : List ℕ) → Holds m.now n r → Valid paper01 n → answer_of result ≡ refusal paper01 n (arrive g words.now) }
 {
-    if g == 0 {
-        return Report::BAD_GROUP;
+    if g == 0 || g > memory::Node::GROUPS {
+        return Err(Refusal::BadGroup);
     }
-    if g > memory::Node::GROUPS {
-        return Report::BAD_GROUP;
-    }
-    if words.len() == 0 {
-        return Report::BAD_WORDS;
-    }
-    if words.len() > memory::Node::WORDS as usize {
-        return Report::BAD_WORDS;
+    if words.len() == 0 || words.len() > memory::Node::WORDS as usize {
+        return Err(Refusal::BadWords);
     }
     if m[map::QUEUED] >= memory::Node::PLACES {
-        return Report::QUEUE_FULL;
+        return Err(Refusal::QueueFull);
     }
     if m[map::FREE_COUNT] + m[map::SWAP_COUNT] > m[map::QUEUED] {
-        return 0;
+        return Ok(());
     }
     if pledges(m, g) > memory::Node::FRAMES + memory::Node::SWAP {
-        return Report::NO_FRAMES;
+        return Err(Refusal::NoFrames);
     }
-    0
+    Ok(())
 }
 
 // A message arrives from the network.
-pub fn arrive(m: &mut [u32], g: u32, words: &[u32]) -> Act
+pub fn arrive(m: &mut [u32], g: u32, words: &[u32]) -> Result<Act, Refusal>
     requires { IsNode m.old }
     ensures { Acts m.old m.new (arrive g words.now) result }
 {
-    let answer = refusal(m, g, words);
-    if answer != 0 {
-        return Act::refused(answer);
-    }
+    refusal(m, g, words)?;
     queue::join(m, g, words);
-    Act::unsettled(0, 0)
+    Ok(Act::Settles {
+        trap: None,
+        moved: 0,
+    })
 }

@@ -7,12 +7,12 @@ ghost use Rattle.node.specs.Steps.{IsRunning, Serves, ActsFor, WithLine, TookFir
 
 use super::acted::Act;
 use memory::{buffer, group, map, queue};
-use rules::Report;
+use rules::{Refusal, Report, Trap};
 
 // B: atomic on, and force too if it is so asked.
 pub fn begin(m: &mut [u32], force: bool) -> Report
     requires { IsRunning m.old }
-    ensures { Serves m.old m.new (begin_atomic force) result }
+    ensures { Serves m.old m.new (begin_atomic force) (Ok result) }
 {
     let g = m[map::RUNNING];
     let x = group::read(m, g);
@@ -23,53 +23,47 @@ pub fn begin(m: &mut [u32], force: bool) -> Report
 }
 
 // N: atomic off, and with it force and revoked.
-pub fn end(m: &mut [u32]) -> Act
+pub fn end(m: &mut [u32]) -> Result<Act, Refusal>
     requires { IsRunning m.old }
     ensures { ActsFor m.old m.new end_atomic result }
 {
     let g = m[map::RUNNING];
     let x = group::read(m, g);
     if x.pending != 0 {
-        return Act::refused(Report::STILL_PENDING);
+        return Err(Refusal::StillPending);
     }
-    let trap = if group::buffered(m, g) {
-        Report::ATOMICITY_EXTEND
-    } else {
-        0
-    };
+    let trap = group::buffered(m, g).then_some(Trap::AtomicityExtend);
     group::set_timer_flags(m, g, 0, 0);
     group::set_flags(m, g, 0, 0);
-    Act::unsettled(trap, 0)
+    Ok(Act::Settles { trap, moved: 0 })
 }
 
 // D: the first message goes and its place is wiped, pending off, timer 0.
-pub fn dispose(m: &mut [u32]) -> Act
+pub fn dispose(m: &mut [u32]) -> Result<Act, Refusal>
     requires { IsRunning m.old }
     ensures { ActsFor m.old m.new dispose result }
 {
     let g = m[map::RUNNING];
     let x = group::read(m, g);
-    if x.count == 0 {
-        if m[map::QUEUED] == 0 {
-            return Act::refused(Report::NO_MESSAGE);
-        }
+    if x.count == 0 && m[map::QUEUED] == 0 {
+        return Err(Refusal::NoMessage);
     }
     let trap = remove(m, g);
     group::set_flags(m, g, x.atomic, 0);
     m[map::TIMER] = 0;
-    Act::unsettled(trap, 0)
+    Ok(Act::Settles { trap, moved: 0 })
 }
 
 // The first message of the running group's line goes, from its buffer or from the head of the queue: the trap of the first. In the buffer its
 // place is wiped, kept length too, and with it a frame that it leaves; in the queue the others move up, and the last place is wiped.
-pub fn remove(m: &mut [u32], g: u32) -> u32
+pub fn remove(m: &mut [u32], g: u32) -> Option<Trap>
     requires { Some m.old (WithLine g) }
     ensures { (n : Node) (r : List ℕ) → Holds m.old n r → WithLine g n → TookFirst m.new n r result }
 {
     if group::holds(m, g) {
         buffer::unbuffer(m, g);
-        return Report::DISPOSE_EXTEND;
+        return Some(Trap::DisposeExtend);
     }
     queue::drop_head(m);
-    0
+    None
 }

@@ -17,10 +17,7 @@ pub fn stays(m: &[u32], g: u32) -> bool
     requires size_in_bounds { size ≤ length m.now }
     ensures { (n : Node) (r : List ℕ) → Holds m.now n r → (x : Message) → x.group ≡ g → may_stay n x ≡ result }
 {
-    if m[map::RUNNING] != g {
-        return false;
-    }
-    !group::buffered(m, g)
+    m[map::RUNNING] == g && !group::buffered(m, g)
 }
 
 // The head of the queue moves to the end of its group's buffer.
@@ -29,9 +26,8 @@ pub fn move_head(m: &mut [u32])
     ensures { Becomes m.old m.new Headed moving_head }
 {
     let g = m[map::QUEUE_AT];
-    let len = m[map::QUEUE_AT + 1];
-    let words = words::eight(m, map::QUEUE_AT + 2);
-    buffer::store(m, g, len, words);
+    let head = words::message(m, map::QUEUE_AT + map::LENGTH);
+    buffer::store(m, g, head);
     queue::drop_head(m);
 }
 
@@ -41,10 +37,7 @@ pub fn forced(m: &[u32]) -> bool
     ensures { (n : Node) (r : List ℕ) → Holds m.now n r → Sound paper01 n → forced n ≡ result }
 {
     let g = m[map::RUNNING];
-    if g == 0 {
-        return false;
-    }
-    map::group_word(m, g, map::FORCE) != 0
+    g != 0 && map::group_word(m, g, map::FORCE) != 0
 }
 
 // Whether the timer runs: a message is queued, or it is forced.
@@ -52,10 +45,7 @@ pub fn timer_runs(m: &[u32]) -> bool
     requires { Some m.now (Sound paper01) }
     ensures { (n : Node) (r : List ℕ) → Holds m.now n r → Sound paper01 n → timer_runs n ≡ result }
 {
-    if m[map::QUEUED] != 0 {
-        return true;
-    }
-    forced(m)
+    m[map::QUEUED] != 0 || forced(m)
 }
 
 // A timer that does not run is put to rest.
@@ -110,10 +100,8 @@ pub fn upcall(m: &mut [u32]) -> u32
     if x.atomic != 0 {
         return 0;
     }
-    if x.count == 0 {
-        if m[map::QUEUED] == 0 {
-            return 0;
-        }
+    if x.count == 0 && m[map::QUEUED] == 0 {
+        return 0;
     }
     group::set_flags(m, g, 1, 1);
     g

@@ -29,13 +29,11 @@ pub fn mail_set(m: &[u32]) -> u32
     ensures { (n : Node) (r : List ℕ) → Holds m.now n r → Valid paper01 n → result ≡ mail_set n }
 {
     let mut set: u32 = 0;
-    let mut g: u32 = memory::Node::GROUPS;
-    while g > 0 {
+    for g in (1..=memory::Node::GROUPS).rev() {
         set *= 2;
         if mail(m, g) {
             set += 1;
         }
-        g -= 1;
     }
     set
 }
@@ -56,8 +54,8 @@ pub fn next(set: u32, running: u32) -> u32
 // C: nothing settles after it, and no upcall is due.
 pub fn turn(m: &[u32]) -> Act
     requires { IsNode m.now }
-    ensures { Acts m.now m.now turn result }
+    ensures { Acts m.now m.now turn (Ok result) }
 {
     let g = next(mail_set(m), m[map::RUNNING]);
-    Act::done(Report::accepted(g, 0, 0, 0))
+    Act::Done(Report::accepted(g, 0, 0, 0))
 }

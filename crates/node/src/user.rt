@@ -10,47 +10,47 @@ ghost use Rattle.node.specs.Steps.{IsRunning, Serves};
 use super::message;
 use memory::descriptor::Descriptor;
 use memory::{Node, descriptor, map};
-use rules::{Report, Sent};
+use rules::{Refusal, Report, Sent};
 
 // M: how many words the running group's first message has.
 pub fn poll(m: &[u32]) -> Report
     requires { IsRunning m.now }
-    ensures { Serves m.now m.now poll result }
+    ensures { Serves m.now m.now poll (Ok result) }
 {
     let p = message::first(m);
     Report::accepted(p.len as u32, 0, 0, 0)
 }
 
 // E: word i of that message, read where it stands.
-pub fn peek(m: &[u32], i: u32) -> Report
+pub fn peek(m: &[u32], i: u32) -> Result<Report, Refusal>
     requires { IsRunning m.now }
     ensures { Serves m.now m.now (peek i) result }
 {
     let p = message::first(m);
     if p.len == 0 {
-        return Report::refused(Report::NO_MESSAGE);
+        return Err(Refusal::NoMessage);
     }
     let at = i as usize;
     if p.len <= at {
-        return Report::refused(Report::PAST_MESSAGE);
+        return Err(Refusal::PastMessage);
     }
     let start = p.start;
-    Report::accepted(m[start + at], 0, 0, 0)
+    Ok(Report::accepted(m[start + at], 0, 0, 0))
 }
 
 // P: a word joins the running group's descriptor.
-pub fn describe(m: &mut [u32], w: u32) -> Report
+pub fn describe(m: &mut [u32], w: u32) -> Result<Report, Refusal>
     requires { IsRunning m.old }
     ensures { Serves m.old m.new (describe w) result }
 {
     let g = m[map::RUNNING];
     let d = descriptor::read(m, g);
     if Node::WORDS <= d.len {
-        return Report::refused(Report::DESCRIPTOR_FULL);
+        return Err(Refusal::DescriptorFull);
     }
     let next = d.described(w);
     descriptor::write(m, g, next);
-    Report::accepted(next.len, 0, 0, 0)
+    Ok(Report::accepted(next.len, 0, 0, 0))
 }
 
 // What is reported of a descriptor that group g sends.
@@ -62,7 +62,7 @@ fn sent(to: u32, g: u32, d: Descriptor) -> Report
         node: to,
         group: g,
         len: d.len,
-        words: words,
+        words,
     };
     Report {
         answer: 0,
@@ -70,23 +70,23 @@ fn sent(to: u32, g: u32, d: Descriptor) -> Report
         trap: 0,
         upcall: 0,
         moved: 0,
-        sent: sent,
+        sent,
     }
 }
 
 // L: the running group's descriptor is sent, and emptied.
-pub fn launch(m: &mut [u32], to: u32) -> Report
+pub fn launch(m: &mut [u32], to: u32) -> Result<Report, Refusal>
     requires { IsRunning m.old }
     ensures { Serves m.old m.new (launch to) result }
 {
     let g = m[map::RUNNING];
     let d = descriptor::read(m, g);
     if d.len == 0 {
-        return Report::refused(Report::DESCRIPTOR_EMPTY);
+        return Err(Refusal::DescriptorEmpty);
     }
     if Node::LAST_NODE < to {
-        return Report::refused(Report::BAD_NODE);
+        return Err(Refusal::BadNode);
     }
     descriptor::write(m, g, d.launched());
-    sent(to, g, d)
+    Ok(sent(to, g, d))
 }

@@ -11,3 +11,4 @@ pub mod CountLaws
 pub mod FollowLaws
 pub mod WhyLaws
 pub mod WhyCasesLaws
+pub mod NumberLaws

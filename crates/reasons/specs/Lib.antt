@@ -4,3 +4,4 @@ pub mod ByPlace
 pub mod Follow
 pub mod Told
 pub mod WhyCases
+pub mod Numbers

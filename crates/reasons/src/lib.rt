@@ -1,19 +1,34 @@
-// Why a message left the hardware queue: the reasons and the refusal by their numbers.
+// Why a message left the hardware queue, or why nothing is told of a line.
 #![tactic(auto)]
 
-pub const DISPOSED_OF: u32 = 1;
+ghost use Rattle.std.specs.Prelude.{◌≡◌};
+ghost use Rattle.reasons.specs.Numbers.{untold_number};
 
-pub const STILL_QUEUED: u32 = 2;
+// The reasons. `as u32` gives the number of each.
+#[derive(Clone, Copy, PartialEq, Eq, Debug)]
+pub enum Reason {
+    DisposedOf = 1,
+    StillQueued = 2,
+    NotRunning = 3,
+    OlderWaiting = 4,
+    Revoked = 5,
+    Timeout = 6,
+    ProcessorTaken = 7,
+}
 
-pub const NOT_RUNNING: u32 = 3;
+// Why nothing is told: the memory is no node, or the line can't be read, or it is no accepted arrival or not in the script.
+#[derive(Clone, Copy, PartialEq, Eq, Debug)]
+pub enum Untold {
+    NotNode = 1,
+    Unreadable = 2,
+    NoArrival = 17,
+}
 
-pub const OLDER_WAITING: u32 = 4;
+// The number of each.
+impl From<Untold> for u32 {
+    ghost from_gives = { λ refusal number. number ≡ untold_number refusal };
 
-pub const REVOKED: u32 = 5;
-
-pub const TIMEOUT: u32 = 6;
-
-pub const PROCESSOR_TAKEN: u32 = 7;
-
-// The line asked for is no accepted arrival, or not in the script.
-pub const NO_ARRIVAL: u32 = 17;
+    fn from(refusal: Untold) -> u32 {
+        refusal as u32
+    }
+}

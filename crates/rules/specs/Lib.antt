@@ -4,6 +4,7 @@ pub mod Node
 pub mod Frames
 pub mod Paging
 pub mod Operation
+pub mod Numbers
 pub mod Types
 pub mod Refusal
 pub mod Settling

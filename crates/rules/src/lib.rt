@@ -2,6 +2,7 @@
 #![tactic(auto)]
 
 ghost use Rattle.std.specs.Prelude.{◌≡◌};
+ghost use Rattle.rules.specs.Numbers.{refusal_number};
 ghost use Rattle.rules.specs.Operation.{accepted_with, refused};
 ghost use Rattle.rules.specs.Types.{report_of};
 
@@ -25,6 +26,35 @@ pub enum Operation {
     Unknown,
 }
 
+// Why a step is refused. `as u32` gives the number that a report has for it.
+#[derive(Clone, Copy, PartialEq, Eq, Debug)]
+pub enum Refusal {
+    NotNode = 1,
+    Unreadable = 2,
+    BadGroup = 3,
+    BadWords = 4,
+    QueueFull = 5,
+    NoFrames = 6,
+    NobodyRuns = 7,
+    NoMessage = 8,
+    PastMessage = 9,
+    StillPending = 10,
+    DescriptorFull = 11,
+    DescriptorEmpty = 12,
+    BadNode = 13,
+    BadSchedule = 14,
+    BadTicks = 15,
+    AlreadyRuns = 16,
+}
+
+// What an accepted step may bring beside its effect. `as u32` gives the number that a report has for it.
+#[derive(Clone, Copy, PartialEq, Eq, Debug)]
+pub enum Trap {
+    DisposeExtend = 1,
+    AtomicityExtend = 2,
+    TimedOut = 3,
+}
+
 // What an accepted launch sends: the words past len are 0. All 0 where nothing is sent.
 #[derive(Clone, Copy)]
 pub struct Sent {
@@ -34,6 +64,16 @@ pub struct Sent {
     pub words: [u32; 8],
 }
 
+impl Sent {
+    const NOTHING: Sent = Sent {
+        node: 0,
+        group: 0,
+        len: 0,
+        words: [0; 8],
+    };
+}
+
+// What a step tells. Its answer is 0 where the step is accepted, else the number of the refusal; its trap is 0 where there is none.
 #[derive(Clone, Copy)]
 pub struct Report {
     pub answer: u32,
@@ -44,64 +84,18 @@ pub struct Report {
     pub sent: Sent,
 }
 
-// The answers by name: 0 accepted, each refusal by its number.
 impl Report {
-    pub const NOT_NODE: u32 = 1;
-
-    pub const UNREADABLE: u32 = 2;
-
-    pub const BAD_GROUP: u32 = 3;
-
-    pub const BAD_WORDS: u32 = 4;
-
-    pub const QUEUE_FULL: u32 = 5;
-
-    pub const NO_FRAMES: u32 = 6;
-
-    pub const NOBODY_RUNS: u32 = 7;
-
-    pub const NO_MESSAGE: u32 = 8;
-
-    pub const PAST_MESSAGE: u32 = 9;
-
-    pub const STILL_PENDING: u32 = 10;
-
-    pub const DESCRIPTOR_FULL: u32 = 11;
-
-    pub const DESCRIPTOR_EMPTY: u32 = 12;
-
-    pub const BAD_NODE: u32 = 13;
-
-    pub const BAD_SCHEDULE: u32 = 14;
-
-    pub const BAD_TICKS: u32 = 15;
-
-    pub const ALREADY_RUNS: u32 = 16;
-
-    // The traps.
-    pub const DISPOSE_EXTEND: u32 = 1;
-
-    pub const ATOMICITY_EXTEND: u32 = 2;
-
-    pub const TIMED_OUT: u32 = 3;
-
     // An accepted step that sends nothing.
     pub fn accepted(value: u32, trap: u32, upcall: u32, moved: u32) -> Report
         ensures { result ≡ report_of (accepted_with value trap upcall moved) }
     {
-        let nothing = Sent {
-            node: 0,
-            group: 0,
-            len: 0,
-            words: [0u32; 8],
-        };
         Report {
             answer: 0,
-            value: value,
-            trap: trap,
-            upcall: upcall,
-            moved: moved,
-            sent: nothing,
+            value,
+            trap,
+            upcall,
+            moved,
+            sent: Sent::NOTHING,
         }
     }
 
@@ -109,20 +103,22 @@ impl Report {
     pub fn refused(answer: u32) -> Report
         ensures { result ≡ report_of (refused answer) }
     {
-        let nothing = Sent {
-            node: 0,
-            group: 0,
-            len: 0,
-            words: [0u32; 8],
-        };
         Report {
-            answer: answer,
+            answer,
             value: 0,
             trap: 0,
             upcall: 0,
             moved: 0,
-            sent: nothing,
+            sent: Sent::NOTHING,
         }
+    }
+}
+
+impl From<Refusal> for Report {
+    ghost from_gives = { λ refusal report. report ≡ report_of (refused (refusal_number refusal)) };
+
+    fn from(refusal: Refusal) -> Report {
+        Report::refused(refusal as u32)
     }
 }
 

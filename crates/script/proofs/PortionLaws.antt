@@ -13,7 +13,6 @@ use lib.Dec.{eqb}
 use lib.ListN.{length, drop}
 use borrow.Author.Tests.{le-leb}
 use Rattle.rules.specs.Build.{paper01}
-use Rattle.rules.specs.Lists.{all}
 use Rattle.rules.specs.Node.{Node, power_on}
 use Rattle.rules.specs.Script.{ended, newline, script_lines, header, list_from, listing, read_line, report_line}
 use Rattle.rules.specs.Text.{extend_first, split}

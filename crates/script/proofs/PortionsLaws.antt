@@ -18,9 +18,11 @@ use Rattle.script.specs.Feeding.{whole, begun, last_line, lines_behind, rest_beh
 use Rattle.script.specs.Feed.{kept_room, kept_line, last_number, BegunFed, FedTo}
 use Rattle.script.specs.Portions.{Portion, used_of, listed_of, used_bytes, listed_bytes, last_memory, last_newline, last_state, Feeds, ended_script, PortionsListed}
 use Rattle.script.specs.declared.feed.Fed.{Fed as Fed·rt}
+use Rattle.script.specs.declared.play.Stop.TheVariants.{AllUsed}
 use Rattle.script.specs.declared.feed.State.{State as State·rt}
 use Rattle.script.proofs.feed.FedLaws.{fed-numbers, lines_none}
 use Rattle.script.proofs.read.LineEndLaws.{by-test}
+use Rattle.script.proofs.play.StopLaws.{all-or-number}
 use Rattle.script.proofs.PortionLaws.{joins, join_lines, join_rest, whole-newline, whole-other, whole-nil, begun_all, split-some, list-append, lines-ended, listing-memory}
 use Rattle.script.proofs.read.ReadLaws.{reads-long}
 
@@ -237,13 +239,13 @@ pub end-listed : (m s : List ℕ) (st : State·rt) (ps : List Portion) {out m' o
     → Feeds (power_on_memory m).memory st ps
     → used_bytes ps ≡ s
     → FedTo (last_memory (power_on_memory m).memory ps) (last_state st ps) (last_newline (last_state st ps)) out m' out' f
-    → f.stop ≡ 0
+    → f.stop ≡ AllUsed
     → header ++ (listed_bytes ps ++ take f.written out') ≡ listing s
 unfolding Feeds used_bytes used_of listed_bytes listed_of
 end-listed m s st ps {out} {m'} {out'} {f} long zero none feeds used ends stop =
     let m₀ = (power_on_memory m).memory in
     let last = last_state st ps in
-    let few : (last_state st ps).lines + length (last_newline (last_state st ps)) < last_number = fed-numbers ends (λ e. omega arith) in
+    let few : (last_state st ps).lines + length (last_newline (last_state st ps)) < last_number = fed-numbers ends (λ e. all-or-number (sym stop ∙ e)) in
     let p : Portion = record { input = last_newline last; output = out; memory-after = m'; output-after = out'; fed = f } in
     let all : take f.used (last_newline last) ≡ last_newline last = take_all f.used (last_newline last) (let u = (ends.enough few).all-used stop in omega arith) in
     let kept : kept_line last ≡ take kept_room (begun s) = kept-begun ps m₀ [] st whole-nil none feeds ∙ ap (λ (x : List ℕ). take kept_room (begun x)) used in

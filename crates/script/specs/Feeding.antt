@@ -1,6 +1,6 @@
 -- Feeding a script in portions: the lines that are whole so far, the line that has begun, and what the lines so far list and leave. Assumes
 -- nothing.
-use Rattle.std.specs.Prelude.{ℕ, suc, ◌+◌, cond, List, [], ◌∷◌, ◌++◌}
+use Rattle.std.specs.Prelude.{ℕ, suc, cond, List, [], ◌∷◌, ◌++◌}
 use Rattle.rules.specs.Lists.{is_empty}
 use Rattle.rules.specs.MemoryTest.{step_memory}
 use Rattle.rules.specs.Script.{newline, read_line, report_line}

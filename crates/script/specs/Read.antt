@@ -1,5 +1,5 @@
 -- What reading promises: a number, the fields behind a letter, and a whole line, each as the rules read it. Assumes nothing.
-use Rattle.std.specs.Prelude.{ℕ, ◌+◌, ◌-◌, ◌≤◌, Bool, true, false, cond, not, ◌&&◌, ◌≢◌, ◌≡◌, List, [], ◌∷◌, eqb, leb, ltb, length, take, drop, get_or}
+use Rattle.std.specs.Prelude.{ℕ, ◌+◌, ◌-◌, ◌≤◌, Bool, true, false, cond, not, ◌&&◌, ◌≢◌, ◌≡◌, List, [], ◌∷◌, eqb, leb, ltb, length, take, drop, get_or, Option as Maybe, Some, None, Result, Ok, Err}
 use Prim.Native.Char.{code}
 use Rattle.std.proofs.Math.Option.{Option, none, some}
 use Rattle.rules.specs.Text.{split, is_digit}
@@ -44,33 +44,47 @@ numbers_behind (x ∷ xs) = elim (eqb x (code ",")) [ true ↦ numbers (split (c
 unfoldable pub rest_of_line : List ℕ → Option (List ℕ)
 rest_of_line r = cond (leb line_limit (length r)) none (numbers_behind r)
 
+-- the number that was read, where there is one
+abbrev pub found_number : Maybe ℕ → Option ℕ
+found_number None = none
+found_number (Some n) = some n
+
 -- what is told where no number stands
 abbrev pub no_number : ℕ → Digits·rt
-no_number next = record { ok = false; value = 0; next = next }
+no_number next = record { value = None; next = next }
 
 -- digits read: how many they are and what they write decide
 pub record Judged (value count next : ℕ) (d : Digits·rt) : Type 0 where
-  pub found : cond d.ok (some d.value) none ≡ cond (not (eqb count 0) && leb value largest) (some value) none
+  pub found : found_number d.value ≡ cond (not (eqb count 0) && leb value largest) (some value) none
   pub behind : d.next ≡ next
 
 -- the fields that end behind some bytes of their line
-abbrev pub fields_ended : Bool → ℕ → ℕ → ℕ → Fields·rt
-fields_ended line long count next = record { ok = line && ltb long line_limit; count = count; next = next }
+abbrev pub fields_ended : Bool → ℕ → ℕ → ℕ → Result Fields·rt ℕ
+fields_ended line long count next = cond (line && ltb long line_limit) (Ok (record { count = count; next = next })) (Err next)
+
+-- the fields that were read, where none is bad, and the position behind what was read
+abbrev pub fields_of : List ℕ → Result Fields·rt ℕ → Option (List ℕ)
+fields_of fields (Ok f) = some (take f.count fields)
+fields_of fields (Err stop) = none
+
+abbrev pub read_to : Result Fields·rt ℕ → ℕ
+read_to (Ok f) = f.next
+read_to (Err stop) = stop
 
 -- a number read at a position
 pub record NumberRead (s : List ℕ) (at : ℕ) (d : Digits·rt) : Type 0 where
-  pub found : cond d.ok (some d.value) none ≡ number (digits_of (drop at s))
-  pub behind : d.ok ≡ true → d.next ≡ at + length (digits_of (drop at s))
+  pub found : found_number d.value ≡ number (digits_of (drop at s))
+  pub behind : (n : ℕ) → d.value ≡ Some n → d.next ≡ at + length (digits_of (drop at s))
   pub inside : d.next ≤ length s
   pub same_line : line_end s d.next ≡ line_end s at
 
 -- the fields read at the position behind a letter
-pub record FieldsRead (s : List ℕ) (at : ℕ) (fields : List ℕ) (f : Fields·rt) : Type 0 where
-  pub found : cond f.ok (some (take f.count fields)) none ≡ rest_of_line (line_of (drop at s))
-  pub ended : f.ok ≡ true → f.next ≡ line_end s at
-  pub counted : f.count ≤ field_limit
-  pub inside : f.next ≤ length s
-  pub same_line : line_end s f.next ≡ line_end s at
+pub record FieldsRead (s : List ℕ) (at : ℕ) (fields : List ℕ) (r : Result Fields·rt ℕ) : Type 0 where
+  pub found : fields_of fields r ≡ rest_of_line (line_of (drop at s))
+  pub ended : (f : Fields·rt) → r ≡ Ok f → f.next ≡ line_end s at
+  pub counted : (f : Fields·rt) → r ≡ Ok f → f.count ≤ field_limit
+  pub inside : read_to r ≤ length s
+  pub same_line : line_end s (read_to r) ≡ line_end s at
 
 -- B by its number
 unfoldable pub BeginRead : ℕ → Operation·rt → Type 0

@@ -9,6 +9,7 @@ use Rattle.rules.specs.Text.{decimal}
 use Rattle.rules.specs.Types.{report_of}
 use Rattle.rules.specs.declared.Report.{Report as Report·rt}
 use Rattle.rules.specs.declared.Sent.{Sent as Sent·rt}
+use Rattle.script.specs.declared.write.Counter.{Counter as Counter·rt}
 
 -- the bytes bs are written behind the first `at` of the output, which then is written up to at'
 pub record Appended (out : List ℕ) (at : ℕ) (out' : List ℕ) (at' : ℕ) (bs : List ℕ) : Type 0 where
@@ -24,7 +25,7 @@ field n = code "," ∷ decimal n
 unfoldable pub fields : List ℕ → List ℕ
 fields ns = concat_map field ns
 
--- the count of digits that a line number has room for
+-- the count of digits that a counter has room for
 abbrev pub places : ℕ
 places = 20
 
@@ -32,21 +33,21 @@ places = 20
 abbrev pub last_count : ℕ
 last_count = 99_999_999_999_999_999_999
 
--- the first `len` of the digits write the number i
-pub record Counts (digits : List ℕ) (len i : ℕ) : Type 0 where
-  pub whole : length digits ≡ places
-  pub within : len ≤ places
-  pub text : take len digits ≡ decimal i
+-- a counter stands at the number i: the first `len` of its digits write it
+pub record Counts (counter : Counter·rt) (i : ℕ) : Type 0 where
+  pub whole : length counter.digits ≡ places
+  pub within : counter.len ≤ places
+  pub text : take counter.len counter.digits ≡ decimal i
 
--- they write some number
-pub record Counting (digits : List ℕ) (len : ℕ) : Type 0 where
+-- it stands at some number
+pub record Counting (counter : Counter·rt) : Type 0 where
   pub number : ℕ
-  pub counts : Counts digits len number
+  pub counts : Counts counter number
 
--- they write some number that is not the largest
-pub record Countable (digits : List ℕ) (len : ℕ) : Type 0 where
+-- it stands at some number that is not the largest
+pub record Countable (counter : Counter·rt) : Type 0 where
   pub number : ℕ
-  pub counts : Counts digits len number
+  pub counts : Counts counter number
   pub below : number < last_count
 
 -- what was sent, as numbers in the order of the listing: none where there are no words
@@ -83,7 +84,7 @@ report_room = 5 * field_room + sent_room + 1
 abbrev pub line_room : ℕ
 line_room = 192
 
--- whatever number i the digits write and whatever report r is, its line is written
-abbrev pub Line : List ℕ → ℕ → List ℕ → ℕ → List ℕ → ℕ → Report·rt → Type 0
-Line digits len out at out' at' r =
-    (i : ℕ) (q : Report) → Counts digits len i → r ≡ report_of q → Listed q → Appended out at out' at' (report_line i q)
+-- whatever number i the counter stands at and whatever report r is, its line is written
+abbrev pub Line : Counter·rt → List ℕ → ℕ → List ℕ → ℕ → Report·rt → Type 0
+Line counter out at out' at' r =
+    (i : ℕ) (q : Report) → Counts counter i → r ≡ report_of q → Listed q → Appended out at out' at' (report_line i q)

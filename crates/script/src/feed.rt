@@ -5,13 +5,10 @@ ghost use Rattle.script.specs.Feed.{kept_room, kept_line, Cut, LinesFeedable, Li
 ghost use Rattle.script.specs.Portions.{last_newline};
 ghost use Rattle.script.specs.Read.{OneLine, line_of};
 
-use crate::play::{ALL_USED, NO_ROOM, play, play_text};
+use crate::play::{Stop, play, play_text};
 use crate::read::{NEWLINE, end_of_line};
-use crate::write::{LINE_ROOM, PLACES, put_number, put_text};
+use crate::write::{Counter, LINE_ROOM, put_text};
 use validate::is_node;
-
-// Feeding stopped because fewer line numbers are left than the portion has bytes.
-pub const LAST_NUMBER: u32 = 2;
 
 // How many bytes of a line that has begun are kept: one more than a line may have, since a longer one can't be read whatever follows.
 pub const KEPT: usize = 129;
@@ -33,7 +30,7 @@ pub struct Fed {
     pub state: State,
     pub used: usize,
     pub written: usize,
-    pub stop: u32,
+    pub stop: Stop,
 }
 
 impl State {
@@ -62,11 +59,8 @@ pub fn keep(kept: &mut [u8], count: usize, text: &[u8]) -> usize
     requires { (kept_room ≤ length kept.old) × (count ≤ kept_room) }
     ensures { (take result kept.new ≡ take kept_room (take count kept.old ++ text.now)) × (result ≤ kept_room) }
 {
-    let room = KEPT - count;
-    if text.len() > room {
-        return put_text(kept, count, &text[0..room]);
-    }
-    put_text(kept, count, text)
+    let fits = text.len().min(KEPT - count);
+    put_text(kept, count, &text[..fits])
 }
 
 // The position behind the last newline from a position on, or that position.
@@ -74,14 +68,10 @@ pub fn behind_last(s: &[u8], from: usize) -> usize
     requires { from ≤ length s.now }
     ensures { Cut s.now from result }
 {
-    let mut i = s.len();
-    while i > from {
-        if s[i - 1] == NEWLINE {
-            return i;
-        }
-        i -= 1;
+    match s[from..].iter().rposition(|b| *b == NEWLINE) {
+        Some(last) => from + last + 1,
+        None => from,
     }
-    from
 }
 
 // The whole lines of a portion from a position on, and what is kept of the line that has begun behind them.
@@ -92,16 +82,15 @@ fn feed_lines(
     start: usize,
     out: &mut [u8],
     at: usize,
-    digits: &mut [u8; PLACES],
-    len: usize,
+    counter: &mut Counter,
     lines: u64,
 ) -> Fed
-    requires { LinesFeedable memory.old good input.now start out.old at digits.old len lines }
+    requires { LinesFeedable memory.old good input.now start out.old at counter.old lines }
     ensures { LinesFed memory.old input.now start out.old at lines memory.new out.new result }
 {
     let last = behind_last(input, start);
-    let p = play(memory, good, &input[0..last], start, out, at, digits, len);
-    if p.stop != ALL_USED {
+    let p = play(memory, good, &input[0..last], start, out, at, counter);
+    if p.stop != Stop::AllUsed {
         return Fed {
             state: State {
                 lines: lines + p.lines as u64,
@@ -118,12 +107,12 @@ fn feed_lines(
     Fed {
         state: State {
             lines: lines + p.lines as u64,
-            kept: kept,
-            count: count,
+            kept,
+            count,
         },
         used: input.len(),
         written: p.at,
-        stop: ALL_USED,
+        stop: Stop::AllUsed,
     }
 }
 
@@ -131,58 +120,42 @@ fn feed_lines(
 fn feed_begun(
     memory: &mut [u32],
     good: bool,
-    kept: [u8; KEPT_LINE],
-    count: usize,
-    lines: u64,
+    state: State,
     input: &[u8],
     out: &mut [u8],
-    digits: &mut [u8; PLACES],
-    len: usize,
+    counter: &mut Counter,
 ) -> Fed
-    requires count_le_kept_room { (count ≤ kept_room) × (kept_room < length kept) }
-    requires one_line { OneLine (take count kept) }
-    requires lines_feedable { LinesFeedable memory.old good input.now 0 out.old 0 digits.old len lines }
-    ensures { BegunFed memory.old (take count kept) lines input.now out.old memory.new out.new result }
+    requires room { (state.count ≤ kept_room) × (kept_room < length state.kept) }
+    requires one_line { OneLine (take state.count state.kept) }
+    requires lines_feedable { LinesFeedable memory.old good input.now 0 out.old 0 counter.old state.lines }
+    ensures { BegunFed memory.old (take state.count state.kept) state.lines input.now out.old memory.new out.new result }
 {
-    let mut line = kept;
+    let lines = state.lines;
+    let mut line = state.kept;
     let end = end_of_line(input, 0);
-    let grown = keep(&mut line, count, &input[0..end]);
+    let grown = keep(&mut line, state.count, &input[0..end]);
     if end == input.len() {
         return Fed {
             state: State {
-                lines: lines,
+                lines,
                 kept: line,
                 count: grown,
             },
             used: end,
             written: 0,
-            stop: ALL_USED,
+            stop: Stop::AllUsed,
         };
     }
     if out.len() < LINE_ROOM {
         return Fed {
-            state: State {
-                lines: lines,
-                kept: kept,
-                count: count,
-            },
+            state,
             used: 0,
             written: 0,
-            stop: NO_ROOM,
+            stop: Stop::NoRoom,
         };
     }
-    let p = play_text(memory, good, &mut line, grown, out, digits, len);
-    feed_lines(
-        memory,
-        good,
-        input,
-        end + 1,
-        out,
-        p.at,
-        digits,
-        p.len,
-        lines + 1,
-    )
+    let p = play_text(memory, good, &mut line, grown, out, counter);
+    feed_lines(memory, good, input, end + 1, out, p.at, counter, lines + 1)
 }
 
 // How long the line is that a state keeps: a state made by hand may have any count, and a newline among its bytes.
@@ -190,10 +163,8 @@ pub fn kept_count(kept: &[u8], count: usize) -> usize
     requires { kept_room ≤ length kept.now }
     ensures { (result ≤ kept_room) × (take result kept.now ≡ line_of (take kept_room (take count kept.now))) }
 {
-    if count > KEPT {
-        return end_of_line(&kept[0..KEPT], 0);
-    }
-    end_of_line(&kept[0..count], 0)
+    let all = count.min(KEPT);
+    end_of_line(&kept[..all], 0)
 }
 
 // The next portion of a script: the lines that it completes are stepped on the memory and listed from the beginning of the output, and the line
@@ -202,38 +173,24 @@ pub fn kept_count(kept: &[u8], count: usize) -> usize
 pub fn feed(memory: &mut [u32], state: State, input: &[u8], out: &mut [u8]) -> Fed
     ensures { FedTo memory.old state input.now out.old memory.new out.new result }
 {
-    let kept = state.kept;
     let lines = state.lines;
     if u64::MAX - lines <= input.len() as u64 {
         return Fed {
-            state: State {
-                lines: lines,
-                kept: kept,
-                count: state.count,
-            },
+            state,
             used: 0,
             written: 0,
-            stop: LAST_NUMBER,
+            stop: Stop::LastNumber,
         };
     }
     let good = is_node(memory);
-    let mut digits = [0u8; PLACES];
-    let len = put_number(&mut digits, 0, lines);
+    let mut counter = Counter::new(lines);
     if state.count == 0 {
-        return feed_lines(memory, good, input, 0, out, 0, &mut digits, len, lines);
+        return feed_lines(memory, good, input, 0, out, 0, &mut counter, lines);
     }
+    let kept = state.kept;
     let count = kept_count(&kept, state.count);
-    feed_begun(
-        memory,
-        good,
-        kept,
-        count,
-        lines,
-        input,
-        out,
-        &mut digits,
-        len,
-    )
+    let begun = State { lines, kept, count };
+    feed_begun(memory, good, begun, input, out, &mut counter)
 }
 
 // The script's end: a line that has begun is its last, and gets its newline.

@@ -3,24 +3,26 @@ ghost use Rattle.std.specs.Prelude.{◌≡◌, ◌-◌, ◌≤◌, length, take,
 ghost use Rattle.script.specs.Play.{LinePlayable, LinePlayed, TextPlayable, TextPlayed, Playable, PlayedTo};
 
 use crate::read::{FIELDS, NEWLINE};
-use crate::write::PLACES;
+use crate::write::Counter;
 use crate::{read, write};
 use node::step_known;
 
-// Why playing stopped: all was used, or the output has no room for one more line.
-pub const ALL_USED: u32 = 0;
+// Why playing stopped: all was used, the output has no room for one more line, or fewer line numbers are left than there are bytes. C is told
+// which by its number.
+#[derive(Clone, Copy, PartialEq, Eq, Debug)]
+pub enum Stop {
+    AllUsed,
+    NoRoom,
+    LastNumber,
+}
 
-pub const NO_ROOM: u32 = 1;
-
-// How far a play came: the position behind what was used, the end of what was written, how many digits the line number has, how many lines
-// were played, and why it stopped.
+// How far a play came: the position behind what was used, the end of what was written, how many lines were played, and why it stopped.
 #[derive(Clone, Copy)]
 pub struct Played {
     pub used: usize,
     pub at: usize,
-    pub len: usize,
     pub lines: usize,
-    pub stop: u32,
+    pub stop: Stop,
 }
 
 // The words of an arrival: the fields behind the first.
@@ -43,24 +45,22 @@ fn play_line(
     fields: &mut [u32],
     out: &mut [u8],
     at: usize,
-    digits: &mut [u8; PLACES],
-    len: usize,
+    counter: &mut Counter,
 ) -> Played
-    requires { LinePlayable memory.old good s.now from fields.old out.old at digits.old len }
-    ensures { LinePlayed memory.old s.now from out.old at digits.old len memory.new out.new digits.new result }
+    requires { LinePlayable memory.old good s.now from fields.old out.old at counter.old }
+    ensures { LinePlayed memory.old s.now from out.old at counter.old memory.new out.new counter.new result }
 {
     let l = read::read_at(s, from, fields);
     let op = l.op;
     let count = l.count;
     let r = step_known(memory, good, op, words_of(fields, count));
-    let digits_len = write::next(digits, len);
-    let end = write::put_line(out, at, digits, digits_len, r);
+    counter.next();
+    let end = write::put_line(out, at, counter, r);
     Played {
         used: l.next,
         at: end,
-        len: digits_len,
         lines: 1,
-        stop: ALL_USED,
+        stop: Stop::AllUsed,
     }
 }
 
@@ -72,37 +72,25 @@ pub fn play(
     from: usize,
     out: &mut [u8],
     at: usize,
-    digits: &mut [u8; PLACES],
-    len: usize,
+    counter: &mut Counter,
 ) -> Played
-    requires { Playable memory.old good s.now from out.old at digits.old len }
-    ensures { PlayedTo memory.old s.now from out.old at digits.old len memory.new out.new digits.new result }
+    requires { Playable memory.old good s.now from out.old at counter.old }
+    ensures { PlayedTo memory.old s.now from out.old at counter.old memory.new out.new counter.new result }
 {
     let mut fields = [0u32; FIELDS];
     let mut p = Played {
         used: from,
-        at: at,
-        len: len,
+        at,
         lines: 0,
-        stop: ALL_USED,
+        stop: Stop::AllUsed,
     };
     while p.used < s.len() {
         if out.len() - p.at < write::LINE_ROOM {
-            p.stop = NO_ROOM;
+            p.stop = Stop::NoRoom;
             break;
         }
         let lines = p.lines + 1;
-        p = play_line(
-            memory,
-            good,
-            s,
-            p.used,
-            &mut fields,
-            out,
-            p.at,
-            digits,
-            p.len,
-        );
+        p = play_line(memory, good, s, p.used, &mut fields, out, p.at, counter);
         p.lines = lines;
     }
     p
@@ -115,12 +103,11 @@ pub fn play_text(
     text: &mut [u8],
     count: usize,
     out: &mut [u8],
-    digits: &mut [u8; PLACES],
-    len: usize,
+    counter: &mut Counter,
 ) -> Played
-    requires { TextPlayable memory.old good text.old count out.old digits.old len }
-    ensures { TextPlayed memory.old (take count text.old) out.old digits.old len memory.new out.new digits.new result }
+    requires { TextPlayable memory.old good text.old count out.old counter.old }
+    ensures { TextPlayed memory.old (take count text.old) out.old counter.old memory.new out.new counter.new result }
 {
     text[count] = NEWLINE;
-    play(memory, good, &text[0..count + 1], 0, out, 0, digits, len)
+    play(memory, good, &text[0..count + 1], 0, out, 0, counter)
 }

@@ -1,7 +1,6 @@
 // A line of a script read to an operation, in one pass over its bytes. The numbers of a line go into a lent part, which
 // has room for all; the words of an arrival are those behind the first.
 ghost use Rattle.std.specs.Prelude.{◌≡◌, ◌≤◌, ◌<◌, length};
-ghost use Rattle.rules.specs.Text.{is_digit};
 ghost use Rattle.script.specs.Read.{field_limit, line_end, no_number, fields_ended, unreadable_line, Judged, NumberRead, FieldsRead, BeginRead, Alone, WithNumber, Lettered, LineRead, TextRead};
 
 use rules::Operation;
@@ -9,13 +8,7 @@ use rules::Operation;
 // A line has room for no more numbers: each takes a comma and a digit.
 pub const FIELDS: usize = 64;
 
-pub const NEWLINE: u8 = 10;
-
-pub const COMMA: u8 = 44;
-
-pub const ZERO: u8 = 48;
-
-pub const NINE: u8 = 57;
+pub const NEWLINE: u8 = b'\n';
 
 // A line is read up to this many bytes, its newline not counted.
 const LINE_LIMIT: usize = 128;
@@ -23,21 +16,16 @@ const LINE_LIMIT: usize = 128;
 // A number has at most this many digits.
 const DIGIT_LIMIT: usize = 10;
 
-// A number is at most this.
-const LARGEST: u64 = 4294967295;
-
-// A number, where it is one, and the position behind what was read of it.
+// A number, where there is one, and the position behind what was read of it.
 #[derive(Clone, Copy)]
 pub struct Digits {
-    pub ok: bool,
-    pub value: u32,
+    pub value: Option<u32>,
     pub next: usize,
 }
 
-// How many numbers stand behind a letter, where none is bad, and the position behind what was read of them.
+// How many numbers stand behind a letter, and the position behind them.
 #[derive(Clone, Copy)]
 struct Fields {
-    ok: bool,
     count: usize,
     next: usize,
 }
@@ -50,25 +38,11 @@ pub struct Line {
     pub next: usize,
 }
 
-// A byte is a decimal digit.
-fn is_digit(b: u8) -> bool
-    ensures { is_digit b ≡ result }
-{
-    if b < ZERO {
-        return false;
-    }
-    b <= NINE
-}
-
 // What is told where no number stands.
 fn no_number(next: usize) -> Digits
     ensures { result ≡ no_number next }
 {
-    Digits {
-        ok: false,
-        value: 0,
-        next: next,
-    }
+    Digits { value: None, next }
 }
 
 // Digits are a number where there are some and the number is not too large.
@@ -78,13 +52,9 @@ fn judged(value: u64, count: usize, next: usize) -> Digits
     if count == 0 {
         return no_number(next);
     }
-    if value > LARGEST {
-        return no_number(next);
-    }
     Digits {
-        ok: true,
-        value: value as u32,
-        next: next,
+        value: u32::try_from(value).ok(),
+        next,
     }
 }
 
@@ -94,41 +64,31 @@ pub fn number(s: &[u8], at: usize) -> Digits
     ensures { NumberRead s.now at result }
 {
     let mut value = 0u64;
-    let mut i = at;
-    while i < s.len() {
+    for i in at..s.len() {
         let b = s[i];
-        if !is_digit(b) {
+        if !b.is_ascii_digit() {
             return judged(value, i - at, i);
         }
         if i - at >= DIGIT_LIMIT {
             return no_number(i);
         }
-        value = value * 10 + (b - ZERO) as u64;
-        i += 1;
+        value = value * 10 + (b - b'0') as u64;
     }
-    judged(value, i - at, i)
+    judged(value, s.len() - at, s.len())
 }
 
 // The fields end behind `length` bytes: they are read where the line ends there too and is not over its limit.
-fn ended(line: bool, length: usize, count: usize, next: usize) -> Fields
+fn ended(line: bool, length: usize, count: usize, next: usize) -> Result<Fields, usize>
     ensures { result ≡ fields_ended line length count next }
 {
-    if !line {
-        return Fields {
-            ok: false,
-            count: count,
-            next: next,
-        };
+    if line && length < LINE_LIMIT {
+        return Ok(Fields { count, next });
     }
-    Fields {
-        ok: length < LINE_LIMIT,
-        count: count,
-        next: next,
-    }
+    Err(next)
 }
 
-// The numbers behind a letter, up to the end of the line or to what is none.
-fn read_fields(s: &[u8], at: usize, fields: &mut [u32]) -> Fields
+// The numbers behind a letter, up to the end of the line; or where what is none ended the reading.
+fn read_fields(s: &[u8], at: usize, fields: &mut [u32]) -> Result<Fields, usize>
     requires { (at ≤ length s.now) × (field_limit ≤ length fields.old) }
     ensures { FieldsRead s.now at fields.new result }
 {
@@ -136,18 +96,15 @@ fn read_fields(s: &[u8], at: usize, fields: &mut [u32]) -> Fields
     let mut count = 0;
     while i < s.len() {
         let b = s[i];
-        if b != COMMA {
+        if b != b',' {
             return ended(b == NEWLINE, i - at, count, i);
         }
         if i - at >= LINE_LIMIT - 1 {
-            return ended(false, 0, 0, i);
+            return Err(i);
         }
         let n = number(s, i + 1);
         i = n.next;
-        if !n.ok {
-            return ended(false, 0, 0, i);
-        }
-        fields[count] = n.value;
+        fields[count] = n.value.ok_or(i)?;
         count += 1;
     }
     ended(true, i - at, count, i)
@@ -158,14 +115,11 @@ pub fn end_of_line(s: &[u8], from: usize) -> usize
     requires { from ≤ length s.now }
     ensures { result ≡ line_end s.now from }
 {
-    let mut i = from;
-    while i < s.len() {
-        if s[i] == NEWLINE {
-            return i;
-        }
-        i += 1;
-    }
-    i
+    let rest = &s[from..];
+    from + rest
+        .iter()
+        .position(|b| *b == NEWLINE)
+        .unwrap_or(rest.len())
 }
 
 // B by its number, which tells whether it turns force on.
@@ -233,7 +187,7 @@ fn unreadable(next: usize) -> Line
     Line {
         op: Operation::Unknown,
         count: 0,
-        next: next,
+        next,
     }
 }
 
@@ -246,14 +200,13 @@ pub fn read_at(s: &[u8], at: usize, fields: &mut [u32]) -> Line
     if letter == NEWLINE {
         return unreadable(at + 1);
     }
-    let f = read_fields(s, at + 1, fields);
-    if !f.ok {
-        return unreadable(end_of_line(s, f.next) + 1);
-    }
-    Line {
-        op: operation(letter, f.count, fields[0]),
-        count: f.count,
-        next: f.next + 1,
+    match read_fields(s, at + 1, fields) {
+        Ok(f) => Line {
+            op: operation(letter, f.count, fields[0]),
+            count: f.count,
+            next: f.next + 1,
+        },
+        Err(stop) => unreadable(end_of_line(s, stop) + 1),
     }
 }
 
@@ -262,7 +215,7 @@ pub fn read(text: &[u8], fields: &mut [u32]) -> Line
     requires { field_limit ≤ length fields.old }
     ensures { TextRead text.now fields.new result }
 {
-    if text.len() == 0 {
+    if text.is_empty() {
         return unreadable(1);
     }
     let l = read_at(text, 0, fields);

@@ -6,13 +6,12 @@ ghost use Rattle.rules.specs.Text.{decimal};
 ghost use Rattle.script.specs.Written.{Appended, field, places, Counts, Counting, Countable};
 ghost use Rattle.script.specs.Written.{fields, sent_numbers, behind_number, Line, field_room, words_room, sent_room, report_room, line_room};
 
-use crate::read::{COMMA, NEWLINE, NINE, ZERO};
+use crate::read::NEWLINE;
+use memory::words::copy_all;
 use rules::{Report, Sent};
 
 // The places that a line number has.
 pub const PLACES: usize = 20;
-
-const ONE: u8 = 49;
 
 // The decimal digits of n: those of its tenth, then the last.
 pub fn put_number(out: &mut [u8], at: usize, n: u64) -> usize
@@ -20,11 +19,11 @@ pub fn put_number(out: &mut [u8], at: usize, n: u64) -> usize
     ensures { Appended out.old at out.new result (decimal n) }
 {
     if n < 10 {
-        out[at] = ZERO + n as u8;
+        out[at] = b'0' + n as u8;
         return at + 1;
     }
     let last = put_number(out, at, n / 10);
-    out[last] = ZERO + (n % 10) as u8;
+    out[last] = b'0' + (n % 10) as u8;
     last + 1
 }
 
@@ -33,47 +32,59 @@ fn put_field(out: &mut [u8], at: usize, n: u32) -> usize
     requires { at + field_room ≤ length out.old }
     ensures { Appended out.old at out.new result (field n) × (result ≤ at + field_room) }
 {
-    out[at] = COMMA;
+    out[at] = b',';
     if n < 10 {
-        out[at + 1] = ZERO + n as u8;
+        out[at + 1] = b'0' + n as u8;
         return at + 2;
     }
     put_number(out, at + 1, n as u64)
 }
 
-// The next number: nines at the end become zeros, and the digit before them is one more. Where all are nines a one leads the zeros.
-pub fn next(digits: &mut [u8; PLACES], len: usize) -> usize
-    requires { Countable digits.old len }
-    ensures { (i : ℕ) → Counts digits.old len i → Counts digits.new result (i + 1) }
-{
-    let mut i = len - 1;
-    while digits[i] == NINE {
-        digits[i] = ZERO;
-        if i == 0 {
-            digits[0] = ONE;
-            digits[len] = ZERO;
-            return len + 1;
-        }
-        i -= 1;
-    }
-    digits[i] += 1;
-    len
+// A line number that is counted on: the digits that write it, and how many they are.
+#[derive(Clone, Copy)]
+pub struct Counter {
+    pub digits: [u8; PLACES],
+    pub len: usize,
 }
 
-// The line number. All twenty places are copied, from an array that the output can't overlap, which is faster than to copy some; what stands
-// behind the number is written over next.
-pub fn put_counter(out: &mut [u8], at: usize, digits: &[u8; PLACES], len: usize) -> usize
-    requires fact_1 { at + places ≤ length out.old }
-    requires fact_2 { Counting digits.now len }
-    ensures { (i : ℕ) → Counts digits.now len i → Appended out.old at out.new result (decimal i) }
-{
-    let text = *digits;
-    let mut j = 0;
-    while j < PLACES {
-        out[at + j] = text[j];
-        j += 1;
+impl Counter {
+    // A counter at a number.
+    pub fn new(n: u64) -> Counter
+        ensures { Counts result n }
+    {
+        let mut digits = [0u8; PLACES];
+        let len = put_number(&mut digits, 0, n);
+        Counter { digits, len }
     }
-    at + len
+
+    // The next number: nines at the end become zeros, and the digit before them is one more. Where all are nines a one leads the zeros.
+    pub fn next(&mut self)
+        requires { Countable self.old }
+        ensures { (i : ℕ) → Counts self.old i → Counts self.new (i + 1) }
+    {
+        for i in (0..self.len).rev() {
+            if self.digits[i] != b'9' {
+                self.digits[i] += 1;
+                return;
+            }
+            self.digits[i] = b'0';
+        }
+        self.digits[0] = b'1';
+        self.digits[self.len] = b'0';
+        self.len += 1;
+    }
+
+    // The number. All twenty places are copied, from an array that the output can't overlap, which is faster than to copy some; what stands
+    // behind the number is written over next.
+    pub fn put(&self, out: &mut [u8], at: usize) -> usize
+        requires room { at + places ≤ length out.old }
+        requires counting { Counting self.now }
+        ensures { (i : ℕ) → Counts self.now i → Appended out.old at out.new result (decimal i) }
+    {
+        let digits = self.digits;
+        copy_all(&mut out[at..at + PLACES], &digits);
+        at + self.len
+    }
 }
 
 // The first `len` of the words, each as a field.
@@ -81,12 +92,9 @@ fn put_words(out: &mut [u8], at: usize, words: [u32; 8], len: u32) -> usize
     requires { (len ≤ word_limit) × (at + words_room ≤ length out.old) }
     ensures { Appended out.old at out.new result (fields (take len words)) × (result ≤ at + words_room) }
 {
-    let n = len as usize;
     let mut end = at;
-    let mut i = 0;
-    while i < n {
-        end = put_field(out, end, words[i]);
-        i += 1;
+    for word in &words[..len as usize] {
+        end = put_field(out, end, *word);
     }
     end
 }
@@ -125,14 +133,14 @@ fn put_report(out: &mut [u8], at: usize, r: Report) -> usize
 // The room that any line takes, at most.
 pub const LINE_ROOM: usize = 192;
 
-// A line of the listing: its number, kept as text, and the report.
-pub fn put_line(out: &mut [u8], at: usize, digits: &[u8; PLACES], len: usize, r: Report) -> usize
-    requires fact_1 { at + line_room ≤ length out.old }
-    requires fact_2 { Counting digits.now len }
-    requires fact_3 { r.sent.len ≤ word_limit }
-    ensures { Line digits.now len out.old at out.new result r × (result ≤ at + line_room) }
+// A line of the listing: its number and the report.
+pub fn put_line(out: &mut [u8], at: usize, counter: &Counter, r: Report) -> usize
+    requires room { at + line_room ≤ length out.old }
+    requires counting { Counting counter.now }
+    requires words { r.sent.len ≤ word_limit }
+    ensures { Line counter.now out.old at out.new result r × (result ≤ at + line_room) }
 {
-    let number = put_counter(out, at, digits, len);
+    let number = counter.put(out, at);
     put_report(out, number, r)
 }
 
@@ -141,12 +149,9 @@ pub fn put_text(out: &mut [u8], at: usize, text: &[u8]) -> usize
     requires { at + length text.now ≤ length out.old }
     ensures { Appended out.old at out.new result text.now }
 {
-    let mut i = 0;
-    while i < text.len() {
-        out[at + i] = text[i];
-        i += 1;
-    }
-    at + i
+    let end = at + text.len();
+    copy_all(&mut out[at..end], text);
+    end
 }
 
 // The header.

@@ -1,7 +1,7 @@
 -- What a read may answer. Assumes nothing.
-use Rattle.std.specs.Prelude.{ℕ, ◌≤◌, ◌≡◌, ℤ, pos, negsuc}
+use Rattle.std.specs.Prelude.{ℕ, ◌≤◌, Result, IfOk}
+use Rattle.streams.specs.declared.Failed.{Failed as Failed·rt}
 
--- a read that is handed room for n bytes: how many it brought, at most n, or -1
-abbrev pub Moved : ℕ → ℤ → Type 0
-Moved n (pos k) = k ≤ n
-Moved n (negsuc k) = k ≡ 0
+-- a read that is handed room for n bytes: how many it brought, at most n, or that it failed
+abbrev pub Moved : ℕ → Result ℕ Failed·rt → Type 0
+Moved n r = IfOk r (λ k. k ≤ n)

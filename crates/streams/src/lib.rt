@@ -2,7 +2,9 @@
 // error of which stream and why.
 #![tactic(auto)]
 
-ghost use Rattle.std.specs.Prelude.{◌≡◌, ◌≤◌, length};
+pub mod portions;
+
+ghost use Rattle.std.specs.Prelude.{◌≤◌, length};
 ghost use Rattle.streams.specs.Moved.{Moved};
 
 use std::fmt::Display;
@@ -13,6 +15,10 @@ const STDERR: i32 = 2;
 
 // The room of a reason.
 const ROOM: usize = 512;
+
+// Something failed, and what has been said on standard error.
+#[derive(Clone, Copy, Debug, PartialEq, Eq)]
+pub struct Failed;
 
 // Writes bytes on standard error. If that fails there is nowhere to say so.
 pub fn say(bytes: &[u8]) {
@@ -41,36 +47,27 @@ fn number_length(error: Error) -> usize {
 }
 
 // Says of a program which stream failed, and why, in the system's words.
-fn fail(program: &[u8], stream: &[u8], error: Error) {
+fn fail(program: &[u8], stream: &[u8], error: Error) -> Failed {
     let mut room = [0u8; ROOM];
     let end = put_value(&mut room, error).saturating_sub(number_length(error));
     say(program);
     say(stream);
     say(&room[..end]);
     say(b"\n");
+    Failed
 }
 
-// The next portion, by one read: its bytes stand first in the room for it. What the read answers is how many they are, none at the end of the input,
-// and -1 where it failed.
-pub fn read_some<R: Read>(program: &[u8], input: &mut R, room: &mut [u8]) -> isize
+// The next portion, by one read: its bytes stand first in the room for it. What the read answers is how many they are, none at the end of the input.
+pub fn read_some<R: Read>(program: &[u8], input: &mut R, room: &mut [u8]) -> Result<usize, Failed>
     ensures { Moved (length room.new) result }
 {
-    match input.read(room) {
-        Ok(count) => count as isize,
-        Err(error) => {
-            fail(program, b": standard input: ", error);
-            -1
-        }
-    }
+    input
+        .read(room)
+        .map_err(|error| fail(program, b": standard input: ", error))
 }
 
-// Writes bytes on standard output, all of them, and whether that went well.
-pub fn put_all(program: &[u8], rt: &impl Print, bytes: &[u8]) -> bool {
-    match rt.write_all(bytes) {
-        Ok(()) => true,
-        Err(error) => {
-            fail(program, b": standard output: ", error);
-            false
-        }
-    }
+// Writes bytes on standard output, all of them.
+pub fn put_all(program: &[u8], rt: &impl Print, bytes: &[u8]) -> Result<(), Failed> {
+    rt.write_all(bytes)
+        .map_err(|error| fail(program, b": standard output: ", error))
 }

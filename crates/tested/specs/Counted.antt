@@ -1,9 +1,10 @@
--- The line number that digits write, and a bound of it. Assumes nothing.
-use Rattle.std.specs.Prelude.{ℕ, ◌≤◌, List}
+-- The line number that a counter stands at, and a bound of it. Assumes nothing.
+use Rattle.std.specs.Prelude.{ℕ, ◌≤◌}
 use Rattle.script.specs.Written.{Counts}
+use Rattle.script.specs.declared.write.Counter.{Counter as Counter·rt}
 
--- the first `len` of the digits write a number up to `most`
-pub record CountsTo (digits : List ℕ) (len most : ℕ) : Type 0 where
+-- a counter stands at a number up to `most`
+pub record CountsTo (counter : Counter·rt) (most : ℕ) : Type 0 where
   pub number : ℕ
-  pub counts : Counts digits len number
+  pub counts : Counts counter number
   pub few : number ≤ most

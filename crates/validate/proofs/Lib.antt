@@ -1,3 +1,5 @@
 pub mod RangeLaws
+pub mod AllLaws
 pub mod TestLaws
 pub mod FactLaws
+pub mod NodeLaws

@@ -1,14 +1,11 @@
 -- Tests of lists, and of a range by a loop: what the turns so far have passed, and what one failure tells. Assumes nothing.
 use Prim.Native.Nat.{ℕ, zero, suc, ◌+◌, ◌≤◌, ◌<◌}
 use mathlib.Core.Path.{◌≡◌, refl, sym, ap, ◌∙◌}
-use mathlib.Core.Logic.{◌⊎◌, inl, inr}
-use mathlib.Core.Bool.{Bool, true, false, not, ◌&&◌, true≢false, and-true, and_assoc}
+use mathlib.Core.Bool.{Bool, true, false, ◌&&◌, true≢false, and-true, and_assoc}
 use mathlib.Core.List.{List, [], ◌∷◌, ◌++◌}
 use native.Mathlib.Omega.{arith}
-use native.Mathlib.Nat.{add-zero, suc-add, eq-or-lt_of_le}
-use borrow.Author.Tests.{not-true, not-false}
+use native.Mathlib.Nat.{add-zero, suc-add}
 use Rattle.rules.specs.Lists.{all, up_from}
-use Rattle.rules.specs.Build.{group_count}
 use Rattle.rules.specs.Memory.{word, words_at}
 use Rattle.rules.proofs.Map.TestLaws.{range-tells}
 
@@ -16,14 +13,6 @@ use Rattle.rules.proofs.Map.TestLaws.{range-tells}
 pub fails : (t : Bool) → (t ≡ true → ⊥) → t ≡ false
 fails true h = absurd (h refl)
 fails false h = refl
-
--- a first test that fails decides
-pub and-fails : (a b : Bool) → a ≡ false → a && b ≡ false
-and-fails a b e = rw e
-
--- one that passes leaves it to the second
-pub and-passes : (a b t : Bool) → a ≡ true → b ≡ t → a && b ≡ t
-and-passes a b t e f = rw (e, f)
 
 -- a test of two lists joined
 pub all_append : {A : Type 0} (p : A → Bool) (xs ys : List A) → all p (xs ++ ys) ≡ all p xs && all p ys
@@ -64,15 +53,6 @@ module _ (p : ℕ → Bool) (a : ℕ) where
   unfolding Passed
   passed_none j low high = absurd (omega arith)
 
-  -- one more
-  pub passed-more : (i : ℕ) → Passed p a i → p i ≡ true → Passed p a (i + 1)
-  unfolding Passed
-  passed-more i h e j low high = go (eq-or-lt_of_le {n = j} {m = i} (omega arith))
-    where
-      go : (j ≡ i) ⊎ (j < i) → p j ≡ true
-      go (inl q) = rw q e
-      go (inr l) = h j low l
-
   -- at the end all
   pub passed-all : (i k : ℕ) → Passed p a i → a + k ≤ i → all p (up_from a k) ≡ true
   unfolding Passed
@@ -81,27 +61,3 @@ module _ (p : ℕ → Bool) (a : ℕ) where
   -- one that fails decides
   pub failed-all : (i k : ℕ) → a ≤ i → i < a + k → p i ≡ false → all p (up_from a k) ≡ false
   failed-all i k low high e = fails (all p (up_from a k)) (λ f. true≢false (sym ((range-tells p a k).0 f i low high) ∙ e))
-
--- A loop over the groups: those below g pass.
-pub record Below (p : ℕ → Bool) (g : ℕ) : Type 0 where
-  pub low : 1 ≤ g
-  pub high : g ≤ 9
-  pub passed : Passed p 1 g
-
-module _ {p : ℕ → Bool} where
-  -- at first none
-  pub groups_none : Below p 1
-  groups_none = record { low = omega arith; high = omega arith; passed = passed_none p 1 }
-
-  module _ {g : ℕ} {t : Bool} (b : Below p g) (within : g ≤ group_count) (answer : p g ≡ t) where
-    -- one more
-    pub groups-more : t ≡ true → Below p (g + 1)
-    groups-more passes = record { low = omega arith; high = omega arith; passed = passed-more p 1 g b.passed (accepted answer passes) }
-
-    -- one that fails decides
-    pub groups-fail : t ≡ false → all p (up_from 1 group_count) ≡ false
-    groups-fail stops = failed-all p 1 g group_count b.low (omega arith) (refused answer stops)
-
-  -- at the end all
-  pub groups-all : {g : ℕ} → Below p g → group_count < g → all p (up_from 1 group_count) ≡ true
-  groups-all {g} b past = passed-all p 1 g group_count b.passed (omega arith)

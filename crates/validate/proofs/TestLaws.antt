@@ -40,7 +40,7 @@ all-records {at = at} {s = s} {from = from} r p a j (suc k) =
     rw (r.more (a + s * j) k, e) (ap (λ (t : Bool). p (at (a + s * j)) && t) (all-records r p a (suc j) k))
 
 -- two tests that pass together are equal
-same_test : (a b : Bool) → (a ≡ true) ↔ (b ≡ true) → a ≡ b
+pub same_test : (a b : Bool) → (a ≡ true) ↔ (b ≡ true) → a ≡ b
 same_test true b h = sym (h.0 refl)
 same_test false true h = h.1 refl
 same_test false false h = refl
@@ -277,13 +277,3 @@ memory-tested m =
           let t = both.0 h in
           (passes-every memory_tests m).1 (t.0, (t.1.0, (t.1.1.0, (t.1.1.1.0, (t.1.1.1.1.0, (t.1.1.1.1.1, tt)))))),
     )
-
--- a flag that fails
-pub flags-fail : (m : List ℕ) → Counted m → all (flags_good m) (up_from 1 group_count) ≡ false → is_memory m ≡ false
-unfolding is_memory memory_tests
-flags-fail m c e =
-    fails (is_memory m)
-    (λ h.
-    let t = (passes-every memory_tests m).0 h in
-    let held = (and-eq-true_iff (idle_are_wiped m) _).1 (t.1.1.1.1.0, t.1.1.1.1.1.0) in
-    true≢false (sym ((flags-tell m).1 (t.1.1.0, ((node-tested m c).0 held).0)) ∙ e))

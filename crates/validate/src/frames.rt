@@ -9,7 +9,7 @@ ghost use Rattle.validate.specs.Clauses.{list_start, list_count, list_numbers, l
 ghost use Rattle.validate.specs.Known.{Counted, Paged, Framed};
 ghost use Rattle.validate.specs.Masks.{past_masks};
 
-use crate::PAGE_COUNT;
+use crate::{GROUPS_END, PAGE_COUNT};
 use memory::Node;
 use memory::map::{
     COUNT, ENTERED_AT, ENTERED_COUNT, FRAME_STRIDE, FREE_AT, FREE_COUNT, HELD, LINE, LIST, PAGES,
@@ -22,6 +22,7 @@ use memory::words::zeros;
 const MASKS: usize = 16;
 
 // The lists of page numbers: the order of entry, the free line, the swap line, then the groups', that of group g being list g + SWAP_LIST.
+// Numbers and no enum, since the walks below go over a run of them.
 const ENTERED_LIST: u32 = 0;
 
 const FREE_LIST: u32 = 1;
@@ -32,38 +33,32 @@ const SWAP_LIST: u32 = 2;
 const LISTS: u32 = 11;
 
 // Where list l begins.
+#[tactic(auto, unfolding(rules::specs::Memory::group_address, crate::specs::Clauses::list_start))]
 fn list_at(l: u32) -> usize
     requires { l < 11 }
     ensures { result ≡ list_start l }
 {
-    if l == ENTERED_LIST {
-        return ENTERED_AT;
+    match l {
+        ENTERED_LIST => ENTERED_AT,
+        FREE_LIST => FREE_AT,
+        SWAP_LIST => SWAP_AT,
+        _ => group_at(l - SWAP_LIST) + LIST,
     }
-    if l == FREE_LIST {
-        return FREE_AT;
-    }
-    if l == SWAP_LIST {
-        return SWAP_AT;
-    }
-    group_at(l - SWAP_LIST) + LIST
 }
 
 // How many numbers list l has.
+#[tactic(auto, unfolding(rules::specs::Memory::word, crate::specs::Clauses::list_count))]
 fn list_count(m: &[u32], l: u32) -> u32
     requires size_in_bounds { size ≤ length m.now }
     requires l_bound { l < 11 }
     ensures { result ≡ list_count m.now l }
 {
-    if l == ENTERED_LIST {
-        return m[ENTERED_COUNT];
+    match l {
+        ENTERED_LIST => m[ENTERED_COUNT],
+        FREE_LIST => m[FREE_COUNT],
+        SWAP_LIST => m[SWAP_COUNT],
+        _ => group_word(m, l - SWAP_LIST, HELD),
     }
-    if l == FREE_LIST {
-        return m[FREE_COUNT];
-    }
-    if l == SWAP_LIST {
-        return m[SWAP_COUNT];
-    }
-    group_word(m, l - SWAP_LIST, HELD)
 }
 
 // How many numbers the lists from one up to another, which is not looked at, have in all.
@@ -73,10 +68,8 @@ fn count_all(m: &[u32], from: u32, to: u32) -> u32
     ensures { result ≡ length (listed m.now from (to - from)) }
 {
     let mut total: u32 = 0;
-    let mut l = from;
-    while l < to {
+    for l in from..to {
         total += list_count(m, l);
-        l += 1;
     }
     total
 }
@@ -90,28 +83,20 @@ fn frames_once(m: &[u32], from: u32, to: u32, limit: usize) -> bool
     ensures { all (stands_once (listed m.now from (to - from))) (up_from 0 limit) ≡ result }
 {
     let mut seen = [0u32; PAGES];
-    let mut once = true;
-    let mut l = from;
-    'lists: while l < to {
-        let at = list_at(l);
-        let count = list_count(m, l) as usize;
-        let mut i: usize = 0;
-        while i < count {
-            let f = m[at + i] as usize;
-            if f >= limit {
-                once = false;
-                break 'lists;
+    'lists: {
+        for l in from..to {
+            let at = list_at(l);
+            let count = list_count(m, l) as usize;
+            for i in 0..count {
+                let f = m[at + i] as usize;
+                if f >= limit || seen[f] != 0 {
+                    break 'lists false;
+                }
+                seen[f] = 1;
             }
-            if seen[f] != 0 {
-                once = false;
-                break 'lists;
-            }
-            seen[f] = 1;
-            i += 1;
         }
-        l += 1;
+        true
     }
-    once
 }
 
 // The free line, the swap line and the groups' lists have 96 pages in all.
@@ -132,19 +117,15 @@ fn pages_once(m: &[u32]) -> bool
 }
 
 // The swap line holds swap pages: the least of its numbers, found with no branch that depends on one, is no frame's.
+#[tactic(auto, unfolding(rules::specs::Memory::word))]
 fn swap_pages(m: &[u32]) -> bool
     requires { Counted m.now }
     ensures { all (swap_page m.now) (up_from 0 (word m.now swap_count_at)) ≡ result }
 {
     let count = m[SWAP_COUNT] as usize;
     let mut least = Node::FRAMES;
-    let mut i: usize = 0;
-    while i < count {
-        let s = m[SWAP_AT + i];
-        if s < least {
-            least = s;
-        }
-        i += 1;
+    for i in 0..count {
+        least = least.min(m[SWAP_AT + i]);
     }
     least >= Node::FRAMES
 }
@@ -166,6 +147,16 @@ fn entered_once(m: &[u32]) -> bool
     frames_once(m, ENTERED_LIST, SWAP_LIST, LINE)
 }
 
+// The frame or swap page whose number stands at address a is 0.
+#[tactic(auto, unfolding(rules::specs::Memory::word, rules::specs::Memory::frame_address, rules::specs::MemoryTest::frame_wiped))]
+fn page_wiped(m: &[u32], a: usize) -> bool
+    requires a_in_bounds { (size ≤ length m.now) × (a < size) }
+    requires a_value { word m.now a < page_count paper01 }
+    ensures { frame_wiped m.now (word m.now a) ≡ result }
+{
+    zeros(m, page_at(m[a]), FRAME_STRIDE)
+}
+
 // Each frame or swap page of list l is 0.
 fn list_wiped(m: &[u32], l: u32) -> bool
     requires { Paged m.now l }
@@ -173,14 +164,7 @@ fn list_wiped(m: &[u32], l: u32) -> bool
 {
     let at = list_at(l);
     let count = list_count(m, l) as usize;
-    let mut i: usize = 0;
-    while i < count {
-        if !zeros(m, page_at(m[at + i]), FRAME_STRIDE) {
-            return false;
-        }
-        i += 1;
-    }
-    true
+    (at..at + count).all(|a| page_wiped(m, a))
 }
 
 // "a word or kept length other than 0 that is no part of a waiting message" is in none that no buffer holds.
@@ -188,34 +172,18 @@ fn idle_wiped(m: &[u32]) -> bool
     requires { (l : ℕ) → 1 ≤ l → l < 11 → Paged m.now l }
     ensures { idle_are_wiped m.now ≡ result }
 {
-    if !list_wiped(m, FREE_LIST) {
-        return false;
-    }
-    list_wiped(m, SWAP_LIST)
+    list_wiped(m, FREE_LIST) && list_wiped(m, SWAP_LIST)
 }
 
 // Masks: eight that leave nothing of a word, then eight that leave all of it. The eight from WORDS - len on hide the first len words of a message.
+// They are made once for all buffers, and lent.
+#[tactic(auto, unfolding(crate::specs::Masks::past_masks))]
 fn past_masks() -> [u32; MASKS]
     ensures { result ≡ past_masks }
 {
-    [
-        0,
-        0,
-        0,
-        0,
-        0,
-        0,
-        0,
-        0,
-        u32::MAX,
-        u32::MAX,
-        u32::MAX,
-        u32::MAX,
-        u32::MAX,
-        u32::MAX,
-        u32::MAX,
-        u32::MAX,
-    ]
+    let mut masks = [0; MASKS];
+    masks[WORDS..].fill(u32::MAX);
+    masks
 }
 
 // Of the eight words from address a on, those past the first len are 0: the | of all eight is, each under its mask. No branch depends on the
@@ -227,10 +195,8 @@ fn past_zero(m: &[u32], a: usize, len: usize, masks: &[u32; MASKS]) -> bool
     ensures { zero_at m.now (a + len) (8 - len) ≡ result }
 {
     let mut sum: u32 = 0;
-    let mut j: usize = 0;
-    while j < WORDS {
-        sum = sum | (m[a + j] & masks[WORDS - len + j]);
-        j += 1;
+    for j in 0..WORDS {
+        sum |= m[a + j] & masks[WORDS - len + j];
     }
     sum == 0
 }
@@ -242,13 +208,17 @@ fn place_waiting(m: &[u32], a: usize, masks: &[u32; MASKS]) -> bool
     ensures { is_waiting (place_at m.now a) ≡ result }
 {
     let len = m[a];
-    if len == 0 {
-        return false;
-    }
-    if len > Node::WORDS {
-        return false;
-    }
-    past_zero(m, a + 1, len as usize, masks)
+    len != 0 && len <= Node::WORDS && past_zero(m, a + 1, len as usize, masks)
+}
+
+// The same of place i of page f.
+#[tactic(auto, unfolding(rules::specs::Memory::frame_address, crate::specs::Clauses::waiting_in))]
+fn waiting_in(m: &[u32], f: u32, i: u32, masks: &[u32; MASKS]) -> bool
+    requires size_in_bounds { (size ≤ length m.now) × ((f < page_count paper01) × (i < paper01.per_frame)) }
+    requires masks_value { masks.now ≡ past_masks }
+    ensures { waiting_in m.now f i ≡ result }
+{
+    place_waiting(m, place_at(f, i), masks)
 }
 
 // The same of a page's places from one up to another, which is not looked at.
@@ -257,27 +227,18 @@ fn places_waiting(m: &[u32], f: u32, from: u32, to: u32, masks: &[u32; MASKS]) -
     requires masks_value { masks.now ≡ past_masks }
     ensures { all (waiting_in m.now f) (up_from from (to - from)) ≡ result }
 {
-    let mut i = from;
-    while i < to {
-        if !place_waiting(m, place_at(f, i), masks) {
-            return false;
-        }
-        i += 1;
-    }
-    true
+    (from..to).all(|i| waiting_in(m, f, i, masks))
 }
 
 // Of so many places from a page's first on, how many are the page's.
 fn in_frame(places: u32) -> u32
     ensures { (result ≤ places) × ((result ≤ paper01.per_frame) × (places ≤ result + (places - paper01.per_frame))) }
 {
-    if places > Node::PER_FRAME {
-        return Node::PER_FRAME;
-    }
-    places
+    places.min(Node::PER_FRAME)
 }
 
-// "waiting messages' lengths"; "a waiting message's words past its length are 0": of those in the buffer of group g, page by page
+// "waiting messages' lengths"; "a waiting message's words past its length are 0": of those in the buffer of group g, page by page,
+// so that a page's number is read once and not for each of its places
 fn waiting_good(m: &[u32], g: u32, masks: &[u32; MASKS]) -> bool
     requires framed { Framed m.now g }
     requires masks_value { masks.now ≡ past_masks }
@@ -329,18 +290,13 @@ fn behind_wiped(m: &[u32], g: u32) -> bool
 }
 
 // All places of the buffer of group g: where a message waits, and where none does.
+#[tactic(auto, unfolding(crate::specs::Clauses::places_good))]
 fn places_good(m: &[u32], g: u32, masks: &[u32; MASKS]) -> bool
     requires framed { Framed m.now g }
     requires masks_value { masks.now ≡ past_masks }
     ensures { places_good m.now g ≡ result }
 {
-    if !waiting_good(m, g, masks) {
-        return false;
-    }
-    if !used_up_wiped(m, g) {
-        return false;
-    }
-    behind_wiped(m, g)
+    waiting_good(m, g, masks) && used_up_wiped(m, g) && behind_wiped(m, g)
 }
 
 // Those of all buffers.
@@ -349,39 +305,21 @@ fn all_places_good(m: &[u32]) -> bool
     ensures { all (places_good m.now) (up_from 1 group_count) ≡ result }
 {
     let masks = past_masks();
-    let mut g: u32 = 1;
-    while g <= Node::GROUPS {
-        if !places_good(m, g, &masks) {
-            return false;
-        }
-        g += 1;
-    }
-    true
+    (1..GROUPS_END).all(|g| places_good(m, g, &masks))
 }
 
 // The clauses on the frames and swap pages and on what is in them.
+#[tactic(auto, unfolding(crate::specs::Clauses::frames_good))]
 pub fn frames_good(m: &[u32]) -> bool
     requires counted { Counted m.now }
     requires m_value { numbers_good m.now ≡ true }
     ensures { frames_good m.now ≡ result }
 {
-    if !pages_all(m) {
-        return false;
-    }
-    if !pages_once(m) {
-        return false;
-    }
-    if !swap_pages(m) {
-        return false;
-    }
-    if !entered_all(m) {
-        return false;
-    }
-    if !entered_once(m) {
-        return false;
-    }
-    if !idle_wiped(m) {
-        return false;
-    }
-    all_places_good(m)
+    pages_all(m)
+        && pages_once(m)
+        && swap_pages(m)
+        && entered_all(m)
+        && entered_once(m)
+        && idle_wiped(m)
+        && all_places_good(m)
 }

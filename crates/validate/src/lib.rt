@@ -26,36 +26,25 @@ use memory::map::SIZE;
 // Frames and swap pages together.
 const PAGE_COUNT: u32 = Node::FRAMES + Node::SWAP;
 
+// Where the groups end, which are walked as 1..GROUPS_END: `..=` also keeps whether it is spent, and the test is longer by it.
+const GROUPS_END: u32 = Node::GROUPS + 1;
+
 // The words hold a node, and the pages that no buffer holds are 0.
 fn holds_node(m: &[u32]) -> bool
     requires counted { Counted m.now }
     requires group_count_value { all (flags_atomic m.now) (up_from 1 group_count) ≡ true }
     ensures { idle_are_wiped m.now && is_node paper01 (node_at m.now) ≡ result }
 {
-    if !numbers_good(m) {
-        return false;
-    }
-    if !frames_good(m) {
-        return false;
-    }
-    lines_good(m)
+    numbers_good(m) && frames_good(m) && lines_good(m)
 }
 
 // "Memory is a node when": no word is changed, and none past the node's size is looked at.
 pub fn is_node(memory: &[u32]) -> bool
     ensures { result ≡ is_memory memory.now }
 {
-    if memory.len() < SIZE {
-        return false;
-    }
-    if !counts_in_bounds(memory) {
-        return false;
-    }
-    if !flags_good(memory) {
-        return false;
-    }
-    if !unused_are_zero(memory) {
-        return false;
-    }
-    holds_node(memory)
+    memory.len() >= SIZE
+        && counts_in_bounds(memory)
+        && flags_good(memory)
+        && unused_are_zero(memory)
+        && holds_node(memory)
 }

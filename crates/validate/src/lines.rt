@@ -9,7 +9,7 @@ ghost use Rattle.rules.specs.Valid.{pending_has_line, runner_atomic, head_stays,
 ghost use Rattle.validate.specs.Clauses.{lines_good};
 ghost use Rattle.validate.specs.Known.{Framed, QueueCounts, Lined};
 
-use crate::PAGE_COUNT;
+use crate::{GROUPS_END, PAGE_COUNT};
 use memory::Node;
 use memory::map::{
     ATOMIC, COUNT, FORCE, GROUP, HELD, LIST, PENDING, QUEUE_AT, QUEUED, REVOKED, RUNNING, TIMER,
@@ -17,17 +17,14 @@ use memory::map::{
 };
 
 // By group, how many messages are in the hardware queue.
+#[tactic(auto, unfolding(rules::specs::Memory::word))]
 fn queue_counts(m: &[u32]) -> [u32; 9]
     requires { Lined m.now }
     ensures { QueueCounts m.now (word m.now queued_at) result }
 {
     let mut counts = [0u32; 9];
-    let queued = m[QUEUED];
-    let mut i: u32 = 0;
-    while i < queued {
-        let g = queue_word(m, i, GROUP) as usize;
-        counts[g] = counts[g] + 1;
-        i += 1;
+    for i in 0..m[QUEUED] {
+        counts[queue_word(m, i, GROUP) as usize] += 1;
     }
     counts
 }
@@ -49,10 +46,8 @@ fn pledges_fit(m: &[u32], queued: [u32; 9]) -> bool
     ensures { leb (pledges paper01 (node_at m.now)) 96 ≡ result }
 {
     let mut sum: u32 = 0;
-    let mut g: u32 = 1;
-    while g <= Node::GROUPS {
+    for g in 1..GROUPS_END {
         sum += pledge(m, queued, g);
-        g += 1;
     }
     sum <= PAGE_COUNT
 }
@@ -63,10 +58,7 @@ fn has_line(m: &[u32], queued: [u32; 9], g: u32) -> bool
     requires queue_counts { QueueCounts m.now (word m.now queued_at) queued }
     ensures { not (is_empty (line (node_at m.now) g)) ≡ result }
 {
-    if group_word(m, g, COUNT) != 0 {
-        return true;
-    }
-    queued[g as usize] != 0
+    group_word(m, g, COUNT) != 0 || queued[g as usize] != 0
 }
 
 // "pending only with .. a line not empty": of group g
@@ -75,10 +67,7 @@ fn pending_has_line(m: &[u32], queued: [u32; 9], g: u32) -> bool
     requires queue_counts { QueueCounts m.now (word m.now queued_at) queued }
     ensures { pending_has_line (node_at m.now) g ≡ result }
 {
-    if group_word(m, g, PENDING) != 1 {
-        return true;
-    }
-    has_line(m, queued, g)
+    group_word(m, g, PENDING) != 1 || has_line(m, queued, g)
 }
 
 // Of all groups.
@@ -87,48 +76,32 @@ fn pendings_have_line(m: &[u32], queued: [u32; 9]) -> bool
     requires queue_counts { QueueCounts m.now (word m.now queued_at) queued }
     ensures { all (pending_has_line (node_at m.now)) (up_from 1 group_count) ≡ result }
 {
-    let mut g: u32 = 1;
-    while g <= Node::GROUPS {
-        if !pending_has_line(m, queued, g) {
-            return false;
-        }
-        g += 1;
-    }
-    true
+    (1..GROUPS_END).all(|g| pending_has_line(m, queued, g))
 }
 
 // "a running group with a line not empty is atomic"
+#[tactic(auto, unfolding(rules::specs::Memory::word))]
 fn runner_atomic(m: &[u32], queued: [u32; 9]) -> bool
     requires lined { Lined m.now }
     requires queue_counts { QueueCounts m.now (word m.now queued_at) queued }
     ensures { runner_atomic (node_at m.now) ≡ result }
 {
     let runner = m[RUNNING];
-    if runner == 0 {
-        return true;
-    }
-    if !has_line(m, queued, runner) {
-        return true;
-    }
-    group_word(m, runner, ATOMIC) == 1
+    runner == 0 || !has_line(m, queued, runner) || group_word(m, runner, ATOMIC) == 1
 }
 
 // "an empty queue has a timer above 0 only where the running group has force on"
+#[tactic(auto, unfolding(rules::specs::Memory::word))]
 fn timer_idle(m: &[u32]) -> bool
     requires { Lined m.now }
     ensures { head_stays [] (node_at m.now) ≡ result }
 {
-    if m[TIMER] == 0 {
-        return true;
-    }
     let runner = m[RUNNING];
-    if runner == 0 {
-        return false;
-    }
-    group_word(m, runner, FORCE) == 1
+    m[TIMER] == 0 || (runner != 0 && group_word(m, runner, FORCE) == 1)
 }
 
 // "if the hardware queue isn't empty its head is the running group's, and that group is direct", which a revoked one is not
+#[tactic(auto, unfolding(rules::specs::Memory::word))]
 fn head_stays(m: &[u32]) -> bool
     requires { Lined m.now }
     ensures { head_stays (node_at m.now).queue (node_at m.now) ≡ result }
@@ -137,47 +110,29 @@ fn head_stays(m: &[u32]) -> bool
         return timer_idle(m);
     }
     let g = m[QUEUE_AT];
-    if g != m[RUNNING] {
-        return false;
-    }
-    if group_word(m, g, COUNT) > 0 {
-        return false;
-    }
-    group_word(m, g, REVOKED) != 1
+    g == m[RUNNING] && group_word(m, g, COUNT) == 0 && group_word(m, g, REVOKED) != 1
 }
 
 // "a running group's first page is in a frame"
+#[tactic(auto, unfolding(rules::specs::Memory::word))]
 fn runner_in_frame(m: &[u32]) -> bool
     requires { Lined m.now }
     ensures { runner_in_frame paper01 (node_at m.now) ≡ result }
 {
     let runner = m[RUNNING];
-    if runner == 0 {
-        return true;
-    }
-    if group_word(m, runner, HELD) == 0 {
-        return true;
-    }
-    group_word(m, runner, LIST) < Node::FRAMES
+    runner == 0 || group_word(m, runner, HELD) == 0 || group_word(m, runner, LIST) < Node::FRAMES
 }
 
 // The clauses on the groups' lines, and on the running group.
+#[tactic(auto, unfolding(crate::specs::Clauses::lines_good))]
 pub fn lines_good(m: &[u32]) -> bool
     requires { Lined m.now }
     ensures { lines_good m.now ≡ result }
 {
     let queued = queue_counts(m);
-    if !pledges_fit(m, queued) {
-        return false;
-    }
-    if !pendings_have_line(m, queued) {
-        return false;
-    }
-    if !runner_atomic(m, queued) {
-        return false;
-    }
-    if !head_stays(m) {
-        return false;
-    }
-    runner_in_frame(m)
+    pledges_fit(m, queued)
+        && pendings_have_line(m, queued)
+        && runner_atomic(m, queued)
+        && head_stays(m)
+        && runner_in_frame(m)
 }

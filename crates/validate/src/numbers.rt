@@ -6,6 +6,7 @@ ghost use Rattle.rules.specs.Memory.{word, queued_at};
 ghost use Rattle.validate.specs.Clauses.{message_good, buffer_good, numbers_good};
 ghost use Rattle.validate.specs.Known.{Counted};
 
+use crate::GROUPS_END;
 use memory::Node;
 use memory::map::{
     COUNT, GROUP, HELD, LENGTH, QUEUED, RUNNING, TIMER, USED, frames_for, group_word, queue_word,
@@ -21,13 +22,7 @@ fn message_good(m: &[u32], i: u32) -> bool
     ensures { message_good m.now i ≡ result }
 {
     let g = queue_word(m, i, GROUP);
-    if g == 0 {
-        return false;
-    }
-    if g > Node::GROUPS {
-        return false;
-    }
-    1 <= queue_word(m, i, LENGTH)
+    g != 0 && g <= Node::GROUPS && 1 <= queue_word(m, i, LENGTH)
 }
 
 // Those of all in the queue.
@@ -35,15 +30,7 @@ fn queue_good(m: &[u32]) -> bool
     requires { Counted m.now }
     ensures { all (message_good m.now) (up_from 0 (word m.now queued_at)) ≡ result }
 {
-    let queued = m[QUEUED];
-    let mut i: u32 = 0;
-    while i < queued {
-        if !message_good(m, i) {
-            return false;
-        }
-        i += 1;
-    }
-    true
+    (0..m[QUEUED]).all(|i| message_good(m, i))
 }
 
 // "h .. within the bounds above"; "each list has its rounded-up length"; "h is 0 where n is 0": those of group g
@@ -55,19 +42,10 @@ fn buffer_good(m: &[u32], g: u32) -> bool
     let used = group_word(m, g, USED);
     let count = group_word(m, g, COUNT);
     let held = group_word(m, g, HELD);
-    if used >= Node::PER_FRAME {
-        return false;
-    }
-    if count == 0 {
-        if used != 0 {
-            return false;
-        }
-        return held == 0;
-    }
-    if count > ROOM {
-        return false;
-    }
-    held == frames_for(used + count)
+    used < Node::PER_FRAME
+        && count <= ROOM
+        && (count != 0 || used == 0)
+        && held == frames_for(used + count)
 }
 
 // Those of all groups.
@@ -75,29 +53,14 @@ fn buffers_good(m: &[u32]) -> bool
     requires { Counted m.now }
     ensures { all (buffer_good m.now) (up_from 1 group_count) ≡ result }
 {
-    let mut g: u32 = 1;
-    while g <= Node::GROUPS {
-        if !buffer_good(m, g) {
-            return false;
-        }
-        g += 1;
-    }
-    true
+    (1..GROUPS_END).all(|g| buffer_good(m, g))
 }
 
 // The clauses on the numbers that stand where they are read.
+#[tactic(auto, unfolding(rules::specs::Memory::word, crate::specs::Clauses::numbers_good))]
 pub fn numbers_good(m: &[u32]) -> bool
     requires { Counted m.now }
     ensures { numbers_good m.now ≡ result }
 {
-    if m[RUNNING] > Node::GROUPS {
-        return false;
-    }
-    if m[TIMER] >= Node::TIMEOUT {
-        return false;
-    }
-    if !queue_good(m) {
-        return false;
-    }
-    buffers_good(m)
+    m[RUNNING] <= Node::GROUPS && m[TIMER] < Node::TIMEOUT && queue_good(m) && buffers_good(m)
 }

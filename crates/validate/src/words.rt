@@ -7,7 +7,7 @@ ghost use Rattle.rules.specs.MemoryTest.{group_counts, length_in_bounds, counts_
 ghost use Rattle.validate.specs.Clauses.{flags_good};
 ghost use Rattle.validate.specs.Known.{Counted};
 
-use crate::PAGE_COUNT;
+use crate::{GROUPS_END, PAGE_COUNT};
 use memory::Node;
 use memory::map::{
     ATOMIC, DESCRIBED, DESCRIPTOR, ENTERED_AT, ENTERED_COUNT, FORCE, FREE_AT, FREE_COUNT, HELD,
@@ -17,15 +17,13 @@ use memory::map::{
 use memory::words::zeros;
 
 // "counts .. are within the bounds above": those of the list and the descriptor of group g
+#[tactic(auto, unfolding(rules::specs::MemoryTest::group_counts))]
 fn group_counts(m: &[u32], g: u32) -> bool
     requires size_in_bounds { size ≤ length m.now }
     requires le_g { (1 ≤ g) × (g ≤ group_count) }
     ensures { group_counts m.now g ≡ result }
 {
-    if group_word(m, g, HELD) > PAGE_COUNT {
-        return false;
-    }
-    group_word(m, g, DESCRIBED) <= Node::WORDS
+    group_word(m, g, HELD) <= PAGE_COUNT && group_word(m, g, DESCRIBED) <= Node::WORDS
 }
 
 // Those of all groups.
@@ -33,14 +31,7 @@ fn groups_counted(m: &[u32]) -> bool
     requires { size ≤ length m.now }
     ensures { all (group_counts m.now) (up_from 1 group_count) ≡ result }
 {
-    let mut g: u32 = 1;
-    while g <= Node::GROUPS {
-        if !group_counts(m, g) {
-            return false;
-        }
-        g += 1;
-    }
-    true
+    (1..GROUPS_END).all(|g| group_counts(m, g))
 }
 
 // "waiting messages' lengths .. are within the bounds above": those in the queue
@@ -49,46 +40,29 @@ fn lengths_in_bounds(m: &[u32]) -> bool
     requires queued_at_bound { word m.now queued_at ≤ 16 }
     ensures { all (length_in_bounds m.now) (up_from 0 (word m.now queued_at)) ≡ result }
 {
-    let queued = m[QUEUED];
-    let mut i: u32 = 0;
-    while i < queued {
-        if queue_word(m, i, LENGTH) > Node::WORDS {
-            return false;
-        }
-        i += 1;
-    }
-    true
+    (0..m[QUEUED]).all(|i| queue_word(m, i, LENGTH) <= Node::WORDS)
 }
 
 // "counts .. are within the bounds above": those of the swap line and the order of entry
+#[tactic(auto, unfolding(rules::specs::Memory::word))]
 fn paging_counted(m: &[u32]) -> bool
     requires { size ≤ length m.now }
     ensures { leb (word m.now swap_count_at) 64 && leb (word m.now entered_count_at) 32 ≡ result }
 {
-    if m[SWAP_COUNT] > Node::SWAP {
-        return false;
-    }
-    m[ENTERED_COUNT] <= Node::FRAMES
+    m[SWAP_COUNT] <= Node::SWAP && m[ENTERED_COUNT] <= Node::FRAMES
 }
 
 // "counts .. [and] waiting messages' lengths .. are within the bounds above", as far as words alone tell
+#[tactic(auto, unfolding(rules::specs::Memory::word, rules::specs::MemoryTest::counts_in_bounds))]
 pub fn counts_in_bounds(m: &[u32]) -> bool
     requires { size ≤ length m.now }
     ensures { counts_in_bounds m.now ≡ result }
 {
-    if m[QUEUED] > Node::PLACES {
-        return false;
-    }
-    if m[FREE_COUNT] > Node::FRAMES {
-        return false;
-    }
-    if !paging_counted(m) {
-        return false;
-    }
-    if !groups_counted(m) {
-        return false;
-    }
-    lengths_in_bounds(m)
+    m[QUEUED] <= Node::PLACES
+        && m[FREE_COUNT] <= Node::FRAMES
+        && paging_counted(m)
+        && groups_counted(m)
+        && lengths_in_bounds(m)
 }
 
 // The timer's flags of group g: none is above atomic.
@@ -97,10 +71,7 @@ fn timer_flags(m: &[u32], g: u32, atomic: u32) -> bool
     requires le_g { (1 ≤ g) × (g ≤ group_count) }
     ensures { leb (word m.now (group_address g + force_offset)) atomic && leb (word m.now (group_address g + revoked_offset)) atomic ≡ result }
 {
-    if group_word(m, g, FORCE) > atomic {
-        return false;
-    }
-    group_word(m, g, REVOKED) <= atomic
+    group_word(m, g, FORCE) <= atomic && group_word(m, g, REVOKED) <= atomic
 }
 
 // "flags are 0 or 1"; pending, force and revoked "only with atomic": of group g none is above atomic, which is at most 1
@@ -110,13 +81,7 @@ fn group_flags(m: &[u32], g: u32) -> bool
     ensures { flags_good m.now g ≡ result }
 {
     let atomic = group_word(m, g, ATOMIC);
-    if atomic > 1 {
-        return false;
-    }
-    if group_word(m, g, PENDING) > atomic {
-        return false;
-    }
-    timer_flags(m, g, atomic)
+    atomic <= 1 && group_word(m, g, PENDING) <= atomic && timer_flags(m, g, atomic)
 }
 
 // Of all groups.
@@ -124,14 +89,7 @@ pub fn flags_good(m: &[u32]) -> bool
     requires { size ≤ length m.now }
     ensures { all (flags_good m.now) (up_from 1 group_count) ≡ result }
 {
-    let mut g: u32 = 1;
-    while g <= Node::GROUPS {
-        if !group_flags(m, g) {
-            return false;
-        }
-        g += 1;
-    }
-    true
+    (1..GROUPS_END).all(|g| group_flags(m, g))
 }
 
 // "unused places of the queue .. are 0"
@@ -175,6 +133,7 @@ fn entered_unused(m: &[u32]) -> bool
 }
 
 // "unused places of the .. lists, unused descriptor words .. are 0": those of group g
+#[tactic(auto, unfolding(rules::specs::Memory::group_address, rules::specs::MemoryTest::group_unused))]
 fn group_unused(m: &[u32], g: u32) -> bool
     requires counted { Counted m.now }
     requires le_g { (1 ≤ g) × (g ≤ group_count) }
@@ -183,10 +142,8 @@ fn group_unused(m: &[u32], g: u32) -> bool
     let held = group_word(m, g, HELD) as usize;
     let described = group_word(m, g, DESCRIBED) as usize;
     let at = group_at(g);
-    if !zeros(m, at + LIST + held, PAGES - held) {
-        return false;
-    }
-    zeros(m, at + DESCRIPTOR + described, WORDS - described)
+    zeros(m, at + LIST + held, PAGES - held)
+        && zeros(m, at + DESCRIPTOR + described, WORDS - described)
 }
 
 // Those of all groups.
@@ -194,14 +151,7 @@ fn groups_unused(m: &[u32]) -> bool
     requires { Counted m.now }
     ensures { all (group_unused m.now) (up_from 1 group_count) ≡ result }
 {
-    let mut g: u32 = 1;
-    while g <= Node::GROUPS {
-        if !group_unused(m, g) {
-            return false;
-        }
-        g += 1;
-    }
-    true
+    (1..GROUPS_END).all(|g| group_unused(m, g))
 }
 
 // "a waiting message's words past its length are 0": of the i-th in the queue
@@ -223,36 +173,19 @@ fn messages_unused(m: &[u32]) -> bool
     requires { Counted m.now }
     ensures { all (message_unused m.now) (up_from 0 (word m.now queued_at)) ≡ result }
 {
-    let queued = m[QUEUED];
-    let mut i: u32 = 0;
-    while i < queued {
-        if !message_unused(m, i) {
-            return false;
-        }
-        i += 1;
-    }
-    true
+    (0..m[QUEUED]).all(|i| message_unused(m, i))
 }
 
 // "unused places of the queue, free line and lists, unused descriptor words and a waiting message's words past its length are 0"
+#[tactic(auto, unfolding(rules::specs::MemoryTest::unused_are_zero))]
 pub fn unused_are_zero(m: &[u32]) -> bool
     requires { Counted m.now }
     ensures { unused_are_zero m.now ≡ result }
 {
-    if !queue_unused(m) {
-        return false;
-    }
-    if !free_unused(m) {
-        return false;
-    }
-    if !swap_unused(m) {
-        return false;
-    }
-    if !entered_unused(m) {
-        return false;
-    }
-    if !groups_unused(m) {
-        return false;
-    }
-    messages_unused(m)
+    queue_unused(m)
+        && free_unused(m)
+        && swap_unused(m)
+        && entered_unused(m)
+        && groups_unused(m)
+        && messages_unused(m)
 }

@@ -1,22 +1,24 @@
 -- An argument read as a number. Assumes nothing.
-use Prim.Native.Nat.{ℕ, ◌+◌, ◌≤◌, ◌<◌}
+use Prim.Native.Nat.{ℕ, ◌≤◌, ◌<◌}
 use native.Mathlib.Decide.{dec_lt}
 use native.Mathlib.Omega.{arith}
-use mathlib.Core.Bool.{Bool, true, false, cond, not, ◌&&◌}
+use mathlib.Core.Bool.{Bool, true, false, true≢false, not, ◌&&◌}
 use mathlib.Core.List.{List, [], ◌∷◌}
-use mathlib.Core.Option.{Option, none, some}
+use mathlib.Core.Option.{none}
+use Rattle.std.proofs.Common.{None, Option, Some}
 use mathlib.Core.Path.{◌≡◌, ◌∙◌, refl, sym, ap}
-use lib.Dec.{leb}
+use lib.Dec.{eqb, leb}
+use lib.Pointwise.{pointwise}
 use lib.ListN.{length}
 use Rattle.rules.specs.Lists.{all, is_empty}
 use Rattle.rules.specs.Script.{is_number, number}
 use Rattle.rules.specs.Text.{bytes, is_digit}
-use Rattle.script.specs.Read.{NumberRead, digits_of}
+use Rattle.script.specs.Read.{NumberRead, digits_of, found_number}
 use Rattle.script.proofs.read.LineEndLaws.{by-test}
 use Rattle.script.specs.declared.read.Digits.{Digits as Digits·rt}
 use Rattle.why.specs.Asked.{Asks, line_asked}
 use Rattle.why.specs.declared.asked.Asked.{Asked as Asked·rt}
-use Rattle.why.specs.declared.asked.Asked.TheVariants.{All, Line, Nothing}
+use Rattle.why.specs.declared.asked.Asked.TheVariants.{Line}
 
 -- the digits that a text begins with are no more than it has, and all of it where they are as many
 digits-few : (t : List ℕ) → length (digits_of t) ≤ length t
@@ -54,35 +56,37 @@ number-else t e = rw (e, both_false (not (is_empty t)) (leb (length t) 10))
 -- what was read of it
 module _ {t : List ℕ} {d : Digits·rt} (r : NumberRead t 0 d) where
   -- no number
-  pub asked-none : d.ok ≡ false → Nothing ≡ line_asked (number t)
+  pub asked-none : d.value ≡ None → None ≡ line_asked (number t)
   unfolding line_asked
   asked-none bad = go (dec_lt (length (digits_of t)) (length t))
     where
       read_none : number (digits_of t) ≡ none
-      read_none = sym r.found ∙ ap (λ (b : Bool). cond b (some d.value) none) bad
+      read_none = sym r.found ∙ ap found_number bad
 
-      go : Dec (length (digits_of t) < length t) → Nothing ≡ line_asked (number t)
+      go : Dec (length (digits_of t) < length t) → None ≡ line_asked (number t)
       go (yes more) = ap line_asked (sym (number-else t (digits-else t more)))
       go (no whole) = ap line_asked (sym (ap number (sym (digits-whole t (omega arith))) ∙ read_none))
 
-  module _ (ok : d.ok ≡ true) where
+  module _ {line : ℕ} (ok : d.value ≡ Some line) where
     -- one, with something behind it
-    pub asked-more : d.next < length t → Nothing ≡ line_asked (number t)
+    pub asked-more : d.next < length t → None ≡ line_asked (number t)
     unfolding line_asked
-    asked-more more = let b = r.behind ok in ap line_asked (sym (number-else t (digits-else t (omega arith))))
+    asked-more more = let b = r.behind line ok in ap line_asked (sym (number-else t (digits-else t (omega arith))))
 
     -- all of it is one
-    pub asked-line : length t ≤ d.next → Line d.value ≡ line_asked (number t)
+    pub asked-line : length t ≤ d.next → Some (Line line) ≡ line_asked (number t)
     unfolding line_asked
     asked-line whole =
-        let b = r.behind ok in
+        let b = r.behind line ok in
         let f = digits-few t in
-        ap line_asked (sym (ap number (sym (digits-whole t (omega arith))) ∙ sym r.found ∙ ap (λ (b : Bool). cond b (some d.value) none) ok))
+        ap line_asked (sym (ap number (sym (digits-whole t (omega arith))) ∙ sym r.found ∙ ap found_number ok))
 
 -- What is asked.
 
-pub asks-all : {t : List ℕ} → t ≡ bytes "--all" → Asks t All
-asks-all e = record { all = λ _. refl; line = λ other. absurd (other e) }
-
-pub asks-line : {t : List ℕ} {a : Asked·rt} → (t ≡ bytes "--all" → ⊥) → a ≡ line_asked (number t) → Asks t a
+asks-line : {t : List ℕ} {a : Option Asked·rt} → (t ≡ bytes "--all" → ⊥) → a ≡ line_asked (number t) → Asks t a
 asks-line other e = record { all = λ same. absurd (other same); line = λ _. e }
+
+-- where the test finds another text
+pub asks-other : {t s : List ℕ} {same : Bool} {a : Option Asked·rt} → same ≡ pointwise eqb t s → s ≡ bytes "--all" → same ≡ false → a ≡ line_asked (number t)
+    → Asks t a
+asks-other compared read other e = asks-line (λ is. true≢false (sym (compared ∙ rw (is, read) refl) ∙ other)) e

@@ -1,5 +1,4 @@
 pub mod AskedLaws
-pub mod ReadLaws
 pub mod ReachLaws
 pub mod TextLaws
 pub mod RunLaws

@@ -1,11 +1,11 @@
 -- What the program writes is the line of what `why` tells. Assumes nothing.
 use Prim.Native.Nat.{ℕ, zero, suc, ◌+◌, ◌≤◌, ◌<◌}
-use native.Mathlib.Omega.{arith}
-use mathlib.Core.Bool.{Bool, true, false, cond, not, ◌||◌}
+use mathlib.Core.Bool.{Bool, true, false, true≢false, ◌||◌}
 use mathlib.Core.List.{List, [], ◌∷◌, ◌++◌}
+use Rattle.std.proofs.Common.{◌⊎◌, inl, inr}
 use mathlib.Core.Path.{◌≡◌, ◌∙◌, refl, sym, ap, subst}
 use lib.Dec.{eqb, leb}
-use lib.ListN.{length, take}
+use lib.ListN.{length}
 use borrow.Author.Tests.{eqb-true, le-leb, leb-true}
 use Rattle.rules.specs.Build.{paper01}
 use Rattle.rules.specs.Lists.{is_empty}
@@ -18,39 +18,55 @@ use Rattle.rules.proofs.Map.RunMemory.{power-on-tested}
 use Rattle.reasons.specs.Follow.{unfollowed}
 use Rattle.reasons.specs.Why.{Departure, Told, tell_event, tell_line, tell_message, why}
 use Rattle.script.specs.Feed.{kept_line, last_number}
-use Rattle.follow.specs.One.{Finished, followed_of, told_of}
+use Rattle.std.specs.Prelude.{Result}
+use Rattle.reasons.specs.declared.Untold.{Untold as Untold·rt}
+use Rattle.follow.specs.One.{Finished, followed_of, place_of, told_of}
 use Rattle.follow.specs.Portions.{FollowsScript, Settled, last_memory, last_state}
 use Rattle.follow.specs.declared.one.State.{State as State·rt}
 use Rattle.follow.specs.declared.one.Told.{Told as Told·rt}
 use Rattle.follow.proofs.PortionsLaws.{portions-told}
 use Rattle.script.proofs.read.NumberLaws.{both-pass}
-use Rattle.why.specs.One.{AnswerTold, Answers, RunTold, Runs, Tells, Written, answer_line, is_refusal, settled}
-use Rattle.why.specs.declared.one.Run.{Run as Run·rt}
+use Rattle.streams.specs.Turns as streams
+use Rattle.why.specs.One.{AnswerTold, Answers, Reaches, RunTold, Runs, Tells, TellsEnd, Written, answer_line, is_refusal, settled}
+use Rattle.why.specs.declared.one.Following.{Following as Following·rt}
 use Rattle.why.specs.declared.one.Text.{Text as Text·rt}
 
 -- power-on, a new state, a run, what is told of it, and its text
-pub answers-told : {m : List ℕ} {w : ℕ} {m₀ : List ℕ} {st : State·rt} {m' : List ℕ} {run : Run·rt} {m'' : List ℕ} {t : Told·rt} {out' : List ℕ} {r : Text·rt}
+pub answers-told : {m : List ℕ} {w : ℕ} {m₀ : List ℕ} {st : State·rt} {m' : List ℕ} {t : Result Told·rt Untold·rt} {out' : List ℕ} {r : Text·rt}
     → size ≤ length m → m₀ ≡ replaced (power_on paper01) m
     → (st.script.lines ≡ 0) × ((kept_line st.script ≡ []) × ((st.wanted ≡ w) × (followed_of st.followed ≡ unfollowed)))
-    → (run.well ≡ true → Runs m₀ st m' run) → Tells m' run m'' t → Written w (told_of t) out' r → Answers m w out' r
-answers-told {m} {st = st} {m'} {run} {m''} {t} long start new runs tells written =
-    record {
-      state = st;
-      new = record { none = new.0; empty = new.1.0; wanted = new.1.1.0; nothing = new.1.1.1 };
-      memory = m';
-      run = run;
-      runs = subst (λ (x : List ℕ). Runs x st m' run) (start ∙ sym (power-on-tested m (le-leb size (length m) long))) (runs tells.went-well);
-      memory' = m'';
-      told = t;
-      tells = tells;
-      written = written;
-    }
+    → streams.Runs {P = Following·rt} {A = Result Told·rt Untold·rt} (λ m p bytes m' p'. Reaches m p.state bytes m' p'.state) (λ m p out m' out' t. TellsEnd m p.state m' t)
+    (λ p t. (settled p.state ≡ true) × (t ≡ p.state.followed.told)) m₀ (record { state = st }) m' t
+    → Written w (told_of t) out' r → Answers m w out' r
+answers-told {m} {w} {m₀} {st} {m'} {t} {out'} {r} long start new run written = go run.stops
+  where
+    made : (ended : Bool) → Tells run.memory run.player.state ended m' t → Answers m w out' r
+    made ended tells =
+        record {
+          state = st;
+          new = record { none = new.0; empty = new.1.0; wanted = new.1.1.0; nothing = new.1.1.1 };
+          memory = run.memory;
+          last = run.player.state;
+          runs =
+              subst (λ (x : List ℕ). Runs x st run.memory run.player.state) (start ∙ sym (power-on-tested m (le-leb size (length m) long)))
+              (record { script = run.goes_on.script; reaches = run.goes_on.reached });
+          ended = ended;
+          memory' = m';
+          told = t;
+          tells = tells;
+          written = written;
+        }
+
+    go : ((out : List ℕ) × ((out' : List ℕ) × TellsEnd run.memory run.player.state m' t))
+        ⊎ ((m' ≡ run.memory) × ((settled run.player.state ≡ true) × (t ≡ run.player.state.followed.told))) → Answers m w out' r
+    go (inl e) = made true (record { at-end = λ _. e.1.1; before = λ f. absurd (true≢false f) })
+    go (inr s) = made false (record { at-end = λ f. absurd (true≢false (sym f)); before = λ _. s.1 })
 
 -- the test is the definition
 settled-passes : (st : State·rt) → settled st ≡ true → Settled st
 unfolding settled
 settled-passes st e =
-    let b = both-pass (leb st.wanted st.script.lines) (eqb st.followed.place 0) e in
+    let b = both-pass (leb st.wanted st.script.lines) (eqb (place_of st.followed.ahead) 0) e in
     record { passed = leb-true _ _ b.0; nowhere = eqb-true _ _ b.1 }
 
 -- what is written is the line of what is told, and that is what `why` tells of s
@@ -61,7 +77,7 @@ module _ {m : List ℕ} {w : ℕ} {out' : List ℕ} {r : Text·rt} (long : size 
   script-followed : FollowsScript m w a.state a.runs.reaches.calls a.runs.script
   script-followed = record { long = long; new = a.new; follows = a.runs.reaches.follows; read = a.runs.reaches.handed }
 
-  told-end : a.run.ended ≡ true → told_of a.told ≡ why a.runs.script w
+  told-end : a.ended ≡ true → told_of a.told ≡ why a.runs.script w
   told-end e =
       let q = a.runs.reaches in
       let t = a.tells.at-end e in
@@ -72,16 +88,16 @@ module _ {m : List ℕ} {w : ℕ} {out' : List ℕ} {r : Text·rt} (long : size 
         number = number;
         finishes =
             subst (λ (x : State·rt). Finished (last_memory (power_on_memory m).memory q.calls) x a.memory' a.told) (sym q.state)
-            (subst (λ (x : List ℕ). Finished x a.run.state a.memory' a.told) (sym q.memory) t.finished);
+            (subst (λ (x : List ℕ). Finished x a.last a.memory' a.told) (sym q.memory) t.finished);
       })
 
-  told-before : a.run.ended ≡ false → (rest : List ℕ) → told_of a.told ≡ why (a.runs.script ++ rest) w
+  told-before : a.ended ≡ false → (rest : List ℕ) → told_of a.told ≡ why (a.runs.script ++ rest) w
   told-before e rest =
       let q = a.runs.reaches in
       let t = a.tells.before e in
       ap told_of (t.1 ∙ ap (λ (x : State·rt). x.followed.told) (sym q.state))
       ∙ portions-told.settled m a.runs.script rest w a.state q.calls script-followed
-      (subst Settled (sym q.state) (settled-passes a.run.state t.0))
+      (subst Settled (sym q.state) (settled-passes a.last t.0))
 
 -- `why` refuses with 2 or 17, or not at all
 abbrev RefusedBy : Told → Type 0

@@ -1,17 +1,20 @@
 -- An answer as a line of text. Assumes nothing.
 use Prim.Native.Nat.{ℕ, ◌+◌, ◌≤◌}
 use native.Mathlib.Omega.{arith}
-use mathlib.Core.Bool.{Bool, true, false, not, cond}
+use mathlib.Core.Bool.{Bool, not, cond}
 use mathlib.Core.List.{List, ◌++◌, append_assoc}
 use mathlib.Core.Path.{◌≡◌, refl, sym, ap, ◌∙◌}
-use lib.Dec.{eqb}
 use lib.ListN.{length}
 use borrow.Author.Tests.{eq-eqb, ne_eqb}
 use Rattle.rules.specs.Operation.{unreadable}
 use Rattle.rules.specs.Text.{bytes, decimal}
+use Rattle.reasons.specs.Numbers.{untold_number}
 use Rattle.reasons.specs.Why.{Told, why_line}
+use Rattle.reasons.specs.declared.Untold.{Untold as Untold·rt}
+use Rattle.reasons.specs.declared.Untold.TheVariants.{NotNode, Unreadable, NoArrival}
 use Rattle.script.specs.Written.{Appended}
 use Rattle.follow.specs.Text.{why_room}
+use Rattle.why.specs.declared.one.Text.TheVariants.{Answer, Refusal}
 use Rattle.why.specs.One.{Written, answer_line, refusal_line, refusal_words}
 
 -- the words of a refusal
@@ -19,9 +22,14 @@ pub words-unread : (a : ℕ) → a ≡ unreadable → bytes ": it can't be read\
 unfolding refusal_words
 words-unread a e = rw (eq-eqb a unreadable e)
 
-pub words-else : (a : ℕ) → (a ≡ unreadable → ⊥) → bytes ": it is no accepted arrival of this script\n" ≡ refusal_words a
+words-else : (a : ℕ) → (a ≡ unreadable → ⊥) → bytes ": it is no accepted arrival of this script\n" ≡ refusal_words a
 unfolding refusal_words
 words-else a e = rw (ne_eqb a unreadable e)
+
+pub words-refused : (u : Untold·rt) → (u ≡ Unreadable → ⊥) → bytes ": it is no accepted arrival of this script\n" ≡ refusal_words (untold_number u)
+words-refused NotNode other = words-else (untold_number NotNode) (λ e. absurd (omega arith))
+words-refused Unreadable other = absurd (other refl)
+words-refused NoArrival other = words-else (untold_number NoArrival) (λ e. absurd (omega arith))
 
 -- its parts joined
 in_a_row : (a b c d e : List ℕ) → (a ++ b) ++ ((c ++ d) ++ e) ≡ a ++ (b ++ (c ++ (d ++ e)))
@@ -33,10 +41,16 @@ refusal-row w a {ws} e =
     in_a_row (bytes "why: line ") (decimal w) (bytes ": refused with ") (decimal a) ws
     ∙ ap (λ (x : List ℕ). bytes "why: line " ++ (decimal w ++ (bytes ": refused with " ++ (decimal a ++ x)))) e
 
+-- a refusal's number is not that of an accepted arrival
+pub refused : (u : Untold·rt) → untold_number u ≡ 0 → ⊥
+refused NotNode e = absurd (omega arith)
+refused Unreadable e = absurd (omega arith)
+refused NoArrival e = absurd (omega arith)
+
 -- what is told, written
 module _ (w : ℕ) (t : Told) {out out' : List ℕ} {end : ℕ} where
   pub why-written : t.answer ≡ 0 → why_room ≤ length out → Appended out 0 out' end (why_line w t.reason t.line) × (end ≤ 0 + why_room)
-      → Written w t out' (record { well = true; refused = false; end = end })
+      → Written w t out' (Answer end)
   unfolding answer_line
   why-written zero room a =
       record {
@@ -46,7 +60,7 @@ module _ (w : ℕ) (t : Told) {out out' : List ℕ} {end : ℕ} where
       }
 
   pub refusal-written : (t.answer ≡ 0 → ⊥) → why_room ≤ length out → Appended out 0 out' end (refusal_line w t.answer) × (end ≤ why_room)
-      → Written w t out' (record { well = true; refused = true; end = end })
+      → Written w t out' (Refusal end)
   unfolding answer_line
   refusal-written other room a =
       record {

@@ -1,21 +1,17 @@
 -- What the answers for every accepted arrival promise where all goes well: what a read brings is told of whole, by calls of `tell` that `PortionsAllTold`
 -- speaks of, each with line numbers enough; and to the end of its input a run writes the answer for every accepted arrival of its script.
 -- Assumes nothing.
-use Rattle.std.specs.Prelude.{ℕ, ◌+◌, ◌*◌, ◌≤◌, ◌<◌, true, List, [], ◌++◌, ◌≡◌, eqb, length, take}
+use Rattle.std.specs.Prelude.{ℕ, ◌+◌, ◌*◌, ◌≤◌, ◌<◌, List, [], ◌++◌, ◌≡◌, length, take}
 use Rattle.rules.specs.Memory.{size}
 use Rattle.rules.specs.MemoryTest.{power_on_memory}
 use Rattle.reasons.specs.Why.{why_all}
 use Rattle.script.specs.Feed.{kept_line, last_number}
-use Rattle.script.specs.Play.{part}
 use Rattle.follow.specs.Every.{FinishedTo, waiting_of}
 use Rattle.follow.specs.EveryPortions.{Portion, last_memory, last_state, used_bytes, written_bytes}
 use Rattle.follow.specs.EveryPortions as every
 use Rattle.follow.specs.Waiting.{lines_room}
 use Rattle.follow.specs.declared.every.End.{End as End·rt}
 use Rattle.follow.specs.declared.every.State.{State as State·rt}
-use Rattle.why.specs.Reads.{Brought}
-use Rattle.why.specs.declared.all.Run.{Run as Run·rt}
-use Rattle.why.specs.declared.reads.Got.{Got as Got·rt}
 
 -- calls lead from a memory and a state to others, and have used these bytes
 pub record Reaches (m : List ℕ) (st : State·rt) (bs m' : List ℕ) (st' : State·rt) : Type 0 where
@@ -25,33 +21,10 @@ pub record Reaches (m : List ℕ) (st : State·rt) (bs m' : List ℕ) (st' : Sta
   pub memory : last_memory m calls ≡ m'
   pub state : last_state st calls ≡ st'
 
--- from the bytes used so far some more are used
-pub record Plays (m : List ℕ) (run : Run·rt) (input m' : List ℕ) (run' : Run·rt) : Type 0 where
-  pub reaches : Reaches m run.state (part input run.used run'.used) m' run'.state
-  pub some : run.used < run'.used
-  pub inside : run'.used ≤ length input
-  pub same : run'.ended ≡ run.ended
-
--- a portion is used, all of it; one without bytes is the end of the input
-pub record PlaysAll (m : List ℕ) (st : State·rt) (input m' : List ℕ) (run : Run·rt) : Type 0 where
-  pub reaches : Reaches m st input m' run.state
-  pub ended : run.ended ≡ eqb (length input) 0
-
--- what a read brought, which stands first in the input
-pub record TakesIn (m : List ℕ) (st : State·rt) (got : Got·rt) (input m' : List ℕ) (run : Run·rt) : Type 0 where
-  pub read : got.well ≡ true
-  pub plays : PlaysAll m st (take got.count input) m' run
-
--- what a turn has done: that of some read
-pub record Turns (m : List ℕ) (st : State·rt) (input m' : List ℕ) (run : Run·rt) : Type 0 where
-  pub got : Got·rt
-  pub brought : Brought (length input) got
-  pub takes-in : TakesIn m st got input m' run
-
--- turns one after the other: what their reads brought is used
-pub record Runs (m : List ℕ) (st : State·rt) (m' : List ℕ) (run : Run·rt) : Type 0 where
+-- a run: what its reads brought is used
+pub record Runs (m : List ℕ) (st : State·rt) (m' : List ℕ) (st' : State·rt) : Type 0 where
   pub script : List ℕ
-  pub reaches : Reaches m st script m' run.state
+  pub reaches : Reaches m st script m' st'
 
 -- the script's end, with a number for a line that has begun
 pub record Ends (m : List ℕ) (st : State·rt) (out m' out' : List ℕ) : Type 0 where
@@ -67,13 +40,12 @@ pub record Tells (m : List ℕ) : Type 0 where
   pub empty : kept_line state.script ≡ []
   pub nobody : waiting_of state ≡ []
   pub memory : List ℕ
-  pub run : Run·rt
-  pub runs : Runs (power_on_memory m).memory state memory run
-  pub ended : run.ended ≡ true
+  pub last : State·rt
+  pub runs : Runs (power_on_memory m).memory state memory last
   pub out : List ℕ
   pub memory' : List ℕ
   pub out' : List ℕ
-  pub ends : Ends memory run.state out memory' out'
+  pub ends : Ends memory last out memory' out'
 
 -- what its calls have written
 unfoldable pub written_by : {m : List ℕ} → Tells m → List ℕ

@@ -1,5 +1,6 @@
 pub mod Asked
-pub mod Reads
 pub mod One
+pub mod OneLeads
 pub mod All
+pub mod AllLeads
 pub mod Program

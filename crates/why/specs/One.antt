@@ -1,20 +1,19 @@
 -- What the answer for one line promises where all goes well: what the reads brought is followed, by calls of `follow` that `PortionsTold` speaks of, each
 -- with line numbers enough; and what is told is why the message of the line was buffered. Assumes nothing.
-use Rattle.std.specs.Prelude.{ℕ, ◌+◌, ◌≤◌, ◌<◌, Bool, true, false, not, cond, ◌&&◌, ◌||◌, List, ◌++◌, ◌≡◌, eqb, leb, length, take}
+use Rattle.std.specs.Prelude.{ℕ, ◌+◌, ◌≤◌, ◌<◌, Bool, true, false, not, cond, ◌&&◌, ◌||◌, List, ◌++◌, ◌≡◌, eqb, leb, length, take, Result}
 use Rattle.rules.specs.Memory.{size}
 use Rattle.rules.specs.MemoryTest.{power_on_memory}
 use Rattle.rules.specs.Operation.{unreadable}
 use Rattle.rules.specs.Text.{bytes, decimal}
 use Rattle.reasons.specs.Why.{Told, why, why_line}
 use Rattle.script.specs.Feed.{last_number}
-use Rattle.follow.specs.One.{Finished, told_of}
+use Rattle.reasons.specs.declared.Untold.{Untold as Untold·rt}
+use Rattle.follow.specs.One.{Finished, place_of, told_of}
 use Rattle.follow.specs.Portions.{Follows, New, Portion, bytes_of, last_memory, last_state}
 use Rattle.follow.specs.declared.one.State.{State as State·rt}
 use Rattle.follow.specs.declared.one.Told.{Told as Told·rt}
-use Rattle.why.specs.Reads.{Brought}
-use Rattle.why.specs.declared.one.Run.{Run as Run·rt}
 use Rattle.why.specs.declared.one.Text.{Text as Text·rt}
-use Rattle.why.specs.declared.reads.Got.{Got as Got·rt}
+use Rattle.why.specs.declared.one.Text.TheVariants.{Answer, Refusal}
 
 -- calls lead from a memory and a state to others, and were handed these bytes
 pub record Reaches (m : List ℕ) (st : State·rt) (bs m' : List ℕ) (st' : State·rt) : Type 0 where
@@ -24,45 +23,24 @@ pub record Reaches (m : List ℕ) (st : State·rt) (bs m' : List ℕ) (st' : Sta
   pub memory : last_memory m calls ≡ m'
   pub state : last_state st calls ≡ st'
 
--- a portion is followed; one without bytes is the end of the input
-pub record Plays (m : List ℕ) (st : State·rt) (input m' : List ℕ) (run : Run·rt) : Type 0 where
-  pub reaches : Reaches m st input m' run.state
-  pub ended : run.ended ≡ eqb (length input) 0
-
--- what a read brought, which stands first in the input
-pub record TakesIn (m : List ℕ) (st : State·rt) (got : Got·rt) (input m' : List ℕ) (run : Run·rt) : Type 0 where
-  pub read : got.well ≡ true
-  pub plays : Plays m st (take got.count input) m' run
-
--- what a turn has done: that of some read
-pub record Turns (m : List ℕ) (st : State·rt) (input m' : List ℕ) (run : Run·rt) : Type 0 where
-  pub got : Got·rt
-  pub brought : Brought (length input) got
-  pub takes-in : TakesIn m st got input m' run
-
--- turns one after the other: what their reads brought is followed
-pub record Runs (m : List ℕ) (st : State·rt) (m' : List ℕ) (run : Run·rt) : Type 0 where
+-- a run: what its reads brought is followed
+pub record Runs (m : List ℕ) (st : State·rt) (m' : List ℕ) (st' : State·rt) : Type 0 where
   pub script : List ℕ
-  pub reaches : Reaches m st script m' run.state
+  pub reaches : Reaches m st script m' st'
 
 -- `Settled` computed: the message has left, or the line wanted was no accepted arrival
 unfoldable pub settled : State·rt → Bool
-settled st = leb st.wanted st.script.lines && eqb st.followed.place 0
-
--- there is more to read
-unfoldable pub goes_further : Run·rt → Bool
-goes_further run = run.well && (not run.ended && not (settled run.state))
+settled st = leb st.wanted st.script.lines && eqb (place_of st.followed.ahead) 0
 
 -- what is told at the end of the input, with a number for a line that has begun
-pub record TellsEnd (m : List ℕ) (st : State·rt) (m' : List ℕ) (t : Told·rt) : Type 0 where
+pub record TellsEnd (m : List ℕ) (st : State·rt) (m' : List ℕ) (t : Result Told·rt Untold·rt) : Type 0 where
   pub number : st.script.lines + 1 < last_number
   pub finished : Finished m st m' t
 
--- and what is told after a run that went well: before the end of the input only what is settled
-pub record Tells (m : List ℕ) (run : Run·rt) (m' : List ℕ) (t : Told·rt) : Type 0 where
-  pub went-well : run.well ≡ true
-  pub at-end : run.ended ≡ true → TellsEnd m run.state m' t
-  pub before : run.ended ≡ false → (settled run.state ≡ true) × (t ≡ run.state.followed.told)
+-- and what is told after a run, which has come to the end of its input or not: before it only what is settled
+pub record Tells (m : List ℕ) (st : State·rt) (ended : Bool) (m' : List ℕ) (t : Result Told·rt Untold·rt) : Type 0 where
+  pub at-end : ended ≡ true → TellsEnd m st m' t
+  pub before : ended ≡ false → (settled st ≡ true) × (t ≡ st.followed.told)
 
 -- The answer as text.
 
@@ -81,41 +59,51 @@ answer_line w t = cond (eqb t.answer 0) (why_line w t.reason t.line) (refusal_li
 abbrev pub is_refusal : Told → Bool
 is_refusal t = not (eqb t.answer 0)
 
+-- where a text ends, and whether it is a refusal
+abbrev pub end_of : Text·rt → ℕ
+end_of (Answer end) = end
+end_of (Refusal end) = end
+
+abbrev pub refused : Text·rt → Bool
+refused (Answer end) = false
+refused (Refusal end) = true
+
 -- the text of what is told stands first in the output
 pub record Written (w : ℕ) (t : Told) (out' : List ℕ) (r : Text·rt) : Type 0 where
-  pub within : r.end ≤ length out'
-  pub text : take r.end out' ≡ answer_line w t
-  pub refused : r.refused ≡ is_refusal t
+  pub within : end_of r ≤ length out'
+  pub text : take (end_of r) out' ≡ answer_line w t
+  pub refused : refused r ≡ is_refusal t
 
 -- what the program has done up to its answer
 pub record Answers (m : List ℕ) (w : ℕ) (out' : List ℕ) (r : Text·rt) : Type 0 where
   pub state : State·rt
   pub new : New state w
   pub memory : List ℕ
-  pub run : Run·rt
-  pub runs : Runs (power_on_memory m).memory state memory run
+  pub last : State·rt
+  pub runs : Runs (power_on_memory m).memory state memory last
+  pub ended : Bool
   pub memory' : List ℕ
-  pub told : Told·rt
-  pub tells : Tells memory run memory' told
+  pub told : Result Told·rt Untold·rt
+  pub tells : Tells memory last ended memory' told
   pub written : Written w (told_of told) out' r
 
 -- from power-on, what is written is the line of what `why` tells of the script that the reads brought, and it
 -- is a refusal exactly where that is 2 or 17
 pub record AnswerTold (s : List ℕ) (w : ℕ) (out' : List ℕ) (r : Text·rt) : Type 0 where
-  pub text : take r.end out' ≡ answer_line w (why s w)
-  pub refused : r.refused ≡ is_refusal (why s w)
+  pub text : take (end_of r) out' ≡ answer_line w (why s w)
+  pub refused : refused r ≡ is_refusal (why s w)
 
 pub record RunTold : Type 0 where
   -- to the end of the input
   pub at-end : (m : List ℕ) (w : ℕ) (out' : List ℕ) (r : Text·rt)
       → size ≤ length m
       → (a : Answers m w out' r)
-      → a.run.ended ≡ true
+      → a.ended ≡ true
       → AnswerTold a.runs.script w out' r
   -- or before it, whatever follows
   pub before : (m : List ℕ) (w : ℕ) (out' : List ℕ) (r : Text·rt)
       → size ≤ length m
       → (a : Answers m w out' r)
-      → a.run.ended ≡ false
+      → a.ended ≡ false
       → (rest : List ℕ) → AnswerTold (a.runs.script ++ rest) w out' r
   pub refusals : (s : List ℕ) (w : ℕ) → is_refusal (why s w) ≡ eqb (why s w).answer 2 || eqb (why s w).answer 17

@@ -1,30 +1,26 @@
 // What the argument asks for.
 ghost use Rattle.why.specs.Asked.{Asks};
 
-use check::same;
 use script::read::number;
 
-// A line by its number, every accepted arrival, or nothing that can be answered.
+// A line by its number, or every accepted arrival.
 #[derive(Drop)]
 pub enum Asked {
     Line(u32),
     All,
-    Nothing,
 }
 
-// A line's number is written as the numbers of a script are.
-pub fn asked_of(text: &[u8]) -> Asked
+// What can be answered of it. A line's number is written as the numbers of a script are.
+pub fn asked_of(text: &[u8]) -> Option<Asked>
     ensures { Asks text.now result }
 {
-    if same(text, b"--all") {
-        return Asked::All;
+    if text == b"--all".as_slice() {
+        return Some(Asked::All);
     }
     let d = number(text, 0);
-    if !d.ok {
-        return Asked::Nothing;
-    }
+    let line = d.value?;
     if d.next < text.len() {
-        return Asked::Nothing;
+        return None;
     }
-    Asked::Line(d.value)
+    Some(Asked::Line(line))
 }

@@ -6,10 +6,8 @@
 mod all;
 mod asked;
 mod one;
-mod reads;
-mod writes;
 
-ghost use Rattle.std.specs.Prelude.{◌≡◌, ◌≤◌, length};
+ghost use Rattle.std.specs.Prelude.{◌≡◌, ◌≤◌, length, OnOk, is_ok, if◌then◌else◌};
 ghost use Rattle.rules.specs.Memory.{size};
 ghost use Rattle.follow.specs.Text.{why_room};
 ghost use Rattle.why.specs.Program.{LineTold, Ends};
@@ -17,17 +15,13 @@ ghost use Rattle.why.specs.Program.{LineTold, Ends};
 use all::tell_all;
 use asked::{Asked, asked_of};
 use memory::map::SIZE;
-use one::answer;
-use reads::PORTION;
+use one::{Text, answer};
 use std::io::Read;
-use streams::say;
-use writes::put;
+use streams::portions::PORTION;
+use streams::{Failed, put_all, say};
 
-// The exit status where something failed,
+// The exit status where something failed or a line is refused,
 const FAILED: u32 = 1;
-
-// where a line is refused,
-const REFUSED: u32 = 1;
 
 // and where the argument asks for nothing.
 const MISUSED: u32 = 2;
@@ -40,23 +34,27 @@ fn tell_one<R: Read>(
     wanted: u64,
     input: &mut [u8],
     out: &mut [u8],
-) -> u32
+) -> Result<(), Failed>
     requires { (size ≤ length memory.old) × (why_room ≤ length out.old) }
-    ensures { (result ≡ 0 → LineTold memory.old wanted) × (result ≤ 1) }
+    ensures { OnOk result (LineTold memory.old wanted) }
 {
-    let t = answer(script, memory, wanted, input, out);
-    let end = t.end;
-    if !t.well {
-        return FAILED;
+    match answer(rt, script, memory, wanted, input, out)? {
+        Text::Answer(end) => put_all(b"why", rt, &out[..end]),
+        Text::Refusal(end) => {
+            say(&out[..end]);
+            Err(Failed)
+        }
     }
-    if t.refused {
-        say(&out[..end]);
-        return REFUSED;
+}
+
+// The exit status of what was asked for.
+fn status(told: Result<(), Failed>) -> u32
+    ensures { result ≡ (if is_ok told then 0 else 1) }
+{
+    match told {
+        Ok(()) => 0,
+        Err(Failed) => FAILED,
     }
-    if !put(rt, &out[..end]) {
-        return FAILED;
-    }
-    0
 }
 
 // A script from a reader, which is standard input, what the argument asks of it to standard output, and the exit status: 0 where it is told, and 2 where
@@ -69,20 +67,15 @@ pub fn why_program<R: Read>(rt: &impl Print, script: &mut R, argument: &[u8]) ->
     let mut input = [0u8; PORTION];
     let mut out = [0u8; PORTION];
     match asked_of(argument) {
-        Asked::Line(wanted) => tell_one(
+        Some(Asked::Line(wanted)) => status(tell_one(
             rt,
             script,
             &mut memory,
             wanted as u64,
             &mut input,
             &mut out,
-        ),
-        Asked::All => {
-            if tell_all(rt, script, &mut memory, &mut input, &mut out) {
-                return 0;
-            }
-            FAILED
-        }
-        Asked::Nothing => MISUSED,
+        )),
+        Some(Asked::All) => status(tell_all(rt, script, &mut memory, &mut input, &mut out)),
+        None => MISUSED,
     }
 }

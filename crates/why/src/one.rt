@@ -1,86 +1,33 @@
 // The answer for one line of a script: its message is followed until it has left, or to the script's end.
-ghost use Rattle.std.specs.Prelude.{◌≡◌, true, false, ◌≤◌, length};
-ghost use Rattle.io.specs.Counts.{IsPrefixLen};
+ghost use Rattle.std.specs.Prelude.{◌≡◌, true, ◌≤◌, length, IfOk};
 ghost use Rattle.rules.specs.Memory.{size};
 ghost use Rattle.script.specs.Written.{Appended};
+ghost use Rattle.reasons.specs.Numbers.{untold_number};
 ghost use Rattle.follow.specs.One.{told_of};
 ghost use Rattle.follow.specs.Text.{why_room};
-ghost use Rattle.why.specs.One.{settled, goes_further, Plays, TakesIn, Turns, Runs, TellsEnd, Tells, refusal_line, Written, Answers};
+ghost use Rattle.why.specs.One.{Reaches, settled, TellsEnd, refusal_line, Written, Answers};
+ghost use Rattle.why.specs.OneLeads.{following_leads};
 
-use crate::reads::{Got, read_some};
-use crate::writes::{no_end, no_number};
 use follow::one::{State, Told, finish, follow};
 use follow::text::{put_named, put_why};
 use memory::Node;
-use rules::Report;
+use reasons::Untold;
 use script::write::put_text;
 use std::io::Read;
+use streams::Failed;
+use streams::portions::{Player, Step, no_number, play_script};
 
-// Where a run stands: what is carried from portion to portion, whether all went well, and whether the input is at its end.
-#[derive(Clone, Copy)]
-struct Run {
+// A script of which one line is followed, between two portions of it.
+#[derive(Drop)]
+struct Following {
     state: State,
-    well: bool,
-    ended: bool,
 }
 
-// What is told, where something is.
+// An answer as text, or a refusal: where it ends in the output.
 #[derive(Drop)]
-struct Known {
-    well: bool,
-    told: Told,
-}
-
-// An answer as text, where there is one: whether it is a refusal, and where it ends.
-#[derive(Drop)]
-pub struct Text {
-    pub well: bool,
-    pub refused: bool,
-    pub end: usize,
-}
-
-// A portion. Where fewer line numbers are left than it has bytes, none of it is followed.
-fn play(memory: &mut [u32], state: State, input: &[u8]) -> Run
-    ensures { result.well ≡ true → Plays memory.old state input.now memory.new result }
-{
-    let script = state.script;
-    if u64::MAX - script.lines <= input.len() as u64 {
-        no_number();
-        return Run {
-            state: state,
-            well: false,
-            ended: false,
-        };
-    }
-    Run {
-        state: follow(memory, state, input),
-        well: true,
-        ended: input.len() == 0,
-    }
-}
-
-// What a read brought is followed; the input is at its end where that is nothing.
-fn take_in(memory: &mut [u32], state: State, got: Got, input: &[u8]) -> Run
-    requires { got.count ≤ length input.now }
-    ensures { result.well ≡ true → TakesIn memory.old state got input.now memory.new result }
-{
-    if !got.well {
-        return Run {
-            state: state,
-            well: false,
-            ended: false,
-        };
-    }
-    let n = got.count;
-    play(memory, state, &input[..n])
-}
-
-// One read, and what came of it.
-fn turn<R: Read>(script: &mut R, memory: &mut [u32], state: State, input: &mut [u8]) -> Run
-    ensures { result.well ≡ true → Turns memory.old state input.new memory.new result }
-{
-    let got = read_some(script, input);
-    take_in(memory, state, got, input)
+pub enum Text {
+    Answer(usize),
+    Refusal(usize),
 }
 
 // Whether what is told is settled: the message has left, or the line wanted was no accepted arrival.
@@ -92,145 +39,108 @@ fn is_settled(state: State) -> bool
         return false;
     }
     let followed = state.followed;
-    followed.place == 0
+    followed.ahead.is_none()
 }
 
-// Whether there is more to read.
-fn goes_on(run: Run) -> bool
-    ensures { result ≡ goes_further run }
-{
-    if !run.well {
-        return false;
-    }
-    if run.ended {
-        return false;
-    }
-    let state = run.state;
-    !is_settled(state)
-}
+impl Player for Following {
+    type Answer = Result<Told, Untold>;
 
-// Turns, as long as there is more to read. They are counted down, since a loop has to end and nothing says that an input does.
-fn follow_script<R: Read>(script: &mut R, memory: &mut [u32], state: State, input: &mut [u8]) -> Run
-    ensures { result.well ≡ true → Runs memory.old state memory.new result }
-{
-    let mut run = Run {
-        state: state,
-        well: true,
-        ended: false,
-    };
-    let mut turns = u64::MAX;
-    while turns > 0 && goes_on(run) {
-        let next = run.state;
-        run = turn(script, memory, next, input);
-        turns -= 1;
-    }
-    run
-}
+    ghost reaches = { λ m p bytes m' p'. Reaches m p.state bytes m' p'.state };
 
-// Nothing is told.
-fn untold(state: State) -> Known
-    ensures { result.well ≡ false }
-{
-    let f = state.followed;
-    let t = f.told;
-    Known {
-        well: false,
-        told: t,
-    }
-}
+    ghost ends = { λ m p out m' out' t. TellsEnd m p.state m' t };
 
-// The script at its end. A line that has begun needs a number.
-fn tell_end(memory: &mut [u32], state: State) -> Known
-    ensures { result.well ≡ true → TellsEnd memory.old state memory.new result.told }
-{
-    let script = state.script;
-    if script.lines >= u64::MAX - 1 {
-        no_number();
-        return untold(state);
-    }
-    Known {
-        well: true,
-        told: finish(memory, state),
-    }
-}
+    ghost settles = { λ p t. (settled p.state ≡ true) × (t ≡ p.state.followed.told) };
 
-// After the last turn.
-fn tell(memory: &mut [u32], run: Run) -> Known
-    ensures { result.well ≡ true → Tells memory.old run memory.new result.told }
-{
-    let state = run.state;
-    if !run.well {
-        return untold(state);
+    ghost room = { 0 };
+
+    ghost leads = { following_leads };
+
+    // A portion, all of it. Where fewer line numbers are left than it has bytes, none of it is followed.
+    fn play<W: Print>(
+        self,
+        _rt: &W,
+        memory: &mut [u32],
+        input: &[u8],
+        _out: &mut [u8],
+    ) -> Result<Step<Following>, Failed> {
+        let state = self.state;
+        let script = state.script;
+        if u64::MAX - script.lines <= input.len() as u64 {
+            return Err(no_number(b"why"));
+        }
+        Ok(Step {
+            player: Following {
+                state: follow(memory, state, input),
+            },
+            used: input.len(),
+        })
     }
-    if run.ended {
-        return tell_end(memory, state);
+
+    // The script's end. A line that has begun needs a number.
+    fn end<W: Print>(
+        self,
+        _rt: &W,
+        memory: &mut [u32],
+        _out: &mut [u8],
+    ) -> Result<Result<Told, Untold>, Failed> {
+        let state = self.state;
+        let script = state.script;
+        if script.lines >= u64::MAX - 1 {
+            return Err(no_number(b"why"));
+        }
+        Ok(finish(memory, state))
     }
-    if !is_settled(state) {
-        no_end();
-        return untold(state);
-    }
-    let f = state.followed;
-    let t = f.told;
-    Known {
-        well: true,
-        told: t,
+
+    // What is told before it.
+    fn settled(&self) -> Option<Result<Told, Untold>> {
+        let state = self.state;
+        if is_settled(state) {
+            return Some(state.followed.told);
+        }
+        None
     }
 }
 
 // The line of a refusal.
-fn put_refusal(out: &mut [u8], wanted: u64, answer: u32) -> usize
+fn put_refusal(out: &mut [u8], wanted: u64, refusal: Untold) -> usize
     requires { why_room ≤ length out.old }
-    ensures { Appended out.old 0 out.new result (refusal_line wanted answer) × (result ≤ why_room) }
+    ensures { Appended out.old 0 out.new result (refusal_line wanted (untold_number refusal)) × (result ≤ why_room) }
 {
     let a = put_named(out, 0, b"why: line ", wanted);
-    let b = put_named(out, a, b": refused with ", answer as u64);
-    if answer == Report::UNREADABLE {
+    let b = put_named(out, a, b": refused with ", u32::from(refusal) as u64);
+    if refusal == Untold::Unreadable {
         return put_text(out, b, b": it can't be read\n");
     }
     put_text(out, b, b": it is no accepted arrival of this script\n")
 }
 
 // The line of what is told.
-fn put_told(out: &mut [u8], wanted: u64, t: Told) -> Text
+fn put_told(out: &mut [u8], wanted: u64, told: Result<Told, Untold>) -> Text
     requires { why_room ≤ length out.old }
-    ensures { Written wanted (told_of t) out.new result }
+    ensures { Written wanted (told_of told) out.new result }
 {
-    if t.answer == 0 {
-        return Text {
-            well: true,
-            refused: false,
-            end: put_why(out, 0, wanted, t.reason, t.line),
-        };
-    }
-    Text {
-        well: true,
-        refused: true,
-        end: put_refusal(out, wanted, t.answer),
+    match told {
+        Ok(told) => Text::Answer(put_why(out, 0, wanted, told.reason as u32, told.line)),
+        Err(refusal) => Text::Refusal(put_refusal(out, wanted, refusal)),
     }
 }
 
 // The answer for a line of the script that is read.
 pub fn answer<R: Read>(
+    rt: &impl Print,
     script: &mut R,
     memory: &mut [u32],
     wanted: u64,
     input: &mut [u8],
     out: &mut [u8],
-) -> Text
+) -> Result<Text, Failed>
     requires { (size ≤ length memory.old) × (why_room ≤ length out.old) }
-    ensures { IsPrefixLen result.end out.new × (result.well ≡ true → Answers memory.old wanted out.new result) }
+    ensures { IfOk result (λ text. Answers memory.old wanted out.new text) }
 {
     Node::start(memory);
-    let state = State::new(wanted);
-    let run = follow_script(script, memory, state, input);
-    let known = tell(memory, run);
-    if !known.well {
-        return Text {
-            well: false,
-            refused: false,
-            end: 0,
-        };
-    }
-    let t = known.told;
-    put_told(out, wanted, t)
+    let following = Following {
+        state: State::new(wanted),
+    };
+    let told = play_script(following, b"why", rt, script, memory, input, out)?;
+    Ok(put_told(out, wanted, told))
 }

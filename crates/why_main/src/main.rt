@@ -1,7 +1,7 @@
 // The program why: a script on standard input, one argument that asks for a line of it or for all, the answer on standard output, and the exit status.
 #![tactic(auto)]
 
-ghost use Rattle.std.specs.Prelude.{◌≤◌, length};
+ghost use Rattle.std.specs.Prelude.{◌≤◌, length, IfSome};
 ghost use Rattle.std.specs.Process.{exit_status};
 ghost use Rattle.why.specs.Program.{Ends};
 
@@ -10,21 +10,17 @@ use std::io::Read;
 use std::process::ExitCode;
 use why::why_program;
 
-// The room of an argument: one that is longer asks for nothing.
+// The room of an argument: one that is longer asks for nothing, as one that is empty does.
 const ROOM: usize = 64;
 
-// The argument at the beginning of room for it, and where it ends: 0 where there is none, or another one behind it, or where it is too long.
-fn argument(rt: &impl Env, room: &mut [u8]) -> usize
-    ensures { result ≤ length room.new }
+// The argument at the beginning of room for it, and where it ends, if there is one that fits, and none behind it.
+fn argument(rt: &impl Env, room: &mut [u8]) -> Option<usize>
+    ensures { IfSome result (λ end. end ≤ length room.new) }
 {
     let mut next = [0u8; 1];
     match rt.arg(2, &mut next) {
-        Err(FillError::NotPresent) => {}
-        _ => return 0,
-    }
-    match rt.arg(1, room) {
-        Ok(end) => end,
-        Err(_) => 0,
+        Err(FillError::NotPresent) => rt.arg(1, room).ok(),
+        _ => None,
     }
 }
 
@@ -38,6 +34,6 @@ fn answer<R: Read>(rt: &impl Print, script: &mut R, argument: &[u8]) -> ExitCode
 fn main(rt: HostRuntime) -> ExitCode {
     let mut input = rt.stdin();
     let mut room = [0u8; ROOM];
-    let end = argument(&rt, &mut room);
+    let end = argument(&rt, &mut room).unwrap_or(0);
     answer(&rt, &mut input, &room[..end])
 }

@@ -1,9 +1,12 @@
--- `capi::fugu_test` meets its contract: the memory test, as a number. Assumes nothing.
-use mathlib.Core.Path.{◌∙◌, sym}
+-- `capi::fugu_test` meets its contract: the test's answer as a number. Assumes nothing.
+use mathlib.Core.Bool.{Bool, true, false, cond}
+use mathlib.Core.Path.{◌≡◌, ◌∙◌, ap, refl}
+use mir.Val.{bool_byte}
 use Rattle.capi.proofs.fugu_test.Goals as goal
 
-pub returns-then-is_node : goal.returns-then-is_node
-returns-then-is_node c = rw (sym c.is_node.ensures ∙ c.if-is_node.true)
+number : (t : Bool) → bool_byte t ≡ cond t 1 0
+number true = refl
+number false = refl
 
 pub returns : goal.returns
-returns c = rw (sym c.is_node.ensures ∙ c.if-is_node.false)
+returns c = c.from.ensures ∙ number c.is_node.result ∙ ap (λ (t : Bool). cond t 1 0) c.is_node.ensures

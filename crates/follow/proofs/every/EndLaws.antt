@@ -16,7 +16,9 @@ use Rattle.script.specs.Feed.{kept_line, last_number}
 use Rattle.script.specs.Feeding.{after_lines, last_line, lines_behind}
 use Rattle.script.specs.Read.{line_of}
 use Rattle.script.specs.Written.{Appended}
+use Rattle.script.specs.declared.play.Stop.TheVariants.{AllUsed, NoRoom}
 use Rattle.script.proofs.feed.BegunLaws.{behind-open}
+use Rattle.script.proofs.play.StopLaws.{all-or-number, stop-cases}
 use Rattle.script.proofs.write.AppendedLaws.{appended-as, appended_then}
 use Rattle.follow.specs.Seen.{seen_memory}
 use Rattle.follow.specs.Waiting.{lines_room}
@@ -55,7 +57,7 @@ not-empty [] e n = true≢false e
 not-empty (x ∷ b) e n = let k = ap length n in omega arith
 
 -- the output is too short
-pub finished-short : {m : List ℕ} {st : State·rt} {out : List ℕ} → length out < 2 * lines_room → FinishedTo m st out m out (record { written = 0; stop = 1 })
+pub finished-short : {m : List ℕ} {st : State·rt} {out : List ℕ} → length out < 2 * lines_room → FinishedTo m st out m out (record { written = 0; stop = NoRoom })
 finished-short short =
     record {
       enough = λ r n. absurd (omega arith);
@@ -66,7 +68,7 @@ finished-short short =
 
 -- no line has begun
 pub finished-none : {m : List ℕ} (st : State·rt) {out out' : List ℕ} {e : End·rt} → 2 * lines_room ≤ length out → false ≡ not (is_empty (kept_line st.script))
-    → Appended out 0 out' e.written (telling_lines (tell_queued st.script.lines (waiting_of st))) × (e.stop ≡ 0)
+    → Appended out 0 out' e.written (telling_lines (tell_queued st.script.lines (waiting_of st))) × (e.stop ≡ AllUsed)
     → FinishedTo m st out m out' e
 unfolding after_lines tell_lines still_waiting seen_memory
 finished-none {m} st {out} {out'} {e} room none q =
@@ -91,13 +93,13 @@ module _ {m : List ℕ} (st : State·rt) {out m₁ out₁ : List ℕ} {t : Told�
   has-begun = not-true (is_empty (kept_line st.script)) (sym some)
 
   -- it is not told, for want of a line number
-  pub finished-stopped : (t.stop ≡ 0 → ⊥) → FinishedTo m st out m₁ out₁ (record { written = 0; stop = t.stop })
+  pub finished-stopped : (t.stop ≡ AllUsed → ⊥) → FinishedTo m st out m₁ out₁ (record { written = 0; stop = t.stop })
   unfolding line_of
   finished-stopped stopped =
       elim (dec_lt (st.script.lines + 1) last_number) [
         | yes h ↦
             let p = g.enough (omega arith) in
-            let one : t.stop ≡ 1 = let s = p.stops in omega arith in
+            let one : t.stop ≡ NoRoom = stop-cases t.stop (λ e. absurd (stopped e)) (λ e. e) (λ e. absurd (p.stops e)) in
             let u : t.used ≡ 0 = let f = p.stopped one in omega arith in
             let none : length (lines_behind (kept_line st.script) (take t.used (newline ∷ []))) ≡ 0 =
             ap (λ (k : ℕ). length (lines_behind (kept_line st.script) (take k (newline ∷ [])))) u ∙ ap length (behind-open (kept_line st.script) [] refl).0 in
@@ -112,12 +114,12 @@ module _ {m : List ℕ} (st : State·rt) {out m₁ out₁ : List ℕ} {t : Told�
             }
       ]
 
-  module _ (all : t.stop ≡ 0) where
+  module _ (all : t.stop ≡ AllUsed) where
     numbers : st.script.lines + 1 < last_number
     numbers =
         elim (dec_lt (st.script.lines + 1) last_number) [
           | yes h ↦ h
-          | no h ↦ absurd (let p = g.last-number (omega arith) in let e = ap (λ (x : Told·rt). x.stop) p.1.1 in omega arith)
+          | no h ↦ absurd (let p = g.last-number (omega arith) in all-or-number (sym all ∙ ap (λ (x : Told·rt). x.stop) p.1.1))
         ]
 
     portion : PortionTold m st (newline ∷ []) out m₁ out₁ t
@@ -138,7 +140,7 @@ module _ {m : List ℕ} (st : State·rt) {out m₁ out₁ : List ℕ} {t : Told�
         few (x ∷ b) = omega arith
 
     pub finished-told : {out₂ : List ℕ} {e : End·rt}
-        → Appended out₁ t.written out₂ e.written (telling_lines (tell_queued t.state.script.lines (waiting_of t.state))) × (e.stop ≡ 0)
+        → Appended out₁ t.written out₂ e.written (telling_lines (tell_queued t.state.script.lines (waiting_of t.state))) × (e.stop ≡ AllUsed)
         → FinishedTo m st out m₁ out₂ e
     finished-told q =
         let p = portion in

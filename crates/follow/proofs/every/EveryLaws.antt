@@ -14,6 +14,9 @@ use Rattle.script.specs.Feed.{Cut, kept_line, kept_room, last_number}
 use Rattle.script.specs.Feeding.{after_lines, begun, lines_behind, rest_behind, whole}
 use Rattle.script.specs.Read.{line_end, line_of}
 use Rattle.script.specs.Written.{Appended}
+use Rattle.script.specs.declared.play.Stop.{Stop as Stop·rt}
+use Rattle.script.specs.declared.play.Stop.TheVariants.{AllUsed, NoRoom, LastNumber}
+use Rattle.script.proofs.play.StopLaws.{all-or-room}
 use Rattle.script.proofs.PortionsLaws.{joined}
 use Rattle.script.proofs.OneLineLaws.{one-take}
 use Rattle.script.proofs.write.AppendedLaws.{appended-as, appended-none, appended_then}
@@ -60,7 +63,7 @@ pub record Telling-lines (m b u : List ℕ) (lines : ℕ) (ws out m' kept waitin
 pub telling-start : {m : List ℕ} {good : Bool} {kept : List ℕ} {begins : ℕ} {u : List ℕ} {lines : ℕ} {waiting : List ℕ} {count : ℕ} (out : List ℕ)
     → Tellable m good kept begins u lines waiting count
     → Telling-lines m (take begins kept) u lines (take count waiting) out m kept waiting out
-    (record { used = 0; lines = lines; kept = begins; count = count; end = 0; stop = 0 })
+    (record { used = 0; lines = lines; kept = begins; count = count; end = 0; stop = AllUsed })
 unfolding still_waiting tell_lines telling_lines seen_memory
 telling-start {m} {kept = kept} {begins = begins} {u = u} {lines = lines} out h =
     let b = take begins kept in
@@ -80,7 +83,7 @@ module _ {m b u : List ℕ} {lines : ℕ} {ws out m₁ kept waiting out₁ : Lis
       → {waiting₂ out₂ : List ℕ} {w : Waiting·rt} → LineTold waiting r.count (r.lines + 1) t out₁ r.end waiting₂ out₂ w
       → r.end + lines_room ≤ length out₁ → length out₂ ≡ length out₁
       → Telling-lines m b u lines ws out m₂ kept₂ waiting₂ out₂
-      (record { used = t.next; lines = r.lines + 1; kept = 0; count = w.count; end = w.end; stop = 0 })
+      (record { used = t.next; lines = r.lines + 1; kept = 0; count = w.count; end = w.end; stop = AllUsed })
   unfolding still_waiting tell_lines seen_memory
   telling-more inside {t = t} n {w = w} d room same =
       let p = g.passed in
@@ -115,7 +118,7 @@ module _ {m b u : List ℕ} {lines : ℕ} {ws out m₁ kept waiting out₁ : Lis
       }
 
   -- how far they are, and why it stopped
-  pub telling-end : (stop : ℕ) → length out₁ ≡ length out → (stop ≡ 0 → r.used ≡ length u) → (stop ≡ 1 → length out₁ < r.end + lines_room) → (stop ≡ 1 → r.used < length u) → stop ≤ 1
+  pub telling-end : (stop : Stop·rt) → length out₁ ≡ length out → (stop ≡ AllUsed → r.used ≡ length u) → (stop ≡ NoRoom → length out₁ < r.end + lines_room) → (stop ≡ NoRoom → r.used < length u) → (stop ≡ LastNumber → ⊥)
       → LinesTold m b u lines ws out m₁ kept waiting out₁ (record { used = r.used; lines = r.lines; kept = r.kept; count = r.count; end = r.end; stop = stop })
   telling-end stop same all room before stops =
       let p = g.passed in
@@ -159,7 +162,7 @@ module _ (m : List ℕ) (st : State·rt) {input : List ℕ} {last : ℕ} (n : �
     told-portion : (used count : ℕ) (kept : List ℕ) → used ≤ length input
         → whole (take n st.script.kept ++ take r.used (take last input)) ≡ lines_behind (kept_line st.script) (take used input)
         → kept_line (record { lines = r.lines; kept = kept; count = count }) ≡ take kept_room (rest_behind (kept_line st.script) (take used input))
-        → (r.stop ≡ 0 → used ≡ length input) → (r.stop ≡ 1 → used < length input)
+        → (r.stop ≡ AllUsed → used ≡ length input) → (r.stop ≡ NoRoom → used < length input)
         → ToldTo m st input out m' out' (portion_told r kept count waiting' used)
     unfolding waiting_of
     told-portion used count kept inside w rest all before =
@@ -185,7 +188,7 @@ module _ (m : List ℕ) (st : State·rt) {input : List ℕ} {last : ℕ} (n : �
         }
 
     -- it stopped for want of room
-    pub told-stopped : (r.stop ≡ 0 → ⊥) → ToldTo m st input out m' out' (portion_told r kept' r.kept waiting' r.used)
+    pub told-stopped : (r.stop ≡ AllUsed → ⊥) → ToldTo m st input out m' out' (portion_told r kept' r.kept waiting' r.used)
     unfolding kept_line
     told-stopped stopped =
         let b = take n st.script.kept in
@@ -201,7 +204,7 @@ module _ (m : List ℕ) (st : State·rt) {input : List ℕ} {last : ℕ} (n : �
         (λ e. absurd (stopped e)) (λ e. let f = q.stopped e in let h = c.inside in omega arith)
 
     -- all was used
-    pub told-used : r.stop ≡ 0 → (kept : List ℕ) (count : ℕ) → take count kept ≡ take kept_room (take r.kept kept' ++ drop last input)
+    pub told-used : r.stop ≡ AllUsed → (kept : List ℕ) (count : ℕ) → take count kept ≡ take kept_room (take r.kept kept' ++ drop last input)
         → ToldTo m st input out m' out' (portion_told r kept count waiting' (length input))
     told-used used kept count grown =
         let b = take n st.script.kept in
@@ -211,4 +214,4 @@ module _ (m : List ℕ) (st : State·rt) {input : List ℕ} {last : ℕ} (n : �
         (ap (λ (x : List ℕ). whole (b ++ x)) u ∙ portion-lines (kept-one-line st.script n begins) c ∙ ap (λ (x : List ℕ). lines_behind x input) begins ∙ ap (lines_behind (kept_line st.script)) (sym all))
         (portion-kept (kept-one-line st.script n begins) c r.lines kept count (grown ∙ ap (λ (x : List ℕ). take kept_room (x ++ drop last input)) (q.kept ∙ ap (λ (x : List ℕ). begun (b ++ x)) u))
         ∙ ap (λ (x : List ℕ). take kept_room (rest_behind x input)) begins ∙ ap (λ (x : List ℕ). take kept_room (rest_behind (kept_line st.script) x)) (sym all))
-        (λ e. refl) (λ e. omega arith)
+        (λ e. refl) (λ e. absurd (all-or-room (sym used ∙ e)))

@@ -1,16 +1,22 @@
 -- A message's place in the queue, line after line. Assumes nothing.
 use Prim.Native.Nat.{ℕ, zero, suc, ◌+◌, ◌-◌, ◌≤◌, ◌<◌}
 use native.Mathlib.Omega.{arith}
-use mathlib.Core.Bool.{true, false}
+use mathlib.Core.Bool.{true, false, cond}
 use mathlib.Core.List.{List, [], ◌∷◌, ◌++◌}
 use mathlib.Core.Path.{◌≡◌, refl, sym, ap, ◌∙◌}
+use lib.Dec.{eqb}
 use lib.ListN.{length, replicate, length-replicate}
 use borrow.Author.Tests.{eq-eqb, ne_eqb}
 use Rattle.rules.specs.Operation.{unreadable}
 use Rattle.reasons.specs.ByPlace.{leaving}
 use Rattle.reasons.specs.Follow.{Followed, Seen, follow_line, follow_lines, moved_up, picked_up, told_at}
 use Rattle.reasons.specs.Why.{Told, told, untold}
-use Rattle.follow.specs.Seen.{Sees}
+use Rattle.reasons.specs.Numbers.{reason_number}
+use Rattle.std.proofs.lemmas.Option.{same_Some}
+use Rattle.std.specs.Prelude.{Option, None, Some, SomeIff, is_some}
+use Rattle.follow.specs.One.{place_of}
+use Rattle.follow.specs.Seen.{Sees, left_of, reasons_of}
+use Rattle.follow.specs.declared.seen.Leaving.{Leaving as Leaving·rt}
 use Rattle.follow.specs.declared.seen.Line.{Line as Line·rt}
 
 -- as many leave as said
@@ -48,6 +54,11 @@ module _ (i : ℕ) (t : Told) where
       let e : suc p - k ≡ suc (suc p) - suc k = omega arith in
       behind-later (suc p) k b (omega arith) ∙ ap (λ (n : ℕ). record { place = n; told = t }) e
 
+  -- none leaves
+  pub moved_still : (p : ℕ) {rs : List ℕ} → rs ≡ [] → moved_up i t p rs ≡ record { place = p; told = t }
+  unfolding moved_up
+  moved_still p e = ap (moved_up i t p) e
+
   -- there is none to follow
   pub moved_none : (p : ℕ) (rs : List ℕ) → p ≡ 0 → moved_up i t p rs ≡ record { place = p; told = t }
   unfolding moved_up
@@ -70,36 +81,63 @@ module _ (i : ℕ) (t : Told) where
   moved_later (suc zero) (suc k) a b low h = absurd (omega arith)
   moved_later (suc (suc p)) (suc k) a b low h = left-later (suc p) k b (omega arith) (omega arith)
 
+  -- the same by how many are queued ahead of it
+
+  pub moved-ahead : (p k a b : ℕ) {q : ℕ} → SomeIff (Some q) (k ≤ p) (p - k) → record { place = suc q; told = t } ≡ moved_up i t (suc p) (leaving k a b)
+  moved-ahead p k a b {q} h =
+      let h0 = h.0 in
+      let h1 = h.1 in
+      let e : suc q ≡ suc p - k = omega arith in
+      ap (λ (n : ℕ). record { place = n; told = t }) e ∙ sym (moved-behind (suc p) k a b (omega arith))
+
+  pub moved-out : (p k a b : ℕ) {r : ℕ} → ¬ (k ≤ p) → r ≡ cond (eqb p 0) a b → record { place = 0; told = told r i } ≡ moved_up i t (suc p) (leaving k a b)
+  moved-out zero k a b n e = ap (λ (x : ℕ). record { place = 0; told = told x i }) e ∙ sym (moved-first 1 k a b refl (omega (arith, n)))
+  moved-out (suc p) k a b n e =
+      ap (λ (x : ℕ). record { place = 0; told = told x i }) (e ∙ rw (ne_eqb (suc p) 0 (λ q. omega arith)))
+      ∙ sym (moved_later (suc (suc p)) k a b (omega arith) (omega (arith, n)))
+
 -- The line wanted.
+
+-- as many leave as are told
+pub length-reasons : (o : Option Leaving·rt) → length (reasons_of o) ≡ left_of o
+length-reasons None = refl
+length-reasons (Some l) = length-leaving l.count (reason_number l.first) (reason_number l.later)
+
+place-one_less : (o : Option ℕ) (n : ℕ) → SomeIff o (1 ≤ n) (n - 1) → place_of o ≡ n
+place-one_less None n h = omega (arith, h)
+place-one_less (Some k) n h = let h0 = h.0 in let h1 = h.1 in omega arith
 
 module _ {l : Line·rt} {s : Seen} (v : Sees l s) (f : Followed) where
   pub picked-unread : l.answer ≡ unreadable → record { place = 0; told = untold unreadable } ≡ picked_up s f
   unfolding picked_up
   picked-unread e = rw (eq-eqb s.answer unreadable (sym v.answer ∙ e))
 
-  pub picked-arrival : (l.answer ≡ unreadable → ⊥) → l.arrival ≡ true → record { place = l.queued + l.left; told = f.told } ≡ picked_up s f
+  pub picked-arrival : (l.answer ≡ unreadable → ⊥) → (q : ℕ) → l.queued ≡ Some q → (o : Option ℕ) → SomeIff o (1 ≤ q + left_of l.leaving) (q + left_of l.leaving - 1)
+      → record { place = place_of o; told = f.told } ≡ picked_up s f
   unfolding picked_up
-  picked-arrival n e =
-      let t : s.arrival ≡ true = sym v.arrival ∙ e in
-      let k : length s.reasons ≡ l.left = ap length v.reasons ∙ length-leaving l.left l.first l.later in
-      rw (ne_eqb s.answer unreadable (λ q. n (v.answer ∙ q)), t, k, v.queued t)
+  picked-arrival n q e o h =
+      let t : s.arrival ≡ true = sym v.arrival ∙ ap is_some e in
+      let k : length s.reasons ≡ left_of l.leaving = ap length v.reasons ∙ length-reasons l.leaving in
+      let j : s.queued ≡ q = sym (same_Some q s.queued (sym e ∙ v.queued t)) in
+      ap (λ (x : ℕ). record { place = x; told = f.told }) (place-one_less o (q + left_of l.leaving) h)
+      ∙ rw (ne_eqb s.answer unreadable (λ z. n (v.answer ∙ z)), t, k, j)
 
-  pub picked-other : (l.answer ≡ unreadable → ⊥) → l.arrival ≡ false → f ≡ picked_up s f
+  pub picked-other : (l.answer ≡ unreadable → ⊥) → l.queued ≡ None → f ≡ picked_up s f
   unfolding picked_up
   picked-other n e =
-      let t : s.arrival ≡ false = sym v.arrival ∙ e in
+      let t : s.arrival ≡ false = sym v.arrival ∙ ap is_some e in
       rw (ne_eqb s.answer unreadable (λ q. n (v.answer ∙ q)), t)
 
 -- A line.
 
 module _ (w i : ℕ) (f : Followed) {l : Line·rt} {s : Seen} (v : Sees l s) where
-  pub followed-wanted : i ≡ w → {p : Followed} → p ≡ picked_up s f → moved_up i p.told p.place (leaving l.left l.first l.later) ≡ follow_line w i f s
+  pub followed-wanted : i ≡ w → {p : Followed} → p ≡ picked_up s f → moved_up i p.told p.place (reasons_of l.leaving) ≡ follow_line w i f s
   unfolding follow_line
   followed-wanted e h =
-      ap (λ (q : Followed). moved_up i q.told q.place (leaving l.left l.first l.later)) h
+      ap (λ (q : Followed). moved_up i q.told q.place (reasons_of l.leaving)) h
       ∙ ap (moved_up i (picked_up s f).told (picked_up s f).place) (sym v.reasons) ∙ rw (eq-eqb i w e)
 
-  pub followed-other : (i ≡ w → ⊥) → moved_up i f.told f.place (leaving l.left l.first l.later) ≡ follow_line w i f s
+  pub followed-other : (i ≡ w → ⊥) → moved_up i f.told f.place (reasons_of l.leaving) ≡ follow_line w i f s
   unfolding follow_line
   followed-other n = rw (ne_eqb i w n, v.reasons)
 

@@ -35,7 +35,7 @@ line_set kept n inside one = ap line_of (set_split kept n newline inside) ∙ li
 
 -- a line that is read the same is stepped the same
 pub stepped-as : {m l l' : List ℕ} {behind : ℕ} {m' : List ℕ} {t : Line·rt} → read_line l ≡ read_line l' → LineStepped m l behind m' t → {next behind' : ℕ} → next ≡ behind'
-    → LineStepped m l' behind' m' (record { next = next; answer = t.answer; arrival = t.arrival; queued = t.queued; left = t.left; first = t.first; later = t.later })
+    → LineStepped m l' behind' m' (record { next = next; answer = t.answer; queued = t.queued; leaving = t.leaving })
 unfolding seen_on
 stepped-as {m} {t = t} e g n =
     let s = subst (λ (o : Operation). Sees t (seen_step m o)) e g.sees in
@@ -77,7 +77,7 @@ module _ {m : List ℕ} {good : Bool} {kept : List ℕ} {count : ℕ} {u : List 
 
     pub next-begun : {behind : ℕ} {m' : List ℕ} {t : Line·rt} → n < length kept₁ → LineStepped m (line_of (set kept₁ n newline)) behind m' t
         → LineStepped m (take count kept ++ line_of (drop at u)) (line_end u at + 1) m'
-        (record { next = end + 1; answer = t.answer; arrival = t.arrival; queued = t.queued; left = t.left; first = t.first; later = t.later })
+        (record { next = end + 1; answer = t.answer; queued = t.queued; leaving = t.leaving })
     next-begun inside g = stepped-as (grown-reads inside) g (ap (λ (j : ℕ). j + 1) e)
 
 -- it ends behind its beginning

@@ -1,10 +1,11 @@
 -- Why messages leave, by the operation: which arm of a match stands for which operations. Assumes nothing.
-use Prim.Native.Nat.{ℕ, ◌+◌, ◌≤◌, ◌<◌}
+use Prim.Native.Nat.{ℕ, zero, suc, ◌+◌, ◌≤◌, ◌<◌}
 use native.Mathlib.Omega.{arith}
 use native.Mathlib.Nat.{add-zero}
 use mathlib.Core.Bool.{Bool, false, true, cond, not}
 use mathlib.Core.List.{List, [], ◌∷◌}
-use mathlib.Core.Path.{◌≡◌, refl, sym, ap, subst}
+use mathlib.Core.Logic.{◌≢◌}
+use mathlib.Core.Path.{◌≡◌, refl, sym, ap, subst, ◌∙◌}
 use denote.Enum.Declared.{tag_of}
 use types.Run.{OneOf, miss}
 use Rattle.rules.specs.contracts.Operation.{the_type}
@@ -14,8 +15,12 @@ use Rattle.rules.specs.Run.{arrived_by, disposed_by}
 use Rattle.rules.specs.Types.{operation_of}
 use Rattle.rules.specs.declared.Operation.{Operation as Operation·rt}
 use Rattle.rules.specs.declared.Operation.TheVariants.{Arrive, Schedule, Preempt, Dispatch, Tick, Turn, Poll, Peek, Dispose, BeginAtomic, EndAtomic, Describe, Launch, Unknown}
-use Rattle.reasons.specs.ByPlace.{first_reason, later_reason}
-use Rattle.follow.specs.Seen.{Leaves, Arrival, ArrivalKnown, First, Later}
+use Rattle.reasons.specs.ByPlace.{first_reason, later_reason, leaving}
+use Rattle.reasons.specs.Numbers.{reason_number}
+use Rattle.reasons.specs.declared.Reason.{Reason as Reason·rt}
+use Rattle.reasons.specs.declared.Reason.TheVariants.{NotRunning, Timeout}
+use Rattle.std.specs.Prelude.{Option, None, Some}
+use Rattle.follow.specs.Seen.{Leaves, Arrival, ArrivalKnown, First, Later, Gone}
 
 -- all operations but A, but D and but T, and those at which none leaves
 abbrev pub not_arrive : List ℕ
@@ -85,11 +90,11 @@ unfolding Leaves operation_of disposed_by
 one-disposed op e ok moved c ws = rw e (ap (λ (k : ℕ). moved + k) c)
 
 -- behind the first: a timeout, or its group didn't run
-pub later-tick : (op : Operation·rt) {k : ℕ} → op ≡ Tick k → Later op 6
+pub later-tick : (op : Operation·rt) {k : ℕ} → op ≡ Tick k → Later op Timeout
 unfolding Later operation_of later_reason
 later-tick op e ws = rw e
 
-pub later-other : (op : Operation·rt) → OneOf not_tick (tag_of the_type op) → Later op 3
+pub later-other : (op : Operation·rt) → OneOf not_tick (tag_of the_type op) → Later op NotRunning
 unfolding Later operation_of later_reason
 later-other (Arrive g) k ws = refl
 later-other (Schedule g) k ws = refl
@@ -108,21 +113,27 @@ later-other Unknown k ws = refl
 
 -- The first.
 
+-- why it leaves is asked only where one does
+leaving-as : (k : ℕ) {a a' : ℕ} (b : ℕ) → (0 < k → a ≡ a') → leaving k a b ≡ leaving k a' b
+unfolding leaving
+leaving-as zero b h = refl
+leaving-as (suc k) b h = rw (h (omega arith))
+
 pub arrival-known : {m : List ℕ} {op : Operation·rt} {g left : ℕ} → op ≡ Arrive g → ArrivalKnown m op left → 0 < left → Arrival m g
 unfolding ArrivalKnown
 arrival-known {m} {left = left} e k some = subst (λ (o : Operation·rt). ArrivalKnown m o left) e k some
 
-pub first-none : (m : List ℕ) (op : Operation·rt) {left : ℕ} → left ≡ 0 → (r : ℕ) → First m op left r
+pub first-none : (m : List ℕ) (op : Operation·rt) {left : ℕ} → left ≡ 0 → (r : Option Reason·rt) → First m op left r
 unfolding First
 first-none m op e r ws some = absurd (omega arith)
 
 -- the reason of the operation by its name
-pub first-named : (m : List ℕ) (op : Operation·rt) {op' : Operation·rt} → op ≡ op' → (left : ℕ) {r : ℕ}
-    → ((ws : List ℕ) → r ≡ first_reason (operation_of op' ws) (node_at m)) → First m op left r
+pub first-named : (m : List ℕ) (op : Operation·rt) {op' : Operation·rt} → op ≡ op' → (left : ℕ) (r : Reason·rt)
+    → ((ws : List ℕ) → reason_number r ≡ first_reason (operation_of op' ws) (node_at m)) → First m op left (Some r)
 unfolding First
-first-named m op e left h ws some = rw e (h ws)
+first-named m op e left r h ws some = rw e (h ws)
 
-pub first-quiet : (m : List ℕ) (op : Operation·rt) → OneOf quiet (tag_of the_type op) → (left : ℕ) → First m op left 0
+pub first-quiet : (m : List ℕ) (op : Operation·rt) → OneOf quiet (tag_of the_type op) → (left : ℕ) → First m op left None
 unfolding First operation_of first_reason
 first-quiet m (Arrive g) k left ws some = absurd (miss quiet 0 tt k)
 first-quiet m (Schedule g) k left ws some = absurd (miss quiet 1 tt k)
@@ -138,3 +149,21 @@ first-quiet m EndAtomic k left ws some = refl
 first-quiet m (Describe w) k left ws some = refl
 first-quiet m (Launch n) k left ws some = refl
 first-quiet m Unknown k left ws some = refl
+
+-- Those that leave.
+
+-- none does where there is no reason
+pub gone-none : (m : List ℕ) (op : Operation·rt) (left : ℕ) → First m op left None → Gone m op left None
+unfolding First Gone leaving
+gone-none m op left f ws some = go left (f ws) some
+  where
+    go : (k : ℕ) → (0 < k → 0 ≡ first_reason (operation_of op ws) (node_at m)) → (0 < k → first_reason (operation_of op ws) (node_at m) ≢ 0)
+        → [] ≡ leaving k (first_reason (operation_of op ws) (node_at m)) (later_reason (operation_of op ws))
+    go zero none some = refl
+    go (suc k) none some = absurd (some (omega arith) (sym (none (omega arith))))
+
+pub gone-some : (m : List ℕ) (op : Operation·rt) (left : ℕ) (first later : Reason·rt) → First m op left (Some first) → Later op later
+    → Gone m op left (Some (record { count = left; first = first; later = later }))
+unfolding First Later Gone
+gone-some m op left first later f l ws some =
+    leaving-as left _ (f ws) ∙ ap (leaving left (first_reason (operation_of op ws) (node_at m))) (l ws)

@@ -1,5 +1,5 @@
 -- A line stepped: what is told of it is what is seen of its step. Assumes nothing.
-use Prim.Native.Nat.{ℕ, zero, suc, ◌+◌, ◌-◌, ◌≤◌, ◌<◌}
+use Prim.Native.Nat.{ℕ, ◌+◌, ◌≤◌, ◌<◌}
 use native.Mathlib.Omega.{arith}
 use mathlib.Core.Bool.{Bool, true, false, true≢false, not, ◌&&◌}
 use mathlib.Core.List.{List, [], ◌∷◌, ◌++◌, map}
@@ -30,8 +30,11 @@ use Rattle.reasons.specs.ByPlace.{event_reasons, first_reason, later_reason, lea
 use Rattle.reasons.specs.Follow.{Seen, seen_of, seen_run}
 use Rattle.script.proofs.play.PlayLaws.{known-stays}
 use Rattle.script.proofs.read.LineEndLaws.{by-test}
-use Rattle.follow.specs.Seen.{Arrival, ArrivalKnown, First, Later, Leaves, LineStepped, Sees, SeenRuns, event_on, left_limit, seen_memory, seen_on, seen_step}
+use Rattle.std.specs.Prelude.{Option, None, Some, SomeIff, is_some}
+use Rattle.follow.specs.Seen.{Arrival, ArrivalKnown, Gone, Leaves, LineStepped, Sees, SeenRuns, event_on, left_limit, left_of, seen_memory, seen_on, seen_step}
+use Rattle.follow.specs.declared.seen.Leaving.{Leaving as Leaving·rt}
 use Rattle.follow.specs.declared.seen.Line.{Line as Line·rt}
+use Rattle.follow.proofs.seen.QuietLaws.{reasoned}
 
 -- Memory that is no node moves nothing and accepts nothing.
 
@@ -100,11 +103,15 @@ arrived-node m op e h =
     (λ q. known-stays m op ∙ accepted-node m op (eqb-true (step_memory m op).report.answer 0 q))
     (λ q. absurd (true≢false (sym h ∙ e ∙ ap (λ (t : Bool). not (is_empty (arrived_by op t))) q ∙ ap (λ (ms : List Message). not (is_empty ms)) (refused_none op))))
 
--- why the first leaves is asked only where one does
-leaving-as : (k : ℕ) {a a' : ℕ} (b : ℕ) → (0 < k → a ≡ a') → leaving k a b ≡ leaving k a' b
-unfolding leaving
-leaving-as zero b h = refl
-leaving-as (suc k) b h = rw (h (omega arith))
+-- how many are queued is told of an accepted arrival
+queued-told : (o : Option ℕ) (t : Bool) (n : ℕ) → SomeIff o (t ≡ true) n → is_some o ≡ t
+queued-told None true n h = absurd (h refl)
+queued-told None false n h = refl
+queued-told (Some x) t n h = sym h.0
+
+queued-as : (o : Option ℕ) (t : Bool) (n : ℕ) → SomeIff o (t ≡ true) n → t ≡ true → o ≡ Some n
+queued-as None t n h e = absurd (h e)
+queued-as (Some x) t n h e = ap Some h.1
 
 -- An operation stepped: what the functions tell of its report and of the memory after it is what is seen of it.
 module _ (m : List ℕ) (op : Operation·rt) (ws : List ℕ) {m' : List ℕ} {r : Report·rt} (a : Answers m' r (step_memory m (operation_of op ws))) where
@@ -126,37 +133,37 @@ module _ (m : List ℕ) (op : Operation·rt) (ws : List ℕ) {m' : List ℕ} {r 
     pub step-known-node : arrival ≡ true → is_memory m' ≡ true
     step-known-node e = ap is_memory a.left ∙ arrived-node m (operation_of op ws) told-arrival e
 
-    pub step-sees : {left queued first later next : ℕ} → Leaves op (eqb r.answer 0 && eqb r.trap 0) r.moved left → left ≤ left_limit
-        → (arrival ≡ true → queued ≡ length (node_at m').queue) → First m' op left first → Later op later
-        → Sees (record { next = next; answer = r.answer; arrival = arrival; queued = queued; left = left; first = first; later = later }) (seen_step m (operation_of op ws))
-    unfolding seen_step seen_of event_reasons arrived was_accepted First Later event_on
-    step-sees {left} {first = first} {later = later} l few q f b =
+    pub step-sees : {left next : ℕ} {queued : Option ℕ} {gone : Option Leaving·rt} → Leaves op (eqb r.answer 0 && eqb r.trap 0) r.moved left → left ≤ left_limit
+        → SomeIff queued (arrival ≡ true) (length (node_at m').queue) → Gone m' op left gone × (left_of gone ≤ left)
+        → Sees (record { next = next; answer = r.answer; queued = queued; leaving = gone }) (seen_step m (operation_of op ws))
+    unfolding seen_step seen_of event_reasons arrived was_accepted Gone event_on
+    step-sees {left} {queued = queued} l few q f =
         let o = operation_of op ws in
         let n = node_at (step_memory m o).memory in
         let same : node_at m' ≡ n = ap node_at a.left in
         let e = report-left left l in
         record {
           answer = ap (λ (x : Report·rt). x.answer) a.reported;
-          arrival = told-arrival;
-          queued = λ h. q (told-arrival ∙ h) ∙ ap (λ (k : Node). length k.queue) same;
+          arrival = queued-told queued arrival (length (node_at m').queue) q ∙ told-arrival;
+          queued = λ h. queued-as queued arrival (length (node_at m').queue) q (told-arrival ∙ h) ∙ ap (λ (k : Node). Some (length k.queue)) same;
           reasons =
-              ap (λ (k : ℕ). leaving k (first_reason o n) (later_reason o)) (sym e) ∙ ap (leaving left (first_reason o n)) (sym (b ws))
-              ∙ leaving-as left later (λ some. sym (f ws some ∙ ap (first_reason o) same));
-          few = few;
+              sym (f.0 ws (λ some. reasoned m o (node_at m') (subst (λ (k : ℕ). 0 < k) e some)) ∙ ap (λ (k : ℕ). leaving k (first_reason o (node_at m')) (later_reason o)) e
+              ∙ ap (λ (k : Node). leaving (left_by (event_on m o)) (first_reason o k) (later_reason o)) same);
+          few = let g = f.1 in omega arith;
         }
 
     -- of a line that was read
     pub line-stepped : {l : List ℕ} {behind next : ℕ} → operation_of op ws ≡ read_line l → next ≡ behind
-        → {left queued first later : ℕ} → Leaves op (eqb r.answer 0 && eqb r.trap 0) r.moved left → left ≤ left_limit
-        → (arrival ≡ true → queued ≡ length (node_at m').queue) → First m' op left first → Later op later
-        → LineStepped m l behind m' (record { next = next; answer = r.answer; arrival = arrival; queued = queued; left = left; first = first; later = later })
+        → {left : ℕ} {queued : Option ℕ} {gone : Option Leaving·rt} → Leaves op (eqb r.answer 0 && eqb r.trap 0) r.moved left → left ≤ left_limit
+        → SomeIff queued (arrival ≡ true) (length (node_at m').queue) → Gone m' op left gone × (left_of gone ≤ left)
+        → LineStepped m l behind m' (record { next = next; answer = r.answer; queued = queued; leaving = gone })
     unfolding seen_on
-    line-stepped {next = next} read e {left} {queued} {first} {later} l few q f b =
-        let told : Line·rt = record { next = next; answer = r.answer; arrival = arrival; queued = queued; left = left; first = first; later = later } in
+    line-stepped {next = next} read e {left} {queued} {gone} l few q f =
+        let told : Line·rt = record { next = next; answer = r.answer; queued = queued; leaving = gone } in
         record {
           next = e;
           memory = a.left ∙ ap (λ (o : Operation). (step_memory m o).memory) read;
-          sees = subst (λ (o : Operation). Sees told (seen_step m o)) read (step-sees {next = next} l few q f b);
+          sees = subst (λ (o : Operation). Sees told (seen_step m o)) read (step-sees {next = next} l few q f);
         }
 
 -- From power-on on.

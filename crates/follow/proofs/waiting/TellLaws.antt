@@ -17,11 +17,14 @@ use Rattle.reasons.specs.Why.{why_line}
 use Rattle.script.specs.Written.{Appended}
 use Rattle.script.proofs.read.LineEndLaws.{by-test}
 use Rattle.script.proofs.write.AppendedLaws.{appended-as, appended-none, appended_then}
-use Rattle.follow.specs.Seen.{Sees}
+use Rattle.reasons.specs.Numbers.{reason_number}
+use Rattle.std.specs.Prelude.{None, Some, is_some}
+use Rattle.follow.specs.Seen.{Sees, reasons_of}
 use Rattle.follow.specs.Text.{why_room}
 use Rattle.follow.specs.Waiting.{LineTold, lines_room}
 use Rattle.follow.specs.declared.seen.Line.{Line as Line·rt}
-use Rattle.follow.proofs.one.PlaceLaws.{length-leaving}
+use Rattle.follow.specs.declared.seen.Leaving.{Leaving as Leaving·rt}
+use Rattle.follow.proofs.one.PlaceLaws.{length-leaving, length-reasons}
 
 -- none leaves
 tellings-none : (i : ℕ) (ws : List ℕ) → tellings i ws [] ≡ []
@@ -80,22 +83,22 @@ fewer-said count left {n} e =
     (λ q. let f : n ≡ count = e ∙ ap (λ (t : Bool). cond t left count) q in let h = ltb-false left count q in record { waiting = omega arith; leaving = omega arith; all = inr (omega arith) })
 
 -- the lines of the first k of those that leave are written
-pub record Putting (out : List ℕ) (at : ℕ) (ws : List ℕ) (i : ℕ) (l : Line·rt) (out' : List ℕ) (end k : ℕ) : Type 0 where
-  pub put : Appended out at out' end (telling_lines (tellings i (take k ws) (leaving l.left l.first l.later)))
+pub record Putting (out : List ℕ) (at : ℕ) (ws : List ℕ) (i : ℕ) (g : Leaving·rt) (out' : List ℕ) (end k : ℕ) : Type 0 where
+  pub put : Appended out at out' end (telling_lines (tellings i (take k ws) (reasons_of (Some g))))
   pub at_most : end ≤ at + why_room * k
 
-module _ (out : List ℕ) (at : ℕ) (ws : List ℕ) (i : ℕ) (l : Line·rt) where
-  pub putting-start : Putting out at ws i l out at 0
+module _ (out : List ℕ) (at : ℕ) (ws : List ℕ) (i : ℕ) (g : Leaving·rt) where
+  pub putting-start : Putting out at ws i g out at 0
   unfolding tellings telling_lines
   putting-start = record { put = appended-none out at; at_most = omega arith }
 
-  module _ {out₁ : List ℕ} {end k : ℕ} (p : Putting out at ws i l out₁ end k) where
-    pub putting-more : k < length ws → k < l.left → {out₂ : List ℕ} {end₂ : ℕ} (w r : ℕ) → w ≡ get_or ws k 0 → r ≡ cond (eqb k 0) l.first l.later
-        → Appended out₁ end out₂ end₂ (why_line w r i) → end₂ ≤ end + why_room → Putting out at ws i l out₂ end₂ (k + 1)
+  module _ {out₁ : List ℕ} {end k : ℕ} (p : Putting out at ws i g out₁ end k) where
+    pub putting-more : k < length ws → k < g.count → {out₂ : List ℕ} {end₂ : ℕ} (w r : ℕ) → w ≡ get_or ws k 0 → r ≡ cond (eqb k 0) (reason_number g.first) (reason_number g.later)
+        → Appended out₁ end out₂ end₂ (why_line w r i) → end₂ ≤ end + why_room → Putting out at ws i g out₂ end₂ (k + 1)
     putting-more waits leaves w r ew er a few =
-        let rs = leaving l.left l.first l.later in
-        let n = length-leaving l.left l.first l.later in
-        let reason : r ≡ get_or rs k 0 = er ∙ reason-at l.left l.first l.later k leaves in
+        let rs = reasons_of (Some g) in
+        let n = length-leaving g.count (reason_number g.first) (reason_number g.later) in
+        let reason : r ≡ get_or rs k 0 = er ∙ reason-at g.count (reason_number g.first) (reason_number g.later) k leaves in
         let line : why_line w r i ≡ telling_lines (record { arrival = get_or ws k 0; reason = get_or rs k 0; line = i } ∷ []) =
         ap (λ (x : ℕ). why_line x r i) ew ∙ ap (λ (x : ℕ). why_line (get_or ws k 0) x i) reason ∙ sym (lines-one (get_or ws k 0) (get_or rs k 0) i) in
         record {
@@ -105,10 +108,10 @@ module _ (out : List ℕ) (at : ℕ) (ws : List ℕ) (i : ℕ) (l : Line·rt) wh
           at_most = let m = p.at_most in omega arith;
         }
 
-    pub putting-end : Fewer (length ws) l.left k → Appended out at out₁ end (telling_lines (tellings i ws (leaving l.left l.first l.later)))
+    pub putting-end : Fewer (length ws) g.count k → Appended out at out₁ end (telling_lines (tellings i ws (reasons_of (Some g))))
     putting-end f =
-        let rs = leaving l.left l.first l.later in
-        let n = length-leaving l.left l.first l.later in
+        let rs = reasons_of (Some g) in
+        let n = length-leaving g.count (reason_number g.first) (reason_number g.later) in
         appended-as p.put
         (ap telling_lines (⊎_elim (λ h. tellings-all i k ws rs (omega arith)) (λ h. ap (λ (x : List ℕ). tellings i x rs) (take_all k ws h)) f.all))
 
@@ -116,16 +119,16 @@ module _ (out : List ℕ) (at : ℕ) (ws : List ℕ) (i : ℕ) (l : Line·rt) wh
 
 module _ (w : List ℕ) (count i : ℕ) (l : Line·rt) where
   -- those that wait once its message has joined
-  with-seen : {s : Seen} → Sees l s → {x : List ℕ} → x ≡ take paper01.places (take count w ++ cond l.arrival (i ∷ []) []) → x ≡ waiting_with i s (take count w)
+  with-seen : {s : Seen} → Sees l s → {x : List ℕ} → x ≡ take paper01.places (take count w ++ cond (is_some l.queued) (i ∷ []) []) → x ≡ waiting_with i s (take count w)
   unfolding waiting_with
   with-seen v e = e ∙ ap (λ (t : Bool). take paper01.places (take count w ++ cond t (i ∷ []) [])) v.arrival
 
-  module _ {out : List ℕ} {at : ℕ} (n : ℕ) (w₁ : List ℕ) (joins : take n w₁ ≡ take paper01.places (take count w ++ cond l.arrival (i ∷ []) [])) (few : n ≤ paper01.places) where
+  module _ {out : List ℕ} {at : ℕ} (n : ℕ) (w₁ : List ℕ) (joins : take n w₁ ≡ take paper01.places (take count w ++ cond (is_some l.queued) (i ∷ []) [])) (few : n ≤ paper01.places) where
     -- none leaves
-    pub line_quiet : l.left ≡ 0 → LineTold w count i l out at w₁ out (record { count = n; end = at })
+    pub line_quiet : l.leaving ≡ None → LineTold w count i l out at w₁ out (record { count = n; end = at })
     unfolding waiting_after telling_lines leaving
     line_quiet none =
-        let quiet : (s : Seen) → Sees l s → s.reasons ≡ [] = λ s v. v.reasons ∙ ap (λ (k : ℕ). leaving k l.first l.later) none in
+        let quiet : (s : Seen) → Sees l s → s.reasons ≡ [] = λ s v. v.reasons ∙ ap reasons_of none in
         record {
           waits = λ s v. with-seen v joins ∙ sym (ap (λ (rs : List ℕ). drop (length rs) (waiting_with i s (take count w))) (quiet s v));
           few = few;
@@ -135,18 +138,18 @@ module _ (w : List ℕ) (count i : ℕ) (l : Line·rt) where
         }
 
     -- some leave
-    pub line-left : {out' : List ℕ} {end m : ℕ} {w₂ : List ℕ}
-        → Appended out at out' end (telling_lines (tellings i (take n w₁) (leaving l.left l.first l.later))) → end ≤ at + lines_room
-        → take m w₂ ≡ drop l.left (take n w₁) → m ≤ n → LineTold w count i l out at w₂ out' (record { count = m; end = end })
+    pub line-left : (g : Leaving·rt) → l.leaving ≡ Some g → {out' : List ℕ} {end m : ℕ} {w₂ : List ℕ}
+        → Appended out at out' end (telling_lines (tellings i (take n w₁) (reasons_of (Some g)))) → end ≤ at + lines_room
+        → take m w₂ ≡ drop g.count (take n w₁) → m ≤ n → LineTold w count i l out at w₂ out' (record { count = m; end = end })
     unfolding waiting_after
-    line-left a room e less =
+    line-left g some a room e less =
         record {
           waits = λ s v.
-              let k : l.left ≡ length s.reasons = sym (ap length v.reasons ∙ length-leaving l.left l.first l.later) in
-              e ∙ ap (λ (x : List ℕ). drop l.left x) (with-seen v joins) ∙ ap (λ (j : ℕ). drop j (waiting_with i s (take count w))) k;
+              let k : g.count ≡ length s.reasons = sym (ap length (v.reasons ∙ ap reasons_of some) ∙ length-reasons (Some g)) in
+              e ∙ ap (λ (x : List ℕ). drop g.count x) (with-seen v joins) ∙ ap (λ (j : ℕ). drop j (waiting_with i s (take count w))) k;
           few = omega arith;
           told = λ s v. appended-as a
-              (ap telling_lines (ap (λ (x : List ℕ). tellings i x (leaving l.left l.first l.later)) (with-seen v joins)
-              ∙ ap (tellings i (waiting_with i s (take count w))) (sym v.reasons)));
+              (ap telling_lines (ap (λ (x : List ℕ). tellings i x (reasons_of (Some g))) (with-seen v joins)
+              ∙ ap (tellings i (waiting_with i s (take count w))) (sym (v.reasons ∙ ap reasons_of some))));
           at_most = room;
         }

@@ -12,7 +12,6 @@ use Rattle.rules.specs.Memory.{count_offset, free_at, free_count_at, group_addre
 use Rattle.rules.specs.Node.{Node, group_of, with_buffer, with_entered, with_free, with_group, with_paging, empty_page}
 use Rattle.rules.specs.Valid.{GoodPlace}
 use Rattle.rules.proofs.Steps.EveryLaws.{every_append, every_drop}
-use Rattle.rules.proofs.Steps.FrameLaws.{held}
 use Rattle.rules.proofs.Steps.ListLaws.{weight-append}
 use Rattle.rules.proofs.Map.MapParts.{length-group}
 use Rattle.memory.specs.Holds.{Holds, InOrder, Waits, departing, freeing, releasing, using_up, with_both, with_counts}

@@ -17,7 +17,7 @@ use Rattle.memory.specs.declared.descriptor.Descriptor.{Descriptor as Descriptor
 use Rattle.memory.proofs.group.GroupLaws.{group-whole, group-words, mapped-group, record-stands, record_front}
 use Rattle.memory.proofs.PieceLaws.{holds-pieces, pieces-hold}
 use Rattle.memory.proofs.PieceWrites.{group-put}
-use Rattle.memory.proofs.WriteLaws.{widened, wrote_then}
+use Rattle.memory.proofs.WriteLaws.{widened}
 
 -- a word joins a padded list that has room for it
 joined : (k : ℕ) (d : List ℕ) (w : ℕ) → length d < k → set (pad k d) (length d) w ≡ pad k (d ++ (w ∷ []))
@@ -47,16 +47,15 @@ module _ {m : List ℕ} {n : Node} {r : List ℕ} (h : Holds m n r) (g : ℕ) (l
       }
 
   -- and written
-  pub descriptor-held : {m₁ m₂ : List ℕ} (d : List ℕ) → length d ≤ word_limit → Wrote m m₁ (group_address g + described_offset) (length d ∷ [])
-      → Wrote m₁ m₂ (group_address g + descriptor_offset) (pad word_limit d) → Holds m₂ (redescribed g d n) r
+  pub descriptor-held : {m₁ : List ℕ} (d : List ℕ) → length d ≤ word_limit → Wrote m m₁ (group_address g + described_offset) (length d ∷ pad word_limit d)
+      → Holds m₁ (redescribed g d n) r
   unfolding redescribed with_descriptor with_free pages_of group_of group_words
-  descriptor-held {m₁} {m₂} d few w₁ w₂ =
+  descriptor-held d few w =
       let v = h.mapped in
       let pieces = holds-pieces h in
       let G = group_of n g in
       let whole = group-whole v g low high in
-      let wrote : Wrote m m₂ (group_address g + described_offset) (length d ∷ pad word_limit d) = wrote_then w₁ (group_address g + descriptor_offset) (omega arith) w₂ in
-      let all = widened wrote (group_address g)
+      let all = widened w (group_address g)
       (record_front G ++ (length G.buffer.frames ∷ []))
       (length G.descriptor ∷ pad word_limit G.descriptor) (list_words G.buffer.frames) refl (ap suc (length-pad word_limit G.descriptor ∙ sym (length-pad word_limit d))) (record-stands pieces g low high) in
       pieces-hold

@@ -1,17 +1,18 @@
 -- Where a number stands in a list: its index, found word by word in memory, and the list without it. Assumes nothing.
-use Prim.Native.Nat.{ℕ, suc, ◌+◌, ◌-◌, ◌≤◌, ◌<◌}
-use native.Mathlib.Nat.{add-zero, zero-add}
+use Prim.Native.Nat.{ℕ, suc, ◌+◌, ◌≤◌, ◌<◌}
+use native.Mathlib.Decide.{dec_lt}
 use native.Mathlib.Omega.{arith}
 use mathlib.Core.Bool.{Bool, true, false, not, cond}
 use mathlib.Core.List.{List, [], ◌∷◌}
-use mathlib.Core.Logic.{◌≢◌}
 use mathlib.Core.Path.{◌∙◌, ◌≡◌, ap, refl, sym}
-use lib.Dec.{eqb}
+use lib.Dec.{eqb, ltb}
 use lib.ListN.{length}
-use borrow.Author.Tests.{eq-eqb, ne_eqb}
+use borrow.Author.Tests.{le-ltb, lt-ltb}
+use Rattle.std.specs.Prelude.{Option, Some, None}
+use Rattle.std.specs.List.{position, position_or_len}
+use Rattle.std.specs.Option.{IsSome, SomeIff, unwrap_or}
 use Rattle.rules.specs.Frames.{without}
 use Rattle.rules.specs.Lists.{count_of}
-use Rattle.rules.specs.Memory.{word, words_at}
 use Rattle.rules.proofs.Steps.ListLaws.{filter-fail, filter-pass}
 use Rattle.memory.specs.Lines.{index_of}
 use Rattle.memory.proofs.lines.LineLaws.{lacking}
@@ -54,39 +55,35 @@ module _ (f : ℕ) where
           let l : count_of f xs ≡ 1 = let k = rw e at once in omega arith in
           ap (λ (t : List ℕ). x ∷ t) (r l) ∙ sym (filter-pass (λ y. not (eqb y f)) x xs (ap not e))
 
--- The search for it: the first i of n words from address a on are not x.
+-- The search for it: the library's position, and what it answers.
 
-module _ (m : List ℕ) (a x n : ℕ) where
-  abbrev pub Searched : ℕ → Type 0
-  Searched i = index_of x (words_at m a n) ≡ i + index_of x (words_at m (a + i) (n - i))
+index-position : (x : ℕ) (xs : List ℕ) → index_of x xs ≡ position_or_len (λ y. eqb y x) xs
+unfolding index_of
+index-position x [] = refl
+index-position x (y ∷ ys) = go (eqb y x) (index-position x ys)
+  where
+    go : (t : Bool) → index_of x ys ≡ position_or_len (λ y. eqb y x) ys → cond t 0 (suc (index_of x ys)) ≡ cond (not t) (1 + position_or_len (λ y. eqb y x) ys) 0
+    go true e = refl
+    go false e = omega arith
 
-  pub searched-none : Searched 0
-  searched-none =
-      let e = add-zero a in
-      let k : n - 0 ≡ n = omega arith in
-      rw (e, k) (sym (zero-add (index_of x (words_at m a n))))
+-- what is found is the index, where x stands among the n words
+pub found-index : (x n : ℕ) (xs : List ℕ) {r : Option ℕ} → length xs ≡ n → r ≡ position (λ y. eqb y x) xs → SomeIff r (index_of x xs < n) (index_of x xs)
+found-index x n xs {r} l e = go (dec_lt (index_of x xs) n)
+  where
+    found : r ≡ cond (ltb (index_of x xs) n) (Some (index_of x xs)) None
+    found = rw (index-position x xs, ← l) e
 
-  -- x stands next
-  pub searched-here : (i : ℕ) → i < n → word m (a + i) ≡ x → Searched i → i ≡ index_of x (words_at m a n)
-  unfolding index_of words_at
-  searched-here i h here s =
-      let k : n - i ≡ suc (n - i - 1) = omega arith in
-      let r = rw (k, eq-eqb (word m (a + i)) x here) at s in
-      omega arith
+    go : Dec (index_of x xs < n) → SomeIff r (index_of x xs < n) (index_of x xs)
+    go (yes h) = rw (found, lt-ltb (index_of x xs) n h) (h, refl)
+    go (no h) = let le : n ≤ index_of x xs = omega arith in rw (found, le-ltb (index_of x xs) n le) h
 
-  -- or does not
-  pub searched-next : (i : ℕ) → i < n → word m (a + i) ≢ x → Searched i → Searched (i + 1)
-  unfolding index_of words_at
-  searched-next i h other s =
-      let k : n - i ≡ suc (n - (i + 1)) = omega arith in
-      let next : a + i + 1 ≡ a + (i + 1) = omega arith in
-      let r = rw (k, ne_eqb (word m (a + i)) x other, next) at s in
-      omega arith
+module _ {P : Type 0} (v : ℕ) where
+  -- where it stands it is found
+  pub some_there : (r : Option ℕ) → P → SomeIff r P v → IsSome r
+  some_there None p f = absurd (f p)
+  some_there (Some i) p f = refl
 
-  -- it stands nowhere
-  pub searched-all : (i : ℕ) → i ≡ n → Searched i → i ≡ index_of x (words_at m a n)
-  unfolding index_of words_at
-  searched-all i e s =
-      let k : n - i ≡ 0 = omega arith in
-      let r = rw k at s in
-      omega arith
+  -- at its index
+  pub some-index : (r : Option ℕ) (i : ℕ) → P → SomeIff r P v → r ≡ Some i → i ≡ v
+  some-index None i p f e = absurd (f p)
+  some-index (Some j) i p f e = sym (ap (λ (o : Option ℕ). unwrap_or o 0) e) ∙ f.1

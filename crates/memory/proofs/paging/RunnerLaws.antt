@@ -1,5 +1,6 @@
 -- The running group's list of pages, as it is read from memory. Assumes nothing.
 use Prim.Native.Nat.{ℕ, ◌+◌, ◌≤◌}
+use native.Mathlib.Decide.{ℕ_discrete}
 use native.Mathlib.Omega.{arith}
 use mathlib.Core.List.{List}
 use mathlib.Core.Path.{◌≡◌}
@@ -12,6 +13,19 @@ use Rattle.memory.specs.Holds.{Holds}
 use Rattle.memory.proofs.PieceLaws.{holds-pieces}
 use Rattle.memory.proofs.group.GroupLaws.{list-line}
 use Rattle.memory.proofs.lines.LineLaws.{line_first}
+
+-- a group runs, and has a page
+abbrev pub Paged : List ℕ → Type 0
+Paged m = (1 ≤ word m running_at) × (1 ≤ word m (group_address (word m running_at) + held_offset))
+
+-- else nobody runs, or the running group has none
+pub pageless : {P : Type 0} (m : List ℕ) → (Paged m → ⊥) → (word m running_at ≡ 0 → P) → (1 ≤ word m running_at → word m (group_address (word m running_at) + held_offset) ≡ 0 → P) → P
+pageless {P} m none nobody empty = go (ℕ_discrete (word m running_at) 0) (ℕ_discrete (word m (group_address (word m running_at) + held_offset)) 0)
+  where
+    go : Dec (word m running_at ≡ 0) → Dec (word m (group_address (word m running_at) + held_offset) ≡ 0) → P
+    go (yes e) d = nobody e
+    go (no d) (yes e) = empty (omega arith) e
+    go (no d) (no t) = absurd (none (omega arith, omega arith))
 
 module _ {m : List ℕ} {n : Node} {r : List ℕ} (h : Holds m n r) (s : Sound paper01 n) (low : 1 ≤ word m running_at) where
   pub runs : 1 ≤ n.running

@@ -6,7 +6,7 @@ use mathlib.Core.Path.{◌∙◌, ◌≡◌, ap, refl, sym}
 use lib.ListN.{drop, get_or, length, length-append, length-drop, length-replicate, replicate, take, take-append-drop}
 use lib.Seq.{length-take-le}
 use Rattle.rules.specs.Build.{paper01, word_limit}
-use Rattle.rules.specs.Lists.{all, concat_map, pad}
+use Rattle.rules.specs.Lists.{concat_map, pad}
 use Rattle.rules.specs.Memory.{message_words, place_words, queue_at, queue_stride, queue_words, queued_at, word, words_at}
 use Rattle.rules.specs.Node.{Message, Node, place_of}
 use Rattle.rules.specs.Refusal.{queued}

@@ -3,7 +3,6 @@ use Prim.Native.Nat.{ℕ, suc, ◌≤◌, ◌<◌, zero}
 use native.Mathlib.Omega.{arith}
 use mathlib.Core.Bool.{Bool, true, false, cond, ◌||◌}
 use mathlib.Core.List.{List, [], ◌∷◌}
-use mathlib.Core.Logic.{◌≢◌}
 use mathlib.Core.Path.{◌≡◌, refl, sym, ap, ◌∙◌}
 use lib.Dec.{eqb, leb, ltb}
 use lib.ListN.{length, length-append}
@@ -22,9 +21,11 @@ use Rattle.rules.proofs.Steps.ListLaws.{length_some}
 use Rattle.rules.specs.Sound.{Sound}
 use Rattle.rules.proofs.Steps.StepLaws.{act-sound}
 use Rattle.memory.specs.Holds.{Holds}
-use Rattle.node.specs.Steps.{Acted, done, unsettled}
-use Rattle.node.specs.declared.acted.Act.{Act as Act·rt}
-use Rattle.node.proofs.StepMap.{acted-refused, acted-unsettled, one-act}
+use Rattle.rules.specs.Numbers.{refusal_number}
+use Rattle.rules.specs.declared.Refusal.{Refusal as Refusal·rt}
+use Rattle.rules.specs.declared.Refusal.TheVariants.{NotNode, Unreadable, BadGroup, BadWords, QueueFull, NoFrames, NobodyRuns, NoMessage, PastMessage, StillPending, DescriptorFull, DescriptorEmpty, BadNode, BadSchedule, BadTicks, AlreadyRuns}
+use Rattle.node.specs.Steps.{Acting, Stepping, report_refused}
+use Rattle.node.proofs.StepMap.{acting-unsettled, one-act, stepping-refused}
 
 -- a second test that passes
 or_right : (t : Bool) → t || true ≡ true
@@ -122,16 +123,38 @@ arriving {b} {n} v g ws e =
       sound = s;
     }
 
--- a step refused with a number that is not 0
-pub refusing : {m : List ℕ} {n : Node} {r : List ℕ} → Holds m n r → (op : Operation) (a : ℕ) → a ≡ refusal paper01 n op → a ≢ 0 → {acted : Act·rt}
-    → acted ≡ done (report_of (refused a)) → Acted m n r op acted
-refusing h op zero e some p = absurd (some refl)
-refusing h op (suc a) e some p = acted-refused op a (sym e) h p
+-- a refused step
+pub refusing : {m : List ℕ} {n : Node} {r : List ℕ} → Holds m n r → (op : Operation) (x : Refusal·rt) → refusal_number x ≡ refusal paper01 n op
+    → Stepping m n r op (report_refused x)
+refusing {m} {n} {r} h op x e = numbered (refusal_number x) (sym e) (refusal-some x)
+  where
+    -- no refusal has the number 0
+    refusal-some : (x : Refusal·rt) → 1 ≤ refusal_number x
+    refusal-some NotNode = omega arith
+    refusal-some Unreadable = omega arith
+    refusal-some BadGroup = omega arith
+    refusal-some BadWords = omega arith
+    refusal-some QueueFull = omega arith
+    refusal-some NoFrames = omega arith
+    refusal-some NobodyRuns = omega arith
+    refusal-some NoMessage = omega arith
+    refusal-some PastMessage = omega arith
+    refusal-some StillPending = omega arith
+    refusal-some DescriptorFull = omega arith
+    refusal-some DescriptorEmpty = omega arith
+    refusal-some BadNode = omega arith
+    refusal-some BadSchedule = omega arith
+    refusal-some BadTicks = omega arith
+    refusal-some AlreadyRuns = omega arith
+
+    numbered : (a : ℕ) → refusal paper01 n op ≡ a → 1 ≤ a → Stepping m n r op (report_of (refused a))
+    numbered zero e some = absurd (omega arith)
+    numbered (suc a) e some = stepping-refused op a e h
 
 -- an accepted arrival is queued, and settling is to come
-pub arrived : {m' : List ℕ} {n : Node} {r : List ℕ} (g : ℕ) (ws : List ℕ) → refusal paper01 n (arrive g ws) ≡ 0 → {a : Act·rt}
-    → Sound paper01 (queued (record { group = g; words = ws }) n) → Holds m' (queued (record { group = g; words = ws }) n) r → a ≡ unsettled 0 0
-    → Acted m' n r (arrive g ws) a
+pub arrived : {m' : List ℕ} {n : Node} {r : List ℕ} (g : ℕ) (ws : List ℕ) → refusal paper01 n (arrive g ws) ≡ 0
+    → Sound paper01 (queued (record { group = g; words = ws }) n) → Holds m' (queued (record { group = g; words = ws }) n) r
+    → Acting m' n r (arrive g ws) 0 0
 unfolding act valued
-arrived {n = n} g ws e s h told =
-    acted-unsettled (arrive g ws) (queued (record { group = g; words = ws }) n) 0 0 (one-act n (arrive g ws) tt e refl) s (omega arith) h told
+arrived {n = n} g ws e s h =
+    acting-unsettled (arrive g ws) (queued (record { group = g; words = ws }) n) 0 0 (one-act n (arrive g ws) tt e refl) s (omega arith) h

@@ -4,13 +4,14 @@ use Prim.Native.Nat.{ℕ}
 use mathlib.Core.List.{List, []}
 use mathlib.Core.Path.{◌≡◌, ◌∙◌, ap, sym}
 use Rattle.rules.specs.Memory.{running_at, word}
+use Rattle.rules.specs.Operation.{Request, user}
 use Rattle.rules.specs.Types.{operation_of}
 use Rattle.rules.specs.declared.Operation.{Operation as Operation·rt}
 use Rattle.memory.proofs.PieceLaws.{holds-pieces}
 use Rattle.node.specs.Steps.{IsNode}
 use Rattle.node.specs.Steps.{IsRunning}
-use Rattle.node.proofs.OperationLaws.{nobody-acts, not-request, somebody-runs, acted-named}
-use Rattle.node.proofs.StepMap.{acted-done}
+use Rattle.node.proofs.OperationLaws.{nobody-acts, not-request, somebody-runs}
+use Rattle.node.proofs.StepMap.{handed-on}
 use Rattle.node.proofs.request.Goals as goal
 
 -- where a group runs on a node, the memory holds such a node
@@ -23,7 +24,7 @@ bounds-memory-0 c = let l = (holds-pieces c.requires.holds).long in omega arith
 
 pub returns-then-memory-eq0 : goal.returns-then-memory-eq0
 unfolding word
-returns-then-memory-eq0 c q e n r h v = nobody-acts h c.if-memory-eq0.true q c.refused.ensures
+returns-then-memory-eq0 c q e n r h v = nobody-acts h c.if-memory-eq0.true q
 
 pub poll-requires : goal.poll-requires
 unfolding word
@@ -53,33 +54,52 @@ pub launch-requires : goal.launch-requires
 unfolding word
 launch-requires c = running c.args.memory.now c.requires c.if-memory-eq0.false
 
+-- the request that is asked, by its Rattle name
+asked : (op o : Operation·rt) (q : Request) → op ≡ o → operation_of op [] ≡ user q → operation_of o [] ≡ user q
+asked op o q is e = ap (λ (x : Operation·rt). operation_of x []) (sym is) ∙ e
+
 pub returns-in-Poll : goal.returns-in-Poll
 unfolding word operation_of
-returns-in-Poll c q e n r h v = acted-named (sym (ap (λ (o : Operation·rt). operation_of o []) c.in-Poll.is) ∙ e) (acted-done _ c.done.ensures (c.poll.ensures n r h (somebody-runs h c.if-memory-eq0.false v)))
+returns-in-Poll c q e n r h v = rw (← asked c.args.op _ q c.in-Poll.is e) (c.poll.ensures n r h (somebody-runs h c.if-memory-eq0.false v))
 
-pub returns-in-Peek : goal.returns-in-Peek
+pub returns-in_ok-peek-in-Peek : goal.returns-in_ok-peek-in-Peek
 unfolding word operation_of
-returns-in-Peek c q e n r h v = acted-named (sym (ap (λ (o : Operation·rt). operation_of o []) c.in-Peek.is) ∙ e) (acted-done _ c.done-in-Peek.ensures (c.peek.ensures n r h (somebody-runs h c.if-memory-eq0.false v)))
+returns-in_ok-peek-in-Peek c q e n r h v = rw (← asked c.args.op _ q c.in-Peek.is e) (c.in_ok-peek-in-Peek.ensures n r h (somebody-runs h c.if-memory-eq0.false v))
+
+pub returns-in_err-peek-in-Peek : goal.returns-in_err-peek-in-Peek
+unfolding word operation_of
+returns-in_err-peek-in-Peek c q e n r h v =
+    rw (← asked c.args.op _ q c.in-Peek.is e, handed-on c.from_residual.result c.from_residual.ensures.1) (c.in_err-peek-in-Peek.ensures n r h (somebody-runs h c.if-memory-eq0.false v))
 
 pub returns-in-Dispose : goal.returns-in-Dispose
 unfolding word operation_of
-returns-in-Dispose c q e n r h v = acted-named (sym (ap (λ (o : Operation·rt). operation_of o []) c.in-Dispose.is) ∙ e) (c.dispose.ensures n r h (somebody-runs h c.if-memory-eq0.false v))
+returns-in-Dispose c q e n r h v = rw (← asked c.args.op _ q c.in-Dispose.is e) (c.dispose.ensures n r h (somebody-runs h c.if-memory-eq0.false v))
 
 pub returns-in-BeginAtomic : goal.returns-in-BeginAtomic
 unfolding word operation_of
-returns-in-BeginAtomic c q e n r h v = acted-named (sym (ap (λ (o : Operation·rt). operation_of o []) c.in-BeginAtomic.is) ∙ e) (acted-done _ c.done-in-BeginAtomic.ensures (c.begin.ensures n r h (somebody-runs h c.if-memory-eq0.false v)))
+returns-in-BeginAtomic c q e n r h v = rw (← asked c.args.op _ q c.in-BeginAtomic.is e) (c.begin.ensures n r h (somebody-runs h c.if-memory-eq0.false v))
 
 pub returns-in-EndAtomic : goal.returns-in-EndAtomic
 unfolding word operation_of
-returns-in-EndAtomic c q e n r h v = acted-named (sym (ap (λ (o : Operation·rt). operation_of o []) c.in-EndAtomic.is) ∙ e) (c.end.ensures n r h (somebody-runs h c.if-memory-eq0.false v))
+returns-in-EndAtomic c q e n r h v = rw (← asked c.args.op _ q c.in-EndAtomic.is e) (c.end.ensures n r h (somebody-runs h c.if-memory-eq0.false v))
 
-pub returns-in-Describe : goal.returns-in-Describe
+pub returns-in_ok-describe-in-Describe : goal.returns-in_ok-describe-in-Describe
 unfolding word operation_of
-returns-in-Describe c q e n r h v = acted-named (sym (ap (λ (o : Operation·rt). operation_of o []) c.in-Describe.is) ∙ e) (acted-done _ c.done-in-Describe.ensures (c.describe.ensures n r h (somebody-runs h c.if-memory-eq0.false v)))
+returns-in_ok-describe-in-Describe c q e n r h v = rw (← asked c.args.op _ q c.in-Describe.is e) (c.in_ok-describe-in-Describe.ensures n r h (somebody-runs h c.if-memory-eq0.false v))
 
-pub returns-in-Launch : goal.returns-in-Launch
+pub returns-in_err-describe-in-Describe : goal.returns-in_err-describe-in-Describe
 unfolding word operation_of
-returns-in-Launch c q e n r h v = acted-named (sym (ap (λ (o : Operation·rt). operation_of o []) c.in-Launch.is) ∙ e) (acted-done _ c.done-in-Launch.ensures (c.launch.ensures n r h (somebody-runs h c.if-memory-eq0.false v)))
+returns-in_err-describe-in-Describe c q e n r h v =
+    rw (← asked c.args.op _ q c.in-Describe.is e, handed-on c.from_residual-in_err-describe-in-Describe.result c.from_residual-in_err-describe-in-Describe.ensures.1) (c.in_err-describe-in-Describe.ensures n r h (somebody-runs h c.if-memory-eq0.false v))
+
+pub returns-in_ok-launch-in-Launch : goal.returns-in_ok-launch-in-Launch
+unfolding word operation_of
+returns-in_ok-launch-in-Launch c q e n r h v = rw (← asked c.args.op _ q c.in-Launch.is e) (c.in_ok-launch-in-Launch.ensures n r h (somebody-runs h c.if-memory-eq0.false v))
+
+pub returns-in_err-launch-in-Launch : goal.returns-in_err-launch-in-Launch
+unfolding word operation_of
+returns-in_err-launch-in-Launch c q e n r h v =
+    rw (← asked c.args.op _ q c.in-Launch.is e, handed-on c.from_residual-in_err-launch-in-Launch.result c.from_residual-in_err-launch-in-Launch.ensures.1) (c.in_err-launch-in-Launch.ensures n r h (somebody-runs h c.if-memory-eq0.false v))
 
 pub returns-in_default : goal.returns-in_default
 returns-in_default c q e n r h v = absurd (not-request c.args.op c.in_default.in_default-own.keys8 q e)

@@ -16,7 +16,6 @@ use Rattle.rules.specs.Operation.{dispose, end_atomic, accepted, no_message, sti
 use Rattle.rules.specs.Refusal.{refuse_dispose, refuse_end, refuse_request}
 use Rattle.rules.specs.Step.{disposed, flagged, removed}
 use Rattle.rules.specs.Valid.{Valid}
-use Rattle.rules.proofs.Steps.FrameLaws.{held}
 use Rattle.rules.proofs.Steps.LineLaws.{direct-head, line-buffered, removed-running, without-running}
 use Rattle.rules.proofs.Steps.NodeLaws.{group-good}
 use Rattle.rules.proofs.Steps.PagingLaws.{first-entered}

@@ -1,8 +1,7 @@
 -- Settled, its running group's first page brought in, and called up, an operation is finished. Assumes nothing.
 use Rattle.rules.specs.Step.{finish}
 use Rattle.rules.specs.Settling.{settle}
-use Prim.Native.Nat.{◌+◌, ◌≤◌, ℕ}
-use native.Mathlib.Omega.{arith}
+use Prim.Native.Nat.{◌+◌, ℕ}
 use mathlib.Core.List.{List}
 use mathlib.Core.Path.{◌∙◌, ◌≡◌}
 use Rattle.rules.specs.Build.{paper01}
@@ -11,15 +10,11 @@ use Rattle.rules.specs.Operation.{accepted_with}
 use Rattle.rules.specs.Paging.{runner_resident}
 use Rattle.rules.specs.Types.{report_of}
 use Rattle.rules.specs.declared.Report.{Report as Report·rt}
-use Rattle.rules.proofs.Steps.SettlingLaws.{settle-moved, settle-sound}
+use Rattle.rules.proofs.Steps.SettlingLaws.{settle-sound}
 use Rattle.rules.specs.Sound.{Sound}
 use Rattle.memory.specs.Holds.{Becomes, Holds, Some}
 use Rattle.node.specs.Steps.{Called, Finished, Settled, Settles, effect}
 use Rattle.node.proofs.settling.CallLaws.{settled-settles}
-
--- what settling moved is bounded by the queue
-pub settled-few : {m : List ℕ} {n : Node} {r : List ℕ} {i : ℕ} → Sound paper01 n → Settled m n r i → i ≤ paper01.places
-settled-few {n = n} s d = let l = settle-moved paper01 n in let few = s.queue-length in let c = d.count in omega arith
 
 -- the settled node, whose page can be brought in
 pub settled-some : {m : List ℕ} {n : Node} {r : List ℕ} {i : ℕ} → Sound paper01 n → Settled m n r i → Some m (Sound paper01)

@@ -1,11 +1,11 @@
 -- The loops of settling and of the drain over memory: what holds at each turn. Assumes nothing.
 use Prim.Native.Nat.{◌+◌, ◌<◌, ◌≤◌, ℕ, suc}
-use native.Mathlib.Nat.{add-zero, zero-add}
+use native.Mathlib.Nat.{add-zero}
 use native.Mathlib.Omega.{arith}
 use mathlib.Core.Bool.{false, true}
 use mathlib.Core.List.{List}
 use mathlib.Core.Logic.{◌≢◌}
-use mathlib.Core.Path.{◌∙◌, ◌≡◌, ap, sym, refl, subst}
+use mathlib.Core.Path.{◌∙◌, ◌≡◌, ap, sym, subst}
 use lib.ListN.{length}
 use Rattle.rules.specs.Build.{paper01, group_count}
 use Rattle.rules.specs.Memory.{queued_at, word, queue_at, words_at}
@@ -30,17 +30,6 @@ pub record Passing (m : List ℕ) (n : Node) (r : List ℕ) (i : ℕ) : Type 0 w
   pub sound : Sound paper01 node
   pub passed : pass paper01 n.queue n ≡ more i (pass paper01 node.queue node)
   pub queued : i + length node.queue ≡ length n.queue
-
--- none has
-pub passing-start : {m : List ℕ} {n : Node} {r : List ℕ} → Holds m n r → Sound paper01 n → Passing m n r 0
-passing-start {n = n} h s =
-    record {
-      node = n;
-      holds = h;
-      sound = s;
-      passed = λ i. record { node = (pass paper01 n.queue n).node; moved = sym (zero-add (pass paper01 n.queue n).moved) i };
-      queued = omega arith;
-    }
 
 -- the pass has ended at the node that the memory holds
 pub record Passed (m : List ℕ) (n : Node) (r : List ℕ) (i : ℕ) : Type 0 where
@@ -127,9 +116,6 @@ pub record Draining (m : List ℕ) (n : Node) (r : List ℕ) : Type 0 where
   pub holds : Holds m node r
   pub sound : Sound paper01 node
   pub drained : drain paper01 n.queue n ≡ drain paper01 node.queue node
-
-pub draining-start : {m : List ℕ} {n : Node} {r : List ℕ} → Holds m n r → Sound paper01 n → Draining m n r
-draining-start {n = n} h s = record { node = n; holds = h; sound = s; drained = refl }
 
 module _ {m : List ℕ} {n : Node} {r : List ℕ} (d : Draining m n r) where
   draining-count : word m queued_at ≡ length d.node.queue

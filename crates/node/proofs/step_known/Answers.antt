@@ -4,7 +4,7 @@ use Rattle.node.proofs.TestedLaws.{untested-answers, tested-node, tested-answers
 use Rattle.node.proofs.step_known.Goals as goal
 
 pub returns-then-not-good : goal.returns-then-not-good
-returns-then-not-good c = untested-answers _ _ (c.requires ∙ c.if-not-good.true) c.refused.ensures
+returns-then-not-good c = untested-answers _ _ (c.requires ∙ c.if-not-good.true) c.into.ensures
 
 pub step_node-requires : goal.step_node-requires
 step_node-requires c = tested-node _ (c.requires ∙ c.if-not-good.false)

@@ -26,9 +26,10 @@ use Rattle.rules.proofs.Steps.LineLaws.{direct-line, line-buffered}
 use Rattle.rules.proofs.Steps.QuietLaws.{valid-quiet}
 use Rattle.rules.proofs.Steps.SoundLaws.{valid-sound}
 use Rattle.rules.proofs.Demands.TurnsLaws.{turns}
+use Rattle.rules.specs.declared.Report.{Report as Report·rt}
+use Rattle.std.specs.Prelude.{Ok}
 use Rattle.node.specs.Steps.{Acted, done}
-use Rattle.node.specs.declared.acted.Act.{Act as Act·rt}
-use Rattle.node.proofs.StepMap.{acted-quiet, one-act}
+use Rattle.node.proofs.StepMap.{one-act, stepping-quiet}
 
 -- a group with a message in its buffer has mail
 pub buffered-mail : {n : Node} → Valid paper01 n → (g : ℕ) → 1 ≤ g → g ≤ group_count → buffer_holds n g ≡ true → has_mail n g ≡ true
@@ -77,9 +78,9 @@ bits-some zero r some = absurd (some refl)
 bits-some (suc s) r some = refl
 
 -- C names the group that the bits name, and nothing is due after it
-pub turn-acts : {m : List ℕ} {n : Node} {r : List ℕ} {a : Act·rt} {g : ℕ} → Holds m n r → Valid paper01 n → g ≡ by_bits (mail_set n) n.running
-    → a ≡ done (report_of (accepted_with g no_trap 0 0)) → Acted m n r turn a
+pub turn-acts : {m : List ℕ} {n : Node} {r : List ℕ} {rep : Report·rt} {g : ℕ} → Holds m n r → Valid paper01 n → g ≡ by_bits (mail_set n) n.running
+    → rep ≡ report_of (accepted_with g no_trap 0 0) → Acted m n r turn (Ok (done rep))
 unfolding refusal act valued
 turn-acts {n = n} h v named told =
-    acted-quiet turn (valued (whose_turn n) n) (one-act n turn tt refl refl) (valid-quiet v) h
-    (told ∙ ap (λ (g : ℕ). done (report_of (accepted_with g no_trap 0 0))) (named ∙ turns.by-bits n v.running-bound))
+    stepping-quiet turn (valued (whose_turn n) n) (one-act n turn tt refl refl) (valid-quiet v) h
+    (told ∙ ap (λ (g : ℕ). report_of (accepted_with g no_trap 0 0)) (named ∙ turns.by-bits n v.running-bound))

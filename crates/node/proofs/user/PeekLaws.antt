@@ -38,12 +38,12 @@ module _ {m : List ℕ} {n : Node} {r : List ℕ} {p : Part·rt} (h : Holds m n 
       request-quiet runs poll refl (valid-quiet runs.valid) (report ∙ ap (λ (x : ℕ). report_of (accepted_with x 0 0 0)) (sym (shown-length shown))) h
 
   -- E with an empty line
-  pub peek-none : {rep : Report·rt} (i : ℕ) → p.len ≡ 0 → rep ≡ report_of (refused no_message) → Stepping m n r (user (peek i)) rep
+  pub peek-none : (i : ℕ) → p.len ≡ 0 → Stepping m n r (user (peek i)) (report_of (refused no_message))
   unfolding refuse_request
   peek-none i none = request-refused runs (peek i) h 7 (shown-none shown i none)
 
   -- E past the first message
-  pub peek-past : {rep : Report·rt} (i : ℕ) → 1 ≤ p.len → p.len ≤ i → rep ≡ report_of (refused past_message) → Stepping m n r (user (peek i)) rep
+  pub peek-past : (i : ℕ) → 1 ≤ p.len → p.len ≤ i → Stepping m n r (user (peek i)) (report_of (refused past_message))
   unfolding refuse_request
   peek-past i some past = request-refused runs (peek i) h 8 (shown-past shown i some past)
 

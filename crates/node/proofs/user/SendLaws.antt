@@ -1,16 +1,15 @@
 -- P and L, answered from the running group's descriptor as it is read: it is full at eight words, empty at none, and is replaced by the
 -- next one. Nothing settles after another descriptor, and no upcall is due. Assumes nothing.
-use Prim.Native.Nat.{ℕ, suc, ◌-◌, ◌≤◌, ◌<◌}
+use Prim.Native.Nat.{ℕ, ◌≤◌, ◌<◌}
 use native.Mathlib.Omega.{arith}
 use mathlib.Core.List.{List, [], ◌∷◌, ◌++◌}
 use mathlib.Core.Path.{◌≡◌, ◌∙◌, ap, refl, sym}
 use lib.ListN.{length}
 use borrow.Author.Tests.{le-leb, le-ltb, lt-leb, lt-ltb}
 use Rattle.rules.specs.Build.{last_node, word_limit, group_count}
-use Rattle.rules.specs.Lists.{pad}
 use Rattle.rules.specs.Memory.{running_at, size, word}
 use Rattle.rules.specs.Node.{Node, group_of}
-use Rattle.rules.specs.Operation.{accepted, accepted_with, bad_node, describe, descriptor_empty, descriptor_full, launch, refused, user, no_trap}
+use Rattle.rules.specs.Operation.{accepted, accepted_with, bad_node, describe, descriptor_empty, descriptor_full, launch, refused, user}
 use Rattle.rules.specs.Refusal.{refuse_describe, refuse_launch, refuse_request}
 use Rattle.rules.specs.Step.{described, launched, serve, valued}
 use Rattle.rules.specs.Types.{report_of}
@@ -42,24 +41,6 @@ unfolding refuse_launch
 launch-good [] k some h = absurd (omega arith)
 launch-good (w ∷ d) k some h = rw (le-ltb last_node k h)
 
--- what is reported of a descriptor that is sent
-abbrev pub reported : ℕ → ℕ → Descriptor·rt → Report·rt
-reported k g x =
-    record {
-      answer = accepted;
-      value = x.len;
-      trap = no_trap;
-      upcall = 0;
-      moved = 0;
-      sent = record { node = k; group = g; len = x.len; words = x.words };
-    }
-
-pub reported-sent : (k g : ℕ) (d : List ℕ) {x : Descriptor·rt} → x ≡ descriptor_of d → reported k g x ≡ report_of (sending k g d)
-reported-sent k g d e =
-    let two : length d ≡ suc (suc (length d)) - 2 = omega arith in
-    ap (reported k g) e
-    ∙ ap (λ (l : ℕ). record { answer = accepted; value = length d; trap = no_trap; upcall = 0; moved = 0; sent = record { node = k; group = g; len = l; words = pad word_limit d } }) two
-
 -- the running group's record is within the memory
 pub runner-there : {m : List ℕ} {n : Node} {r : List ℕ} → Holds m n r → Running n
     → ((1 ≤ word m running_at) × (word m running_at ≤ group_count)) × (size ≤ length m)
@@ -77,11 +58,11 @@ module _ {m : List ℕ} {n : Node} {r : List ℕ} {x : Descriptor·rt} (h : Hold
   len = ap (λ (y : Descriptor·rt). y.len) e ∙ ap (λ (k : ℕ). length (group_of n k).descriptor) own
 
   -- P with eight words
-  pub describe-full : {rep : Report·rt} (w : ℕ) → word_limit ≤ x.len → rep ≡ report_of (refused descriptor_full) → Stepping m n r (user (describe w)) rep
+  pub describe-full : (w : ℕ) → word_limit ≤ x.len → Stepping m n r (user (describe w)) (report_of (refused descriptor_full))
   unfolding refuse_request refuse_describe
-  describe-full w full report =
+  describe-full w full =
       let d = (group_of n n.running).descriptor in
-      request-refused runs (describe w) h 10 (rw (le-leb word_limit (length d) (rw len at full))) report
+      request-refused runs (describe w) h 10 (rw (le-leb word_limit (length d) (rw len at full)))
 
   -- P with fewer
   pub describe-serves : {m' : List ℕ} {rep : Report·rt} (w : ℕ) → x.len < word_limit → Holds m' (redescribed (word m running_at) ((group_of n (word m running_at)).descriptor ++ (w ∷ [])) n) r
@@ -93,16 +74,16 @@ module _ {m : List ℕ} {n : Node} {r : List ℕ} {x : Descriptor·rt} (h : Hold
       (rw own at report) (rw own at held)
 
   -- L without a word
-  pub launch-empty : {rep : Report·rt} (k : ℕ) → x.len ≡ 0 → rep ≡ report_of (refused descriptor_empty) → Stepping m n r (user (launch k)) rep
+  pub launch-empty : (k : ℕ) → x.len ≡ 0 → Stepping m n r (user (launch k)) (report_of (refused descriptor_empty))
   unfolding refuse_request
-  launch-empty k none report =
-      request-refused runs (launch k) h 11 (launch-none (group_of n n.running).descriptor k (sym len ∙ none)) report
+  launch-empty k none =
+      request-refused runs (launch k) h 11 (launch-none (group_of n n.running).descriptor k (sym len ∙ none))
 
   -- L to a node above 63
-  pub launch-far : {rep : Report·rt} (k : ℕ) → 1 ≤ x.len → last_node < k → rep ≡ report_of (refused bad_node) → Stepping m n r (user (launch k)) rep
+  pub launch-far : (k : ℕ) → 1 ≤ x.len → last_node < k → Stepping m n r (user (launch k)) (report_of (refused bad_node))
   unfolding refuse_request
-  launch-far k some above report =
-      request-refused runs (launch k) h 12 (launch-above (group_of n n.running).descriptor k (rw len at some) above) report
+  launch-far k some above =
+      request-refused runs (launch k) h 12 (launch-above (group_of n n.running).descriptor k (rw len at some) above)
 
   -- L
   pub launch-serves : {m' : List ℕ} {rep : Report·rt} (k : ℕ) → 1 ≤ x.len → k ≤ last_node → Holds m' (redescribed (word m running_at) [] n) r

@@ -18,11 +18,14 @@ use Rattle.script.specs.Feed.{kept_room, kept_line, LinesFeedable, LinesFed, Beg
 use Rattle.script.specs.Play.{part, TextPlayed}
 use Rattle.script.specs.Read.{OneLine, line_of}
 use Rattle.script.specs.Written.{line_room}
+use Rattle.script.specs.declared.write.Counter.{Counter as Counter·rt}
 use Rattle.script.specs.declared.play.Played.{Played as Played·rt}
+use Rattle.script.specs.declared.play.Stop.TheVariants.{AllUsed, NoRoom}
 use Rattle.script.specs.declared.feed.Fed.{Fed as Fed·rt}
 use Rattle.script.proofs.write.AppendedLaws.{appended-as, appended-none, appended_then}
 use Rattle.script.proofs.read.LineEndLaws.{by-test}
 use Rattle.script.proofs.OneLineLaws.{ended-split, line-front, one-append, one-long, one_of, one_split, one-take}
+use Rattle.script.proofs.play.StopLaws.{all-or-number, all-or-room, room-or-number}
 use Rattle.script.proofs.play.PlayLaws.{known-stays}
 use Rattle.script.proofs.PortionLaws.{last-behind, split-some}
 use Rattle.script.proofs.read.ReadLaws.{reads-long}
@@ -87,7 +90,7 @@ module _ {m b : List ℕ} {lines : ℕ} {input out : List ℕ} where
   -- the line goes on
   pub fed-open : {kept : List ℕ} {count end : ℕ} → OneLine b → length (line_of input) ≡ length input → end ≡ length input
       → take count kept ≡ take kept_room (b ++ take end input)
-      → BegunFed m b lines input out m out (record { state = record { lines = lines; kept = kept; count = count }; used = end; written = 0; stop = 0 })
+      → BegunFed m b lines input out m out (record { state = record { lines = lines; kept = kept; count = count }; used = end; written = 0; stop = AllUsed })
   unfolding kept_line after_lines list_memory
   fed-open {kept} {count} {end} one same e k =
       let t : take end input ≡ input = take_all end input (omega arith) in
@@ -103,13 +106,13 @@ module _ {m b : List ℕ} {lines : ℕ} {input out : List ℕ} where
         counted = rw none (omega arith);
         kept = ap line_of l ∙ one-take kept_room (b ++ input) (one-append b input one more) ∙ sym (ap (take kept_room) (ap (rest_behind b) t ∙ f.1));
         all-used = λ z. e;
-        no_room = λ z. omega arith;
-        stops = omega arith;
+        no_room = λ z. absurd (all-or-room z);
+        stops = all-or-number;
       }
 
   -- it ends and there is no room
   pub fed-none : {kept : List ℕ} {count : ℕ} → OneLine b → take count kept ≡ b → length out < line_room
-      → BegunFed m b lines input out m out (record { state = record { lines = lines; kept = kept; count = count }; used = 0; written = 0; stop = 1 })
+      → BegunFed m b lines input out m out (record { state = record { lines = lines; kept = kept; count = count }; used = 0; written = 0; stop = NoRoom })
   unfolding kept_line after_lines list_memory line_of
   fed-none one k room =
       let f = behind-open b [] refl in
@@ -119,14 +122,14 @@ module _ {m b : List ℕ} {lines : ℕ} {input out : List ℕ} where
         listed = rw f.0 (appended-none out 0);
         counted = rw f.0 (omega arith);
         kept = ap (λ (x : List ℕ). line_of (take kept_room x)) k ∙ one-take kept_room b one ∙ ap (take kept_room) (sym (append-nil b) ∙ sym f.1);
-        all-used = λ z. omega arith;
+        all-used = λ z. absurd (all-or-room (sym z));
         no_room = λ z. omega arith;
-        stops = omega arith;
+        stops = room-or-number;
       }
 
   -- it ends and is played, and the lines behind it are
-  pub fed-ended : {good : Bool} {digits : List ℕ} {len : ℕ} → LinesFeedable m good input 0 out 0 digits len lines → length (line_of input) < length input
-      → {text m₁ out₁ digits₁ : List ℕ} {p : Played·rt} → {end : ℕ} → text ≡ take kept_room (b ++ take end input) → TextPlayed m text out digits len m₁ out₁ digits₁ p
+  pub fed-ended : {good : Bool} {counter : Counter·rt} → LinesFeedable m good input 0 out 0 counter lines → length (line_of input) < length input
+      → {text m₁ out₁ : List ℕ} {counter₁ : Counter·rt} {p : Played·rt} → {end : ℕ} → text ≡ take kept_room (b ++ take end input) → TextPlayed m text out counter m₁ out₁ counter₁ p
       → {m₂ out₂ : List ℕ} {f : Fed·rt} → end ≡ length (line_of input) → length out₁ ≡ length out
       → LinesFed m₁ input (end + 1) out₁ p.at (lines + 1) m₂ out₂ f → BegunFed m b lines input out m₂ out₂ f
   unfolding after_lines list_memory
@@ -156,10 +159,10 @@ module _ {m b : List ℕ} {lines : ℕ} {input out : List ℕ} where
 
 -- The lines behind one that was played.
 
-pub lines-behind : {m : List ℕ} {good : Bool} {input out digits : List ℕ} {len lines : ℕ} → LinesFeedable m good input 0 out 0 digits len lines
-    → {text m₁ out₁ digits₁ : List ℕ} {p : Played·rt} → TextPlayed m text out digits len m₁ out₁ digits₁ p
+pub lines-behind : {m : List ℕ} {good : Bool} {input out : List ℕ} {counter : Counter·rt} {lines : ℕ} → LinesFeedable m good input 0 out 0 counter lines
+    → {text m₁ out₁ : List ℕ} {counter₁ : Counter·rt} {p : Played·rt} → TextPlayed m text out counter m₁ out₁ counter₁ p
     → {end : ℕ} → end < length input → length out₁ ≡ length out
-    → LinesFeedable m₁ good input (end + 1) out₁ p.at digits₁ p.len (lines + 1)
+    → LinesFeedable m₁ good input (end + 1) out₁ p.at counter₁ (lines + 1)
 lines-behind {m} {lines = lines} h {text} q ends same =
     record {
       known = ap is_memory q.memory ∙ known-stays m (read_line text) ∙ h.known;

@@ -11,19 +11,21 @@ use borrow.Author.Tests.{lt-ltb}
 use Rattle.rules.specs.Lists.{is_empty}
 use Rattle.rules.specs.MemoryTest.{is_memory}
 use Rattle.rules.specs.Script.{newline}
-use Rattle.rules.specs.Text.{decimal, split}
+use Rattle.rules.specs.Text.{split}
 use Rattle.script.specs.Feeding.{whole, begun, lines_behind, rest_behind, join_first, all_but_last, last_part, after_lines, list_memory}
 use Rattle.script.specs.Feed.{kept_room, kept_line, last_number, LinesFeedable, LinesFed, BegunFed, FedTo}
 use Rattle.script.specs.Play.{part}
 use Rattle.script.specs.Portions.{last_newline}
 use Rattle.script.specs.Read.{OneLine, line_of}
-use Rattle.script.specs.Written.{Appended, Counts, line_room, places}
+use Rattle.script.specs.Written.{Counts, line_room}
+use Rattle.script.specs.declared.write.Counter.{Counter as Counter·rt}
 use Rattle.script.specs.declared.feed.Fed.{Fed as Fed·rt}
 use Rattle.script.specs.declared.feed.State.{State as State·rt}
+use Rattle.script.specs.declared.play.Stop.TheVariants.{LastNumber}
 use Rattle.script.proofs.write.AppendedLaws.{appended-as, appended-within}
 use Rattle.script.proofs.feed.BegunLaws.{behind-open}
 use Rattle.script.proofs.play.CutLaws.{part-front}
-use Rattle.script.proofs.write.DecimalLaws.{decimal-length}
+use Rattle.script.proofs.play.StopLaws.{stop-cases}
 use Rattle.script.proofs.OneLineLaws.{one_of}
 use Rattle.script.proofs.PortionLaws.{split-some}
 
@@ -73,16 +75,8 @@ begun-counted r kept within same = some-counted r kept within ∙ ap (λ (x : Li
 pub kept-one : {l : List ℕ} (t : List ℕ) → l ≡ line_of t → OneLine l
 kept-one t e = subst OneLine (sym e) (one_of t)
 
--- a number of 64 bits as the digits that write it
-pub counts-written : {digits digits' : List ℕ} {end n : ℕ} → Appended digits 0 digits' end (decimal n) → length digits ≡ places → n < 18_446_744_073_709_551_616
-    → Counts digits' end n
-counts-written {n = n} a whole few =
-    let l = decimal-length 19 n (omega arith) in
-    let e = a.end in
-    record { whole = a.same_length ∙ whole; within = omega arith; text = a.written }
-
-pub fed-feedable : {m : List ℕ} {good : Bool} {input out digits : List ℕ} {len lines : ℕ} → good ≡ is_memory m → Counts digits len lines
-    → lines + length input < last_number → LinesFeedable m good input 0 out 0 digits len lines
+pub fed-feedable : {m : List ℕ} {good : Bool} {input out : List ℕ} {counter : Counter·rt} {lines : ℕ} → good ≡ is_memory m → Counts counter lines
+    → lines + length input < last_number → LinesFeedable m good input 0 out 0 counter lines
 fed-feedable known counts few =
     record { known = sym known; inside = omega arith; within = omega arith; counts = counts; few = omega arith }
 
@@ -97,7 +91,7 @@ fed-enough {m} {st} {input} {out} {m'} {out'} {f} few e g =
 
 -- What any caller of `feed` needs to go on: where it did not run out of line numbers there were enough, what was used and written lies inside,
 -- and where the output has room for a line something is used.
-module _ {m : List ℕ} {st : State·rt} {input out m' out' : List ℕ} {f : Fed·rt} (g : FedTo m st input out m' out' f) (stop : f.stop ≡ 2 → ⊥) where
+module _ {m : List ℕ} {st : State·rt} {input out m' out' : List ℕ} {f : Fed·rt} (g : FedTo m st input out m' out' f) (stop : f.stop ≡ LastNumber → ⊥) where
   pub fed-numbers : st.lines + length input < last_number
   fed-numbers =
       elim (dec_lt (st.lines + length input) last_number) [
@@ -125,10 +119,7 @@ module _ {m : List ℕ} {st : State·rt} {input out m' out' : List ℕ} {f : Fed
             ap (λ (ls : List (List ℕ)). length (list_memory (st.lines + 1) m ls)) none in
             let w = b.listed.end in
             absurd
-            (elim (dec_lt f.stop 1) [
-              | yes k ↦ let a = b.all-used (omega arith) in omega arith
-              | no k ↦ let t = b.stops in let r = b.no_room (omega arith) in omega arith
-            ])
+            (stop-cases f.stop (λ s. let a = b.all-used s in omega arith) (λ s. let r = b.no_room s in omega arith) b.stops)
       ]
 
 -- At the script's end a line that has begun gets its newline, and where none has nothing is fed.

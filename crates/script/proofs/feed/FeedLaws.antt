@@ -1,12 +1,13 @@
 -- A script fed in portions: what is kept, and where a portion is cut. Assumes nothing.
-use Prim.Native.Nat.{ℕ, suc, ◌+◌, ◌-◌, ◌≤◌, ◌<◌}
+use Prim.Native.Nat.{ℕ, suc, ◌+◌, ◌-◌, ◌≤◌, ◌<◌, min}
+use native.Mathlib.Decide.{dec_lt}
 use native.Mathlib.Omega.{arith}
 use mathlib.Core.List.{List, [], ◌∷◌, ◌++◌, append-nil}
-use mathlib.Core.Path.{◌≡◌, refl, sym, ap, ◌∙◌, subst}
+use mathlib.Core.Path.{◌≡◌, refl, sym, ap, ◌∙◌}
 use mathlib.Core.Bool.{Bool, true, false}
 use lib.Dec.{eqb}
-use lib.ListN.{length, take, drop, get_or, length-drop, length-append}
-use lib.Seq.{drop_at, drop-cons, drop-drop, drop-length, get_or-drop, length-take-le, take-add, take_all, take-append-add, take-suc, take-take}
+use lib.ListN.{length, take, drop, get_or, length-drop}
+use lib.Seq.{drop_at, drop-drop, get_or-drop, length-take-le, take-add, take_all, take-append-add, take-suc, take-take}
 use borrow.Author.Tests.{ne_eqb}
 use Rattle.rules.specs.Script.{newline}
 use Rattle.script.specs.Feeding.{whole, begun, after_lines, list_memory}
@@ -14,65 +15,67 @@ use Rattle.script.specs.Feed.{kept_room, kept_line, Cut, LinesFeedable, LinesFed
 use Rattle.script.specs.Play.{part, Playable, PlayedTo}
 use Rattle.script.specs.Read.{line_end, line_of}
 use Rattle.script.specs.Written.{Appended}
+use Rattle.script.specs.declared.write.Counter.{Counter as Counter·rt}
 use Rattle.script.specs.declared.play.Played.{Played as Played·rt}
+use Rattle.script.specs.declared.play.Stop.TheVariants.{AllUsed}
 use Rattle.script.proofs.write.AppendedLaws.{appended-as}
 use Rattle.script.proofs.read.LineEndLaws.{by-test, end-inside}
 use Rattle.script.proofs.PortionLaws.{whole-newline, whole-other, whole-nil, begun-nil, join_lines, join_rest, joins, begun_all}
 use Rattle.script.proofs.play.CutLaws.{part_none}
+use Rattle.script.proofs.play.StopLaws.{all-or-number, all-or-room}
 use Rattle.script.proofs.OneLineLaws.{end-first, line-front, one-begun, one-take}
 
 -- What is kept: a text behind another, as far as there is room.
-
-pub kept-all : (xs ys : List ℕ) (k : ℕ) → length xs + length ys ≤ k → take k (xs ++ ys) ≡ xs ++ ys
-kept-all xs ys k h = take_all k (xs ++ ys) (let e = length-append xs ys in omega arith)
 
 pub kept-some : (xs ys : List ℕ) (k : ℕ) → length xs ≤ k → take k (xs ++ ys) ≡ xs ++ take (k - length xs) ys
 kept-some xs ys k h =
     let e : length xs + (k - length xs) ≡ k = omega arith in
     ap (λ (n : ℕ). take n (xs ++ ys)) (sym e) ∙ take-append-add xs ys (k - length xs)
 
-pub appended-some : {kept kept' t : List ℕ} (text : List ℕ) {count end : ℕ} → Appended kept count kept' end t → t ≡ take (kept_room - count) text
-    → kept_room ≤ length kept → count ≤ kept_room → kept_room - count ≤ length text
-    → (take end kept' ≡ take kept_room (take count kept ++ text)) × (end ≤ kept_room)
-appended-some {kept} text {count} a front whole few long =
-    let l : length (take count kept) ≡ count = length-take-le count kept (omega arith) in
-    let r = ap length front ∙ length-take-le (kept_room - count) text long in
-    let e = a.end in
-    (a.written ∙ ap (λ (y : List ℕ). take count kept ++ y) front ∙ ap (λ (n : ℕ). take count kept ++ take (kept_room - n) text) (sym l) ∙ sym (kept-some (take count kept) text kept_room (omega arith)), omega arith)
+-- the bytes that there is room for are the first, or all
+pub taken-fits : (xs : List ℕ) (n k : ℕ) → n ≡ min (length xs) k → take n xs ≡ take k xs
+taken-fits xs n k e =
+    elim (dec_lt k (length xs)) [
+      | yes h ↦ let same : n ≡ k = omega arith in ap (λ (j : ℕ). take j xs) same
+      | no h ↦ take_all n xs (omega arith) ∙ sym (take_all k xs (omega arith))
+    ]
 
-pub appended-all : {kept kept' text : List ℕ} {count end : ℕ} → Appended kept count kept' end text
-    → kept_room ≤ length kept → count ≤ kept_room → length text ≤ kept_room - count
-    → (take end kept' ≡ take kept_room (take count kept ++ text)) × (end ≤ kept_room)
-appended-all {kept} {text = text} {count = count} a whole few short =
+pub appended-kept : {kept kept' : List ℕ} (text : List ℕ) {count end n : ℕ} → Appended kept count kept' end (take n text) → n ≡ min (length text) (kept_room - count)
+    → kept_room ≤ length kept → count ≤ kept_room → (take end kept' ≡ take kept_room (take count kept ++ text)) × (end ≤ kept_room)
+appended-kept {kept} text {count} {n = n} a fits whole few =
     let l : length (take count kept) ≡ count = length-take-le count kept (omega arith) in
-    let e = a.end in
-    (a.written ∙ sym (kept-all (take count kept) text kept_room (omega arith)), omega arith)
+    let r = length-take-le n text (omega arith) in
+    let e = a.end in (
+      a.written ∙ ap (λ (y : List ℕ). take count kept ++ y) (taken-fits text n (kept_room - count) fits) ∙ ap (λ (k : ℕ). take count kept ++ take (kept_room - k) text) (sym l)
+          ∙ sym (kept-some (take count kept) text kept_room (omega arith)),
+      omega arith,
+    )
 
 -- What a state keeps: its bytes up to a newline.
-pub kept-counted : (kept : List ℕ) (count n : ℕ) {r : ℕ} → kept_room ≤ length kept → take n kept ≡ take kept_room (take count kept) → n ≤ kept_room
-    → r ≡ line_end (take n kept) 0 → (r ≤ kept_room) × (take r kept ≡ line_of (take kept_room (take count kept)))
-kept-counted kept count n {r} room same few e =
+pub kept-counted : (kept : List ℕ) (count : ℕ) {n r : ℕ} → kept_room ≤ length kept → n ≡ min count kept_room → r ≡ line_end (take n kept) 0
+    → (r ≤ kept_room) × (take r kept ≡ line_of (take kept_room (take count kept)))
+kept-counted kept count {n} {r} room all e =
     let t = take n kept in
     let l = length-take-le n kept (omega arith) in
     let i = end-inside t 0 (omega arith) in
-    let f : r ≡ length (line_of t) = e ∙ end-first t in (
+    let f : r ≡ length (line_of t) = e ∙ end-first t in
+    let same : t ≡ take kept_room (take count kept) = elim (dec_lt kept_room count) [
+      | yes h ↦ let k : n ≡ kept_room = omega arith in ap (λ (j : ℕ). take j kept) k ∙ sym (take-take kept_room count kept (omega arith))
+      | no h ↦
+          let k : n ≡ count = omega arith in
+          ap (λ (j : ℕ). take j kept) k ∙ sym (take_all kept_room (take count kept) (let c = length-take-le count kept (omega arith) in omega arith))
+    ] in (
       omega arith,
       sym (take-take r n kept (omega arith)) ∙ ap (λ (k : ℕ). take k t) f ∙ line-front t ∙ ap line_of same,
     )
 
 -- Where a portion is cut: behind its last newline.
 
--- at its end nothing is left
-pub behind-none : (s : List ℕ) → whole (drop (length s) s) ≡ []
-behind-none s = rw (drop-length s) whole-nil
-
--- a byte that is no newline completes no line
-pub behind-other : (s : List ℕ) (i : ℕ) → 1 ≤ i → i ≤ length s → whole (drop i s) ≡ [] → (get_or s (i - 1) 0 ≡ 10 → ⊥) → whole (drop (i - 1) s) ≡ []
-behind-other s i some inside none other =
-    let e : suc (i - 1) ≡ i = omega arith in
-    let x = get_or s (i - 1) 0 in
-    ap whole (drop-cons s (i - 1) 0 (omega arith) ∙ ap (λ (k : ℕ). x ∷ drop k s) e)
-    ∙ (whole-other x (drop i s) (ne_eqb x 10 other)).0 ∙ ap (join_lines x) none
+-- bytes none of which is a newline complete no line
+pub whole-none : (xs : List ℕ) → ((k : ℕ) → k < length xs → get_or xs k 0 ≡ 10 → ⊥) → whole xs ≡ []
+whole-none [] none = whole-nil
+whole-none (x ∷ xs) none =
+    (whole-other x xs (ne_eqb x 10 (none 0 (omega arith)))).0 ∙ ap (join_lines x) (whole-none xs (λ k h. none (suc k) (omega arith)))
 
 -- behind a newline nothing has begun
 pub record Ended (c : List ℕ) : Type 0 where
@@ -99,7 +102,7 @@ ended-line (x ∷ c) = by-test (eqb x newline) (behind (ended-line c)) (joined (
           none = f.1 ∙ ap (λ (ks : List (List ℕ)). join_rest x ks (begun (c ++ (newline ∷ [])))) w ∙ r.none;
         }
 
-pub cut-newline : (s : List ℕ) (from i : ℕ) → from < i → i ≤ length s → whole (drop i s) ≡ [] → get_or s (i - 1) 0 ≡ 10 → Cut s from i
+cut-newline : (s : List ℕ) (from i : ℕ) → from < i → i ≤ length s → whole (drop i s) ≡ [] → get_or s (i - 1) 0 ≡ 10 → Cut s from i
 unfolding part
 cut-newline s from i some inside rest e =
     let l = drop from s in
@@ -112,13 +115,29 @@ cut-newline s from i some inside rest e =
     ap (λ (j : ℕ). take j l) n ∙ take-suc l k 0 (omega arith) ∙ ap (λ (x : ℕ). take k l ++ (x ∷ [])) last in
     record { forward = omega arith; inside = inside; lines = ap begun p ∙ (ended-line (take k l)).none; rest = rest }
 
-pub cut-none : (s : List ℕ) (from i : ℕ) → from ≤ length s → i ≡ from → whole (drop i s) ≡ [] → Cut s from from
-cut-none s from i inside e rest =
+-- at the last newline of the rest
+pub cut-last : (s : List ℕ) (from last : ℕ) → from ≤ length s → last < length (drop from s) → get_or (drop from s) last 0 ≡ 10
+    → ((k : ℕ) → last + 1 ≤ k → k < length (drop from s) → get_or (drop from s) k 0 ≡ 10 → ⊥) → Cut s from (from + last + 1)
+cut-last s from last inside some newline none =
+    let i = from + last + 1 in
+    let l = length-drop from s in
+    let m = length-drop i s in
+    let at : i - 1 ≡ from + last = omega arith in
+    let behind : whole (drop i s) ≡ [] = whole-none (drop i s)
+    (λ k h e.
+    let j : from + (last + 1 + k) ≡ i + k = omega arith in
+    none (last + 1 + k) (omega arith) (omega arith)
+    (get_or-drop from s (last + 1 + k) 0 ∙ ap (λ (n : ℕ). get_or s n 0) j ∙ sym (get_or-drop i s k 0) ∙ e)) in
+    cut-newline s from i (omega arith) (omega arith) behind (ap (λ (n : ℕ). get_or s n 0) at ∙ sym (get_or-drop from s last 0) ∙ newline)
+
+-- or nowhere, where there is none
+pub cut-none : (s : List ℕ) (from : ℕ) → from ≤ length s → ((k : ℕ) → k < length (drop from s) → get_or (drop from s) k 0 ≡ 10 → ⊥) → Cut s from from
+cut-none s from inside none =
     record {
       forward = omega arith;
       inside = inside;
       lines = ap begun (part_none s from) ∙ begun-nil;
-      rest = subst (λ (k : ℕ). whole (drop k s) ≡ []) e rest;
+      rest = whole-none (drop from s) none;
     }
 
 -- The lines of a portion.
@@ -165,9 +184,9 @@ cut-lines s from to c =
     }
 
 -- played up to the cut, or less for want of room
-module _ {m : List ℕ} {good : Bool} {s : List ℕ} {start : ℕ} {out : List ℕ} {at : ℕ} {digits : List ℕ} {len lines : ℕ}
-    (h : LinesFeedable m good s start out at digits len lines) {to : ℕ} (c : Cut s start to) where
-  pub cut-playable : Playable m good (take to s) start out at digits len
+module _ {m : List ℕ} {good : Bool} {s : List ℕ} {start : ℕ} {out : List ℕ} {at : ℕ} {counter : Counter·rt} {lines : ℕ}
+    (h : LinesFeedable m good s start out at counter lines) {to : ℕ} (c : Cut s start to) where
+  pub cut-playable : Playable m good (take to s) start out at counter
   cut-playable =
       let l = length-take-le to s c.inside in
       record {
@@ -179,7 +198,7 @@ module _ {m : List ℕ} {good : Bool} {s : List ℕ} {start : ℕ} {out : List �
         few = let f = h.few in let i = c.inside in omega arith;
       }
 
-  module _ {m' out' digits' : List ℕ} {p : Played·rt} (q : PlayedTo m (take to s) start out at digits len m' out' digits' p) where
+  module _ {m' out' : List ℕ} {counter' : Counter·rt} {p : Played·rt} (q : PlayedTo m (take to s) start out at counter m' out' counter' p) where
     used-inside : p.used ≤ to
     used-inside = let i = q.inside in let l = length-take-le to s c.inside in omega arith
 
@@ -187,7 +206,7 @@ module _ {m : List ℕ} {good : Bool} {s : List ℕ} {start : ℕ} {out : List �
     same-part = part-taken s start p.used to q.forward used-inside c.inside
 
     -- it stopped for want of room: nothing has begun
-    pub lines-stopped : (p.stop ≡ 0 → ⊥) → (kept : List ℕ)
+    pub lines-stopped : (p.stop ≡ AllUsed → ⊥) → (kept : List ℕ)
         → LinesFed m s start out at lines m' out' (record { state = record { lines = lines + p.lines; kept = kept; count = 0 }; used = p.used; written = p.at; stop = p.stop })
     unfolding kept_line line_of
     lines-stopped stopped kept =
@@ -204,8 +223,8 @@ module _ {m : List ℕ} {good : Bool} {s : List ℕ} {start : ℕ} {out : List �
         }
 
     -- all was used
-    pub lines-used : p.stop ≡ 0 → {kept : List ℕ} {count : ℕ} → take count kept ≡ take kept_room (drop to s)
-        → LinesFed m s start out at lines m' out' (record { state = record { lines = lines + p.lines; kept = kept; count = count }; used = length s; written = p.at; stop = 0 })
+    pub lines-used : p.stop ≡ AllUsed → {kept : List ℕ} {count : ℕ} → take count kept ≡ take kept_room (drop to s)
+        → LinesFed m s start out at lines m' out' (record { state = record { lines = lines + p.lines; kept = kept; count = count }; used = length s; written = p.at; stop = AllUsed })
     unfolding kept_line
     lines-used all k =
         let e : p.used ≡ to = q.all-used all ∙ length-take-le to s c.inside in
@@ -221,6 +240,6 @@ module _ {m : List ℕ} {good : Bool} {s : List ℕ} {start : ℕ} {out : List �
           kept = ap (λ (t : List ℕ). line_of (take kept_room t)) k ∙ ap line_of (take-take kept_room kept_room (drop to s) (omega arith))
               ∙ one-take kept_room (drop to s) (one-begun (drop to s) c.rest) ∙ sym (ap (take kept_room) l.rest);
           all-used = λ e. refl;
-          no_room = λ e. omega arith;
-          stops = omega arith;
+          no_room = λ e. absurd (all-or-room e);
+          stops = all-or-number;
         }

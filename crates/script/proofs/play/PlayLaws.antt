@@ -23,11 +23,14 @@ use Rattle.script.specs.Play.{part, Playable, LinePlayed, TextPlayable, TextPlay
 use Rattle.script.specs.Feeding.{after_lines, begun, list_memory, whole}
 use Rattle.script.specs.Read.{LineRead, OneLine, line_end, line_of}
 use Rattle.script.specs.Written.{Listed, silent, Counts, Counting, Appended, line_room}
+use Rattle.script.specs.declared.write.Counter.{Counter as Counter·rt}
 use Rattle.script.specs.declared.play.Played.{Played as Played·rt}
+use Rattle.script.specs.declared.play.Stop.TheVariants.{AllUsed, NoRoom, LastNumber}
 use Rattle.script.specs.declared.read.Line.{Line as Line·rt}
 use Rattle.script.proofs.write.AppendedLaws.{appended-none, appended-as, appended_then, appended-within}
 use Rattle.script.proofs.play.CutLaws.{grown, one-more, part-front, part_none}
 use Rattle.script.proofs.write.ListingLaws.{step-listed, listed-few}
+use Rattle.script.proofs.play.StopLaws.{stop-cases}
 use Rattle.script.proofs.OneLineLaws.{begun-one, ended-begun, one-take, whole-one}
 use Rattle.script.proofs.PortionLaws.{begun-nil, whole-nil, after-append, list-append}
 use Rattle.script.specs.Written as Written
@@ -54,7 +57,7 @@ known-stays m op = go (is_memory m) refl
     go false e = ap (λ (s : MemoryStep). is_memory s.memory) (step-untested m op e)
 
 -- lines of s from a position on are played up to another
-pub record Playing (m s : List ℕ) (from : ℕ) (out : List ℕ) (at : ℕ) (digits : List ℕ) (len : ℕ) (m' out' digits' : List ℕ) (used at' len' lines : ℕ) : Type 0 where
+pub record Playing (m s : List ℕ) (from : ℕ) (out : List ℕ) (at : ℕ) (counter : Counter·rt) (m' out' : List ℕ) (counter' : Counter·rt) (used at' lines : ℕ) : Type 0 where
   pub forward : from ≤ used
   pub inside : used ≤ length s
   pub cut : begun (part s from used) ≡ []
@@ -63,16 +66,16 @@ pub record Playing (m s : List ℕ) (from : ℕ) (out : List ℕ) (at : ℕ) (di
   pub few : lines + from ≤ used
   pub known : is_memory m' ≡ is_memory m
   pub memory : m' ≡ after_lines m (whole (part s from used))
-  pub listed : (i : ℕ) → Counts digits len i → Appended out at out' at' (list_memory (i + 1) m (whole (part s from used)))
-  pub counted : (i : ℕ) → Counts digits len i → Counts digits' len' (i + length (whole (part s from used)))
+  pub listed : (i : ℕ) → Counts counter i → Appended out at out' at' (list_memory (i + 1) m (whole (part s from used)))
+  pub counted : (i : ℕ) → Counts counter i → Counts counter' (i + length (whole (part s from used)))
   pub within : at' ≤ length out'
   pub same_length : length out' ≡ length out
 
 -- none yet
-pub playing-start : {m : List ℕ} {good : Bool} {s : List ℕ} {from : ℕ} {out : List ℕ} {at : ℕ} {digits : List ℕ} {len : ℕ}
-    → Playable m good s from out at digits len → Playing m s from out at digits len m out digits from at len 0
+pub playing-start : {m : List ℕ} {good : Bool} {s : List ℕ} {from : ℕ} {out : List ℕ} {at : ℕ} {counter : Counter·rt}
+    → Playable m good s from out at counter → Playing m s from out at counter m out counter from at 0
 unfolding after_lines list_memory
-playing-start {m} {s = s} {from = from} {out = out} {at = at} {digits = digits} {len = len} p =
+playing-start {m} {s = s} {from = from} {out = out} {at = at} {counter = counter} p =
     let none = part_none s from in
     let w : whole (part s from from) ≡ [] = ap whole none ∙ whole-nil in
     record {
@@ -104,13 +107,13 @@ list-last i m ks l =
     ∙ ap (λ (bs : List ℕ). list_memory (i + 1) m ks ++ bs) (append-nil (report_line (i + 1 + length ks) (step_memory (after_lines m ks) (read_line l)).report) ∙ ap (λ (k : ℕ). report_line k (step_memory (after_lines m ks) (read_line l)).report) e)
 
 -- one line more
-pub playing-more : {m s : List ℕ} {from : ℕ} {out : List ℕ} {at : ℕ} {digits : List ℕ} {len : ℕ} {m₁ out₁ digits₁ : List ℕ} {used at₁ len₁ lines : ℕ}
-    → Playing m s from out at digits len m₁ out₁ digits₁ used at₁ len₁ lines → used < length s
-    → {m₂ out₂ digits₂ : List ℕ} {p : Played·rt} → at₁ + line_room ≤ length out₁ → length out₂ ≡ length out₁
-    → LinePlayed m₁ s used out₁ at₁ digits₁ len₁ m₂ out₂ digits₂ p
-    → Playing m s from out at digits len m₂ out₂ digits₂ p.used p.at p.len (lines + 1)
+pub playing-more : {m s : List ℕ} {from : ℕ} {out : List ℕ} {at : ℕ} {counter : Counter·rt} {m₁ out₁ : List ℕ} {counter₁ : Counter·rt} {used at₁ lines : ℕ}
+    → Playing m s from out at counter m₁ out₁ counter₁ used at₁ lines → used < length s
+    → {m₂ out₂ : List ℕ} {counter₂ : Counter·rt} {p : Played·rt} → at₁ + line_room ≤ length out₁ → length out₂ ≡ length out₁
+    → LinePlayed m₁ s used out₁ at₁ counter₁ m₂ out₂ counter₂ p
+    → Playing m s from out at counter m₂ out₂ counter₂ p.used p.at (lines + 1)
 unfolding line_end
-playing-more {m} {s} {from} {out} {at} {digits} {len} {m₁} {out₁} {digits₁} {used} {at₁} {len₁} {lines} q inside {m₂} {out₂} {digits₂} {p} room same l =
+playing-more {m} {s} {from} {out} {at} {counter} {m₁} {out₁} {counter₁} {used} {at₁} {lines} q inside {m₂} {out₂} {counter₂} {p} room same l =
     let g = grown s from used q.forward inside q.goes_on in
     let t = line_of (drop used s) in
     let e : used + length t + 1 ≡ p.used = sym l.used in
@@ -139,7 +142,7 @@ playing-more {m} {s} {from} {out} {at} {digits} {len} {m₁} {out₁} {digits₁
       listed = λ i n.
           appended-as (appended_then (q.listed i n) (l.listed (i + length (whole c)) (q.counted i n)))
           (last-listed i ∙ sym (ap (list_memory (i + 1) m) w));
-      counted = λ i n. subst (Counts digits₂ p.len) (longer i) (l.counted (i + length (whole c)) (q.counted i n));
+      counted = λ i n. subst (Counts counter₂) (longer i) (l.counted (i + length (whole c)) (q.counted i n));
       within = let a = l.at_most in omega arith;
       same_length = same ∙ q.same_length;
     }
@@ -151,12 +154,12 @@ pub as_read : (m : List ℕ) {m' : List ℕ} {r : Report·rt} {op op' : Operatio
 as_read m {m'} {r} e a = subst (λ (o : Operation). Answers m' r (step_memory m o)) e a
 
 -- its step, whose report is listed
-pub line-played : {m s : List ℕ} {from : ℕ} {fields out : List ℕ} {at : ℕ} {digits : List ℕ} {len : ℕ} {m' out' digits' : List ℕ} {l : Line·rt} {r : Report·rt} {end len' : ℕ}
+pub line-played : {m s : List ℕ} {from : ℕ} {fields out : List ℕ} {at : ℕ} {counter : Counter·rt} {m' out' : List ℕ} {counter' : Counter·rt} {l : Line·rt} {r : Report·rt} {end : ℕ}
     → LineRead s from fields l
     → Answers m' r (step_memory m (operation_of l.op (take (l.count - 1) (drop 1 fields))))
-    → ((i : ℕ) → Counts digits len i → Counts digits' len' (i + 1))
-    → Written.Line digits' len' out at out' end r → end ≤ at + line_room
-    → LinePlayed m s from out at digits len m' out' digits' (record { used = l.next; at = end; len = len'; lines = 1; stop = 0 })
+    → ((i : ℕ) → Counts counter i → Counts counter' (i + 1))
+    → Written.Line counter' out at out' end r → end ≤ at + line_room
+    → LinePlayed m s from out at counter m' out' counter' (record { used = l.next; at = end; lines = 1; stop = AllUsed })
 line-played {m} {s} {from} read answers counts line few =
     let op = read_line (line_of (drop from s)) in
     let e = ap (step_memory m) read.operation in
@@ -175,19 +178,19 @@ pub answered-few : (m : List ℕ) (op : Operation) {m' : List ℕ} {r : Report·
 answered-few m op a = subst (λ (x : Report·rt). x.sent.len ≤ word_limit) (sym a.reported) (listed-few (report-listed m op))
 
 -- a line is never empty: its newline is used too
-pub played-forward : {m s : List ℕ} {from : ℕ} {out : List ℕ} {at : ℕ} {digits : List ℕ} {len : ℕ} {m' out' digits' : List ℕ} {p : Played·rt}
-    → LinePlayed m s from out at digits len m' out' digits' p → from < p.used
+pub played-forward : {m s : List ℕ} {from : ℕ} {out : List ℕ} {at : ℕ} {counter : Counter·rt} {m' out' : List ℕ} {counter' : Counter·rt} {p : Played·rt}
+    → LinePlayed m s from out at counter m' out' counter' p → from < p.used
 unfolding line_end
 played-forward l = let e = l.used in omega arith
 
 -- The end.
 
 -- what was played, and why it stopped
-pub played-to : {m s : List ℕ} {from : ℕ} {out : List ℕ} {at : ℕ} {digits : List ℕ} {len : ℕ} {m' out' digits' : List ℕ} (p : Played·rt)
-    → Playing m s from out at digits len m' out' digits' p.used p.at p.len p.lines
-    → (p.stop ≡ 0 → p.used ≡ length s)
-    → (p.stop ≡ 1 → length out' < p.at + line_room) → p.stop ≤ 1
-    → PlayedTo m s from out at digits len m' out' digits' p
+pub played-to : {m s : List ℕ} {from : ℕ} {out : List ℕ} {at : ℕ} {counter : Counter·rt} {m' out' : List ℕ} {counter' : Counter·rt} (p : Played·rt)
+    → Playing m s from out at counter m' out' counter' p.used p.at p.lines
+    → (p.stop ≡ AllUsed → p.used ≡ length s)
+    → (p.stop ≡ NoRoom → length out' < p.at + line_room) → (p.stop ≡ LastNumber → ⊥)
+    → PlayedTo m s from out at counter m' out' counter' p
 played-to p q all room stops =
     record {
       forward = q.forward;
@@ -209,8 +212,8 @@ played-to p q all room stops =
 pub text-line : (text : List ℕ) (count : ℕ) → count < length text → take (count + 1) (set text count newline) ≡ take count text ++ (newline ∷ [])
 text-line text count inside = ap (λ (k : ℕ). take k (set text count newline)) (add-one count) ∙ take-suc-set text count newline inside
 
-pub text-playable : {m : List ℕ} {good : Bool} {text : List ℕ} {count : ℕ} {out digits : List ℕ} {len : ℕ} → TextPlayable m good text count out digits len
-    → Playable m good (take (count + 1) (set text count newline)) 0 out 0 digits len
+pub text-playable : {m : List ℕ} {good : Bool} {text : List ℕ} {count : ℕ} {out : List ℕ} {counter : Counter·rt} → TextPlayable m good text count out counter
+    → Playable m good (take (count + 1) (set text count newline)) 0 out 0 counter
 text-playable {text = text} {count = count} h =
     let t = text-line text count h.inside in
     let l : length (take (count + 1) (set text count newline)) ≡ count + 1 = length-take-le (count + 1) (set text count newline) (let s = length-set text count newline in let i = h.inside in omega arith) in
@@ -224,8 +227,8 @@ text-playable {text = text} {count = count} h =
     }
 
 -- all of it is played, since there is room for it
-module _ {m line out digits : List ℕ} {len : ℕ} {m' out' digits' : List ℕ} {p : Played·rt} (one : OneLine line) (room : line_room ≤ length out)
-    (counting : Counting digits len) (q : PlayedTo m (line ++ (newline ∷ [])) 0 out 0 digits len m' out' digits' p) where
+module _ {m line out : List ℕ} {counter : Counter·rt} {m' out' : List ℕ} {counter' : Counter·rt} {p : Played·rt} (one : OneLine line) (room : line_room ≤ length out)
+    (counting : Counting counter) (q : PlayedTo m (line ++ (newline ∷ [])) 0 out 0 counter m' out' counter' p) where
   -- up to a position in the line no newline has come
   stopped : p.used ≤ length line → ⊥
   unfolding list_memory
@@ -237,10 +240,9 @@ module _ {m line out digits : List ℕ} {len : ℕ} {m' out' digits' : List ℕ}
       let at = (q.listed counting.number counting.counts).end in
       let l : length (list_memory (counting.number + 1) m (whole (part (line ++ (newline ∷ [])) 0 p.used))) ≡ 0 =
       ap (λ (ls : List (List ℕ)). length (list_memory (counting.number + 1) m ls)) w in
-      elim (dec_lt p.stop 1) [
-        | yes h ↦ let u = q.all-used (omega arith) in let k = length-append line (newline ∷ []) in omega arith
-        | no h ↦ let s = q.stops in let r = q.no_room (omega arith) in omega arith
-      ]
+      stop-cases p.stop (λ s. let u = q.all-used s in let k = length-append line (newline ∷ []) in omega arith)
+      (λ s. let r = q.no_room s in omega arith)
+      (λ s. q.stops s)
 
   all-played : part (line ++ (newline ∷ [])) 0 p.used ≡ line ++ (newline ∷ [])
   all-played =
@@ -248,13 +250,13 @@ module _ {m line out digits : List ℕ} {len : ℕ} {m' out' digits' : List ℕ}
       ∙ take_all p.used (line ++ (newline ∷ []))
       (let l = length-append line (newline ∷ []) in elim (dec_lt (length line) p.used) [ yes h ↦ omega arith | no h ↦ absurd (stopped (omega arith)) ])
 
-  pub text-played : TextPlayed m line out digits len m' out' digits' p
+  pub text-played : TextPlayed m line out counter m' out' counter' p
   unfolding after_lines list_memory
   text-played =
       let w : whole (part (line ++ (newline ∷ [])) 0 p.used) ≡ line ∷ [] = ap whole all-played ∙ whole-one line one in
       record {
         memory = q.memory ∙ ap (after_lines m) w;
         listed = λ i c. appended-as (q.listed i c) (ap (list_memory (i + 1) m) w ∙ append-nil (report_line (i + 1) (step_memory m (read_line line)).report));
-        counted = λ i c. subst (λ (ls : List (List ℕ)). Counts digits' p.len (i + length ls)) w (q.counted i c);
+        counted = λ i c. subst (λ (ls : List (List ℕ)). Counts counter' (i + length ls)) w (q.counted i c);
         within = appended-within (q.listed counting.number counting.counts) (omega arith);
       }

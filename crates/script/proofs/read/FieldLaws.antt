@@ -10,9 +10,10 @@ use mathlib.Core.Option.{Option, none, some}
 use lib.Dec.{eqb, leb, ltb}
 use lib.ListN.{length, take, drop, set, get_or, length-set}
 use lib.Seq.{take-suc-set, drop-drop}
+use Rattle.std.specs.Prelude.{Some, None, Result, Ok, Err, is_ok}
 use Rattle.rules.specs.Text.{is_digit}
 use Rattle.rules.specs.Script.{line_limit, is_number, number, and_number}
-use Rattle.script.specs.Read.{line_of, line_end, digits_of, numbers_behind, rest_of_line, fields_ended, NumberRead, FieldsRead}
+use Rattle.script.specs.Read.{line_of, line_end, digits_of, numbers_behind, rest_of_line, fields_ended, read_to, NumberRead, FieldsRead}
 use Rattle.script.specs.declared.read.Digits.{Digits as Digits·rt}
 use Rattle.script.specs.declared.read.Fields.{Fields as Fields·rt}
 use Rattle.script.proofs.read.LineEndLaws.{by-test, line-newline, line-more, end_empty, end_more}
@@ -50,17 +51,25 @@ unfolding following and_number
 following-more ns n none = refl
 following-more ns n (some ms) = rw append_assoc
 
+-- where they cannot be read there are none
+unread : {i : ℕ} {f : Fields·rt} → ◌≡◌ {A = Result Fields·rt ℕ} (Err i) (Ok f) → ⊥
+unread e = false≢true (ap is_ok e)
+
+-- how many were read
+abbrev count_of : Result Fields·rt ℕ → ℕ
+count_of (Ok f) = f.count
+count_of (Err stop) = 0
+
 -- what is told where the fields cannot be read
 pub fields-unread :
-    {s : List ℕ} {at : ℕ} {fields : List ℕ} {count i : ℕ}
-    → rest_of_line (line_of (drop at s)) ≡ none → i ≤ length s → line_end s i ≡ line_end s at → count ≤ 64
-    → {f : Fields·rt} → f ≡ fields_ended false 0 count i → FieldsRead s at fields f
-fields-unread bad inside same counted e =
-    rw e
+    {s : List ℕ} {at : ℕ} {fields : List ℕ} {i : ℕ}
+    → rest_of_line (line_of (drop at s)) ≡ none → i ≤ length s → line_end s i ≡ line_end s at
+    → FieldsRead s at fields (Err i)
+fields-unread bad inside same =
     record {
       found = sym bad;
-      ended = λ t. absurd (false≢true t);
-      counted = counted;
+      ended = λ f e. absurd (unread e);
+      counted = λ f e. absurd (unread e);
       inside = inside;
       same_line = same;
     }
@@ -156,17 +165,17 @@ module _ {s : List ℕ} {at count : ℕ} {fields : List ℕ} {i : ℕ} (r : Fiel
       fielding-same = n.same_line ∙ end_more s i inside (no-newline s i inside comma) ∙ r.same_line
 
       -- a bad number
-      pub fielding-bad : d.ok ≡ false → rest_of_line (line_of (drop at s)) ≡ none
+      pub fielding-bad : d.value ≡ None → rest_of_line (line_of (drop at s)) ≡ none
       unfolding and_number
       fielding-bad e = none-behind (at-comma s i inside comma ∙ rw (← n.found, e))
 
       -- a good one
-      pub fielding-more : d.ok ≡ true → count < 64 → Fielding s at (count + 1) (set fields count d.value) d.next
-      fielding-more e less =
+      pub fielding-more : {value : ℕ} → d.value ≡ Some value → count < 64 → Fielding s at (count + 1) (set fields count value) d.next
+      fielding-more {value} e less =
           let ds = digits_of (drop (i + 1) s) in
-          let v : number ds ≡ some d.value = rw e at (sym n.found) in
+          let v : number ds ≡ some value = rw e at (sym n.found) in
           let some-digits = number_digits ds v in
-          let behind = n.behind e in
+          let behind = n.behind value e in
           let room = r.room in
           let long = r.fields-room in
           record {
@@ -175,7 +184,7 @@ module _ {s : List ℕ} {at count : ℕ} {fields : List ℕ} {i : ℕ} (r : Fiel
             counted = omega arith;
             fields-room = simp length-set long;
             found =
-                rw (add-one, take-suc-set fields count d.value (omega arith), behind, ← following-more)
+                rw (add-one, take-suc-set fields count value (omega arith), behind, ← following-more)
                 (ap (λ (o : Option (List ℕ)). following (take count fields) o) (rw (← v) (sym (at-comma s i inside comma))) ∙ r.found);
             same_line = fielding-same;
           }
@@ -200,21 +209,24 @@ module _ {s : List ℕ} {at count : ℕ} {fields : List ℕ} {i : ℕ} (r : Fiel
         (λ t. let under = leb-false 128 (length line) t in rw (t, all, lt-ltb (i - at) 128 (omega arith)))
 
     -- that is what is told there
-    pub fields-ended : {f : Fields·rt} → f ≡ fields_ended true (i - at) count i → FieldsRead s at fields f
+    pub fields-ended : {f : Result Fields·rt ℕ} → f ≡ fields_ended true (i - at) count i → FieldsRead s at fields f
     fields-ended e =
-        rw e
+        by-test (ltb (i - at) line_limit)
+        (λ t.
+        rw (e, t)
         record {
-          found = sym fielding-found;
-          ended = λ _. sym (end_empty s i stop) ∙ r.same_line;
-          counted = r.counted;
+          found = sym (fielding-found ∙ rw t);
+          ended = λ f q. sym (ap read_to q) ∙ sym (end_empty s i stop) ∙ r.same_line;
+          counted = λ f q. let c = ap count_of q in let few = r.counted in omega arith;
           inside = r.inside;
           same_line = r.same_line;
-        }
+        })
+        (λ t. rw (e, t) (fields-unread (fielding-found ∙ rw t) r.inside r.same_line))
 
   -- at a byte that is no comma the fields end, and with them the line or not
-  pub fields-byte : i < length s → (get_or s i 0 ≡ 44 → ⊥) → {f : Fields·rt} → f ≡ fields_ended (eqb (get_or s i 0) 10) (i - at) count i → FieldsRead s at fields f
+  pub fields-byte : i < length s → (get_or s i 0 ≡ 44 → ⊥) → {f : Result Fields·rt ℕ} → f ≡ fields_ended (eqb (get_or s i 0) 10) (i - at) count i → FieldsRead s at fields f
   fields-byte inside comma e =
       by-test
       (eqb (get_or s i 0) 10)
       (λ t. fields-ended (line-newline s i inside (eqb-true (get_or s i 0) 10 t)) (e ∙ rw t))
-      (λ t. fields-unread (fielding-stop inside comma (eqb-false (get_or s i 0) 10 t)) r.inside r.same_line r.counted (e ∙ rw t))
+      (λ t. rw (e, t) (fields-unread (fielding-stop inside comma (eqb-false (get_or s i 0) 10 t)) r.inside r.same_line))

@@ -11,6 +11,8 @@ use mathlib.Core.Option.{none, some}
 use lib.Dec.{eqb, leb}
 use lib.ListN.{length, drop, get_or, drop_of_length-le}
 use lib.Seq.{drop-cons}
+use Rattle.std.specs.Char.{is_ascii_digit}
+use Rattle.std.specs.Prelude.{Option as Maybe, Some, None, is_some}
 use Rattle.rules.specs.Lists.{all}
 use Rattle.rules.specs.Text.{is_digit, value_from}
 use Rattle.rules.specs.Script.{largest, is_number, number}
@@ -45,6 +47,15 @@ ten-bound k h =
 pub digit-range : (c : ℕ) → is_digit c ≡ true → (48 ≤ c) × (c ≤ 57)
 unfolding is_digit
 digit-range c e = let p = both-pass (leb 48 c) (leb c 57) e in (leb-true 48 c p.0, leb-true c 57 p.1)
+
+-- a digit is one of ASCII
+pub digit-same : (c : ℕ) → is_digit c ≡ is_ascii_digit c
+unfolding is_digit
+digit-same c = refl
+
+-- where no number was read there is none
+pub no-number : {n : ℕ} → ◌≡◌ {A = Maybe ℕ} None (Some n) → ⊥
+no-number e = false≢true (ap is_some e)
 
 module _ (s : List ℕ) (i : ℕ) where
   -- at the end of the text no digits stand
@@ -157,7 +168,7 @@ module _ {s : List ℕ} {at value i : ℕ} (r : Reading s at value i) where
     read-stops j =
         record {
           found = j.found ∙ sym reading-judged;
-          behind = λ e. j.behind ∙ reading-stops;
+          behind = λ n e. j.behind ∙ reading-stops;
           inside = rw j.behind r.inside;
           same_line = ap (line_end s) j.behind ∙ r.same_line;
         }

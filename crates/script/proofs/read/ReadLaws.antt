@@ -1,7 +1,6 @@
 -- A line read whole: its letter, what stands behind it, and where it ends. Assumes nothing.
 use Prim.Native.Nat.{ℕ, zero, suc, ◌+◌, ◌-◌, ◌≤◌, ◌<◌}
 use native.Mathlib.Omega.{arith}
-use mathlib.Core.Bool.{true, false, cond}
 use mathlib.Core.Path.{◌≡◌, refl, sym, ap, ◌∙◌}
 use mathlib.Core.List.{List, [], ◌∷◌}
 use mathlib.Core.Option.{Option, none, some}
@@ -9,13 +8,14 @@ use borrow.Author.Tests.{eqb-true, lt-ltb}
 use lib.Dec.{eqb, leb, leb-suc-suc}
 use lib.ListN.{length, take, drop, get_or}
 use lib.Seq.{length-take-le, take-nil}
+use Rattle.std.specs.Prelude.{Result, Ok, Err}
 use Rattle.rules.specs.Operation.{unknown}
 use Rattle.rules.specs.Text.{extend_first, split}
 use Rattle.rules.specs.Script.{letters, lettered, only_byte, numbers, read_fields, read_line}
 use Rattle.rules.specs.Script as script
 use Rattle.rules.specs.Types.{operation_of}
 use Rattle.rules.specs.declared.Operation.{Operation as Operation·rt}
-use Rattle.script.specs.Read.{line_of, line_end, numbers_behind, rest_of_line, unreadable_line, FieldsRead, Lettered, LineRead}
+use Rattle.script.specs.Read.{line_of, line_end, numbers_behind, rest_of_line, unreadable_line, fields_of, read_to, FieldsRead, Lettered, LineRead}
 use Rattle.script.specs.declared.read.Fields.{Fields as Fields·rt}
 use Rattle.script.proofs.read.LineEndLaws.{by-test, line-newline, line-more, end_empty, end_more}
 
@@ -89,34 +89,34 @@ module _ {s : List ℕ} {at : ℕ} (inside : at < length s) where
         counted = omega arith;
       }
 
-  module _ (letter : get_or s at 0 ≡ 10 → ⊥) {fields : List ℕ} {f : Fields·rt} (r : FieldsRead s (at + 1) fields f) where
+  module _ (letter : get_or s at 0 ≡ 10 → ⊥) {fields : List ℕ} {f : Result Fields·rt ℕ} (r : FieldsRead s (at + 1) fields f) where
     -- what the line reads to
-    reads-to : read_line (line_of (drop at s)) ≡ script.operation_of (get_or s at 0) (cond f.ok (some (take f.count fields)) none)
+    reads-to : read_line (line_of (drop at s)) ≡ script.operation_of (get_or s at 0) (fields_of fields f)
     reads-to = rw (line-more s at inside letter, r.found) (reads-letter (get_or s at 0) (line_of (drop (at + 1) s)))
 
     -- where it ends
-    ends_at : line_end s f.next ≡ line_end s at
+    ends_at : line_end s (read_to f) ≡ line_end s at
     ends_at = r.same_line ∙ end_more s at inside letter
 
     -- a line that cannot be read
-    pub line-unread : f.ok ≡ false → {e : ℕ} → e ≡ line_end s f.next → LineRead s at fields (unreadable_line (e + 1))
+    pub line-unread : {stop : ℕ} → f ≡ Err stop → {e : ℕ} → e ≡ line_end s stop → LineRead s at fields (unreadable_line (e + 1))
     unfolding operation_of script.operation_of
     line-unread bad h =
         record {
           operation = sym (reads-to ∙ rw bad);
-          next = let q = ends_at in omega arith;
+          next = let q = rw bad at ends_at in omega arith;
           counted = omega arith;
         }
 
     -- one that can
     pub line-is-read :
-        f.ok ≡ true → 64 ≤ length fields → {op : Operation·rt} → Lettered (get_or s at 0) f.count (get_or fields 0 0) op
-        → LineRead s at fields (record { op = op; count = f.count; next = f.next + 1 })
+        {g : Fields·rt} → f ≡ Ok g → 64 ≤ length fields → {op : Operation·rt} → Lettered (get_or s at 0) g.count (get_or fields 0 0) op
+        → LineRead s at fields (record { op = op; count = g.count; next = g.next + 1 })
     unfolding Lettered
-    line-is-read good room {op} l =
-        let n = f.count in
-        let counted = r.counted in
-        let ended = r.ended good in
+    line-is-read {g} good room {op} l =
+        let n = g.count in
+        let counted = r.counted g good in
+        let ended = r.ended g good in
         let ends = end_more s at inside letter in
         record {
           operation =

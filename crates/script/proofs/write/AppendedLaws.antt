@@ -1,5 +1,4 @@
--- Bytes written behind bytes: none, one, what two writers in a row write, a copy byte by byte, and the first of the bytes written. Assumes
--- nothing.
+-- Bytes written behind bytes: none, one, and what two writers in a row write. Assumes nothing.
 use Prim.Native.Nat.{ℕ, ◌+◌, ◌≤◌, ◌<◌}
 use native.Mathlib.Nat.{add-zero}
 use native.Mathlib.Numerals.{add-one}
@@ -7,8 +6,8 @@ use native.Mathlib.Decide.{dec_lt}
 use native.Mathlib.Omega.{arith}
 use mathlib.Core.List.{List, [], ◌∷◌, ◌++◌, append-nil, append_assoc}
 use mathlib.Core.Path.{◌≡◌, refl, sym, subst, ap, ◌∙◌}
-use lib.ListN.{length, take, get_or, set, length-append, length-set}
-use lib.Seq.{take_all, take-suc, take-suc-set, take-take, take-append-add, length-take-le}
+use lib.ListN.{length, take, set, length-append, length-set}
+use lib.Seq.{take_all, take-suc-set, length-take-le}
 use Rattle.script.specs.Written.{Appended}
 
 -- nothing is written
@@ -55,26 +54,3 @@ appended-within {o} {o'} {a} {a'} {bs} w inside =
           omega (arith, length-take-le a o inside, w.same_length, w.end)
       | no h ↦ omega arith
     ]
-
--- bytes of xs are copied, one more
-pub appended-copy : (xs : List ℕ) (a j : ℕ) {o o' : List ℕ} → Appended o a o' (a + j) (take j xs) → j < length xs → a + j < length o → (x : ℕ) → get_or xs j 0 ≡ x
-    → Appended o a (set o' (a + j) x) (a + (j + 1)) (take (j + 1) xs)
-appended-copy xs a j w h room x e =
-    let t : take (j + 1) xs ≡ take j xs ++ (x ∷ []) = ap (λ (k : ℕ). take k xs) (add-one j) ∙ take-suc xs j 0 h ∙ ap (λ (y : ℕ). take j xs ++ (y ∷ [])) e in
-    appended-to (appended-as (appended-next w x room) (sym t)) (omega arith)
-
--- and all of them
-pub appended-all : (xs : List ℕ) (a j : ℕ) {o o' : List ℕ} → Appended o a o' (a + j) (take j xs) → length xs ≡ j → (e : ℕ) → e ≡ a + length xs → Appended o a o' e xs
-appended-all xs a j w h e end = appended-to (appended-as w (take_all j xs (omega arith))) (omega arith)
-
--- of the bytes written the first k, as if no more were
-pub appended-part : {o o' xs : List ℕ} {a a' : ℕ} → Appended o a o' a' xs → a ≤ length o → (k : ℕ) → k ≤ length xs → Appended o a o' (a + k) (take k xs)
-appended-part {o} {o'} {xs} {a} {a'} w inside k few =
-    let e : take (a + k) (take a' o') ≡ take (a + k) o' = take-take (a + k) a' o' (omega (arith, w.end)) in
-    let l = length-take-le a o inside in
-    record {
-      same_length = w.same_length;
-      end = ap (λ (j : ℕ). a + j) (sym (length-take-le k xs few));
-      written =
-          sym e ∙ ap (take (a + k)) w.written ∙ ap (λ (j : ℕ). take (j + k) (take a o ++ xs)) (sym l) ∙ take-append-add (take a o) xs k;
-    }

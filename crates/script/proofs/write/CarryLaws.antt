@@ -10,32 +10,45 @@ use Rattle.rules.specs.Lists.{Every}
 use Rattle.rules.specs.Text.{decimal}
 use Rattle.rules.proofs.Steps.EveryLaws.{every_append}
 use Rattle.script.specs.Written.{Counts, places}
-use Rattle.script.proofs.write.CounterLaws.{nines, zeros, decimal-next, decimal-grown, counts_some}
+use Rattle.script.specs.declared.write.Counter.{Counter as Counter·rt}
+use Rattle.script.proofs.write.CounterLaws.{nines, zeros, decimal-next, decimal-grown}
 use Rattle.script.proofs.write.DecimalLaws.{Digit, decimal-digits}
 
--- of the first l digits, which were those of d₀, those behind place i were nines and are zeros, and all others are as they were
+-- the counter with these digits
+abbrev counted : List ℕ → ℕ → Counter·rt
+counted d l = record { digits = d; len = l }
+
+-- of the first l digits, which were those of d₀, those from place i on were nines and are zeros, and all others are as they were
 pub record Carrying (d₀ : List ℕ) (l : ℕ) (d : List ℕ) (i : ℕ) : Type 0 where
   pub front : List ℕ
   pub count : ℕ
   pub tail : List ℕ
-  pub up_to : length front ≡ i + 1
-  pub all : i + 1 + count ≡ l
+  pub up_to : length front ≡ i
+  pub all : i + count ≡ l
   pub were : d₀ ≡ front ++ (nines count ++ tail)
   pub are : d ≡ front ++ (zeros count ++ tail)
 
 -- at first none is
-pub carry-none : {d : List ℕ} {l n : ℕ} → Counts d l n → Carrying d l d (l - 1)
-carry-none {d} {l} h =
-    let some = counts_some h in
+pub carry-none : {counter : Counter·rt} {n : ℕ} → Counts counter n → Carrying counter.digits counter.len counter.digits counter.len
+carry-none {counter} h =
+    let d = counter.digits in
+    let l = counter.len in
     record {
       front = take l d;
       count = 0;
       tail = drop l d;
-      up_to = length-take-le l d (omega (arith, h.whole, h.within)) ∙ omega arith;
+      up_to = length-take-le l d (omega (arith, h.whole, h.within));
       all = omega arith;
       were = sym (take-append-drop l d);
       are = sym (take-append-drop l d);
     }
+
+-- where a place is left, there is one before it
+pub at-place : {d₀ d : List ℕ} {l i : ℕ} → Carrying d₀ l d i → 0 < i → Carrying d₀ l d (suc (i - 1))
+at-place {d₀} {d} {l} {i} c left = let e : i ≡ suc (i - 1) = omega arith in subst (λ (k : ℕ). Carrying d₀ l d k) e c
+
+pub at-end : {d₀ d : List ℕ} {l i : ℕ} → Carrying d₀ l d i → i ≤ 0 → Carrying d₀ l d 0
+at-end {d₀} {d} {l} {i} c end = let e : i ≡ 0 = omega arith in subst (λ (k : ℕ). Carrying d₀ l d k) e c
 
 -- a list of no elements
 none : (xs : List ℕ) → length xs ≡ 0 → xs ≡ []
@@ -53,7 +66,7 @@ lead-one d (suc k) some room e =
     ∙ ap (λ (t : List ℕ). t ++ (48 ∷ [])) (take-set-lt (suc k) d 0 49 (omega arith) ∙ ap (λ (t : List ℕ). set t 0 49) e)
     ∙ ap (λ (t : List ℕ). 49 ∷ t) (replicate-append-replicate k 1 48 ∙ ap zeros m)
 
-module _ {d₀ d : List ℕ} {l i : ℕ} (c : Carrying d₀ l d i) where
+module _ {d₀ d : List ℕ} {l i : ℕ} (c : Carrying d₀ l d (suc i)) where
   -- the digit at the place
   digit : ℕ
   digit = get_or d i 0
@@ -106,7 +119,7 @@ module _ {d₀ d : List ℕ} {l i : ℕ} (c : Carrying d₀ l d i) where
       ap length c.are ∙ simp length-append (omega arith) ∙ ap length (sym c.were)
 
   -- the number's digits
-  carry-number : {n : ℕ} → Counts d₀ l n → decimal n ≡ before ++ (digit ∷ nines c.count)
+  carry-number : {n : ℕ} → Counts (counted d₀ l) n → decimal n ≡ before ++ (digit ∷ nines c.count)
   unfolding then-nines
   carry-number h =
       let xs : List ℕ = before ++ (digit ∷ nines c.count) in
@@ -115,32 +128,27 @@ module _ {d₀ d : List ℕ} {l i : ℕ} (c : Carrying d₀ l d i) where
       let e : d₀ ≡ xs ++ c.tail = were-split ∙ sym (append_assoc before (digit ∷ nines c.count) c.tail) in
       sym h.text ∙ ap (take l) e ∙ take_at xs c.tail l m
 
-  -- a nine at the place becomes a zero, and the place is the one before
-  pub carry-more : get_or d i 0 ≡ 57 → (i ≡ 0 → ⊥) → Carrying d₀ l (set d i 48) (i - 1)
+  -- a nine at the place becomes a zero
+  pub carry-more : get_or d i 0 ≡ 57 → Carrying d₀ l (set d i 48) i
   unfolding digit then-nines then-zeros
-  carry-more e some =
-      let p : 1 ≤ i = positive i some in
+  carry-more e =
       record {
         front = before;
         count = suc c.count;
         tail = c.tail;
-        up_to = omega (arith, long);
+        up_to = long;
         all = omega (arith, c.all);
         were = were-split ∙ ap (λ (x : ℕ). before ++ (x ∷ then-nines)) e;
         are = are-set 48;
       }
-    where
-      positive : (i : ℕ) → (i ≡ 0 → ⊥) → 1 ≤ i
-      positive zero f = absurd (f refl)
-      positive (suc i) f = omega arith
 
   -- the digit at the place is one
-  pub carry-digit : {n : ℕ} → Counts d₀ l n → get_or d i 0 ≤ 57
+  pub carry-digit : {n : ℕ} → Counts (counted d₀ l) n → get_or d i 0 ≤ 57
   unfolding digit
   carry-digit {n} h = ((every_append Digit before (digit ∷ nines c.count)).0 (subst (Every Digit) (carry-number h) (decimal-digits n))).1.0.1
 
   -- another digit at the place is one more: the next number
-  pub carried : {n : ℕ} → Counts d₀ l n → (get_or d i 0 ≡ 57 → ⊥) → Counts (set d i (get_or d i 0 + 1)) l (n + 1)
+  pub carried : {n : ℕ} → Counts (counted d₀ l) n → (get_or d i 0 ≡ 57 → ⊥) → Counts (counted (set d i (get_or d i 0 + 1)) l) (n + 1)
   unfolding digit then-zeros then-nines
   carried {n} h not-nine =
       let new : List ℕ = before ++ ((digit + 1) ∷ zeros c.count) in
@@ -153,29 +161,33 @@ module _ {d₀ d : List ℕ} {l i : ℕ} (c : Carrying d₀ l d i) where
         text = ap (take l) e ∙ take_at new c.tail l m ∙ sym (decimal-next before digit c.count n (carry-number h) not-nine);
       }
 
-  -- a nine at the first place: all were nines
-  pub carry-all : {n : ℕ} → Counts d₀ l n → get_or d i 0 ≡ 57 → i ≡ 0 → decimal n ≡ nines l
-  unfolding digit
-  carry-all h e z =
-      let k : suc c.count ≡ l = omega (arith, c.all) in
-      carry-number h ∙ ap (λ (t : List ℕ). t ++ (digit ∷ nines c.count)) (none before (long ∙ z))
-      ∙ ap (λ (x : ℕ). x ∷ nines c.count) e ∙ ap nines k
+-- where no place is left, all were nines
+module _ {d₀ d : List ℕ} {l : ℕ} (c : Carrying d₀ l d 0) where
+  -- the digits as they were and as they are
+  were-nines : d₀ ≡ nines l ++ c.tail
+  were-nines =
+      let k : c.count ≡ l = omega (arith, c.all) in
+      c.were ∙ ap (λ (t : List ℕ). t ++ (nines c.count ++ c.tail)) (none c.front c.up_to) ∙ ap (λ (j : ℕ). nines j ++ c.tail) k
 
-  -- and all are zeros
-  all-zeros : get_or d i 0 ≡ 57 → i ≡ 0 → take l (set d i 48) ≡ zeros l
-  unfolding then-zeros
-  all-zeros e z =
-      let k : suc c.count ≡ l = omega (arith, c.all) in
-      let s : set d i 48 ≡ zeros (suc c.count) ++ c.tail = are-set 48 ∙ ap (λ (t : List ℕ). t ++ (48 ∷ then-zeros)) (none before (long ∙ z)) in
-      ap (take l) s ∙ take_at (zeros (suc c.count)) c.tail l (length-replicate {A = ℕ} (suc c.count) 48 ∙ k) ∙ ap zeros k
+  are-zeros : d ≡ zeros l ++ c.tail
+  are-zeros =
+      let k : c.count ≡ l = omega (arith, c.all) in
+      c.are ∙ ap (λ (t : List ℕ). t ++ (zeros c.count ++ c.tail)) (none c.front c.up_to) ∙ ap (λ (j : ℕ). zeros j ++ c.tail) k
+
+  pub carry-all : {n : ℕ} → Counts (counted d₀ l) n → decimal n ≡ nines l
+  carry-all h = sym h.text ∙ ap (take l) were-nines ∙ take_at (nines l) c.tail l (length-replicate {A = ℕ} l 57)
 
   -- a one leads the zeros: the next number has a digit more
-  pub carried-all : {n : ℕ} → Counts d₀ l n → get_or d i 0 ≡ 57 → i ≡ 0 → l < places → Counts (set (set (set d i 48) 0 49) l 48) (l + 1) (n + 1)
-  carried-all {n} h e z room =
-      let all = same ∙ h.whole in
-      let w : length (set d i 48) ≡ places = length-set d i 48 ∙ all in
+  pub carried-all : {n : ℕ} → Counts (counted d₀ l) n → 1 ≤ l → l < places → Counts (counted (set (set d 0 49) l 48) (l + 1)) (n + 1)
+  carried-all {n} h some room =
+      let z = length-replicate {A = ℕ} l 48 in
+      let y = length-replicate {A = ℕ} l 57 in
+      let a = ap length are-zeros ∙ length-append (zeros l) c.tail in
+      let b = ap length were-nines ∙ length-append (nines l) c.tail in
+      let w : length d ≡ places = let e = h.whole in omega arith in
+      let e : take l d ≡ zeros l = ap (take l) are-zeros ∙ take_at (zeros l) c.tail l z in
       record {
-        whole = simp length-set all;
+        whole = simp length-set w;
         within = omega arith;
-        text = lead-one (set d i 48) l (omega (arith, c.all)) (omega arith) (all-zeros e z) ∙ sym (decimal-grown l n (carry-all h e z));
+        text = lead-one d l some (omega arith) e ∙ sym (decimal-grown l n (carry-all h));
       }

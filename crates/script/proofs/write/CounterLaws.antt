@@ -1,5 +1,5 @@
 -- The digits of the next number: nines at the end become zeros, and the digit before them is one more; where all are nines, a one leads the
--- zeros. What follows from digits that write a number. Assumes nothing.
+-- zeros. What follows from a counter that stands at a number. Assumes nothing.
 use Prim.Native.Nat.{ℕ, zero, suc, ◌+◌, ◌-◌, ◌*◌, ◌≤◌, ◌<◌}
 use native.Mathlib.Decide.{dec_lt}
 use native.Mathlib.Omega.{arith}
@@ -10,8 +10,9 @@ use lib.Seq.{length-take-le}
 use Rattle.rules.specs.Lists.{Every}
 use Rattle.rules.specs.Text.{value_from, decimal}
 use Rattle.rules.proofs.Steps.EveryLaws.{every_append, every-replicate}
-use Rattle.script.specs.Written.{Counts, Countable, places, last_count}
-use Rattle.script.proofs.write.DecimalLaws.{Digit, decimal-small, decimal-some, decimal-digits, decimal-leads, decimal-led, value-append, value-decimal}
+use Rattle.script.specs.Written.{Appended, Counts, Countable, places, last_count}
+use Rattle.script.specs.declared.write.Counter.{Counter as Counter·rt}
+use Rattle.script.proofs.write.DecimalLaws.{Digit, decimal-small, decimal-some, decimal-digits, decimal-leads, decimal-led, decimal-length, value-append, value-decimal}
 
 -- k nines
 abbrev pub nines : ℕ → List ℕ
@@ -71,21 +72,29 @@ pub nines-last : (n : ℕ) → decimal n ≡ nines places → n ≡ last_count
 unfolding value_from
 nines-last n e = sym (value-decimal n) ∙ ap (value_from 0) e
 
-module _ {d : List ℕ} {l n : ℕ} (h : Counts d l n) where
+module _ {counter : Counter·rt} {n : ℕ} (h : Counts counter n) where
   -- as many digits count as the number has
-  pub counts-length : length (decimal n) ≡ l
-  counts-length = ap length (sym h.text) ∙ length-take-le l d (omega (arith, h.whole, h.within))
+  pub counts-length : length (decimal n) ≡ counter.len
+  counts-length = ap length (sym h.text) ∙ length-take-le counter.len counter.digits (omega (arith, h.whole, h.within))
 
   -- there is one
-  pub counts_some : 1 ≤ l
+  pub counts_some : 1 ≤ counter.len
   counts_some = omega (arith, counts-length, decimal-some n)
 
--- digits with a number that is not the largest are not all nines
-pub countable-short : {d : List ℕ} {l : ℕ} (h : Countable d l) → decimal h.number ≡ nines l → l < places
-countable-short {d} {l} h e = elim (dec_lt l places) [
+-- the digits of a number that is not the largest are not all nines
+pub countable-short : {counter : Counter·rt} (h : Countable counter) → decimal h.number ≡ nines counter.len → counter.len < places
+countable-short {counter} h e = elim (dec_lt counter.len places) [
   | yes k ↦ k
   | no k ↦
-      let m : l ≡ places = omega (arith, h.counts.within) in
+      let m : counter.len ≡ places = omega (arith, h.counts.within) in
       let z = nines-last h.number (e ∙ ap nines m) in
       absurd (omega (arith, h.below))
 ]
+
+-- a number of 64 bits as the digits that write it
+pub counts-written : {digits digits' : List ℕ} {end n : ℕ} → Appended digits 0 digits' end (decimal n) → length digits ≡ places → n < 18_446_744_073_709_551_616
+    → Counts (record { digits = digits'; len = end }) n
+counts-written {n = n} a whole few =
+    let l = decimal-length 19 n (omega arith) in
+    let e = a.end in
+    record { whole = a.same_length ∙ whole; within = omega arith; text = a.written }

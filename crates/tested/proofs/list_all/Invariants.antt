@@ -9,8 +9,8 @@ abbrev pub invariant-loop-used : goal.invariant-loop-used
 invariant-loop-used l =
     (length l.memory ≡ length l.initial.memory)
     × ((length l.out ≡ length l.initial.out)
-    × ((l.l.at ≤ length l.out)
-    × ((l.used ≤ length l.script + 1) × ((most : ℕ) → CountsTo l.initial.digits l.initial.l.len most → CountsTo l.digits l.l.len (most + l.used)))))
+    × ((l.at ≤ length l.out)
+    × ((l.used ≤ length l.script + 1) × ((most : ℕ) → CountsTo l.initial.counter most → CountsTo l.counter (most + l.used)))))
 
 abbrev pub decreases-loop-used : goal.decreases-loop-used
 decreases-loop-used l = length l.script - l.used

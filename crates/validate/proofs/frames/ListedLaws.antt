@@ -107,25 +107,7 @@ module _ (m : List ℕ) where
       let held = c.held (suc g) (omega arith) (omega arith) in
       (held, omega (arith, held))
 
--- Where each of the lists begins.
-
-module _ (l : ℕ) where
-  -- the order of entry
-  pub entered-start : l ≡ 0 → list_start l ≡ entered_at
-  unfolding list_start
-  entered-start e = rw e
-
-  -- the free line
-  pub free-start : l ≡ 1 → list_start l ≡ free_at
-  unfolding list_start
-  free-start e = rw e
-
-  -- the swap line
-  pub swap-start : l ≡ 2 → list_start l ≡ swap_at
-  unfolding list_start
-  swap-start e = rw e
-
--- a group's
+-- Where the list of a group begins.
 pub group-start : (l : ℕ) → 2 < l → list_start l ≡ group_address (l - 2) + list_offset
 unfolding list_start
 group-start zero h = absurd (omega arith)
@@ -133,25 +115,7 @@ group-start (suc zero) h = absurd (omega arith)
 group-start (suc (suc zero)) h = absurd (omega arith)
 group-start (suc (suc (suc g))) h = let e : suc (suc (suc g)) - 2 ≡ suc g = omega arith in rw e
 
--- How many numbers each has.
-
-module _ (m : List ℕ) (l : ℕ) where
-  -- the order of entry
-  pub entered-count : l ≡ 0 → list_count m l ≡ word m entered_count_at
-  unfolding list_count
-  entered-count e = rw e
-
-  -- the free line
-  pub free-count : l ≡ 1 → list_count m l ≡ word m free_count_at
-  unfolding list_count
-  free-count e = rw e
-
-  -- the swap line
-  pub swap-count : l ≡ 2 → list_count m l ≡ word m swap_count_at
-  unfolding list_count
-  swap-count e = rw e
-
--- a group's
+-- How many numbers it has.
 pub group-count : (m : List ℕ) (l : ℕ) → 2 < l → list_count m l ≡ word m (group_address (l - 2) + held_offset)
 unfolding list_count
 group-count m zero h = absurd (omega arith)

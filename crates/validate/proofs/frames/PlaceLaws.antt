@@ -15,7 +15,7 @@ use Rattle.rules.specs.Lists.{all, concat_map, up_from}
 use Rattle.rules.specs.Node.{empty_place, waiting}
 use Rattle.rules.specs.Frames.{ceil_div}
 use Rattle.rules.specs.Valid.{is_waiting}
-use Rattle.rules.specs.Memory.{used_offset, count_offset, held_offset, list_offset, group_stride, place_stride, size, word, words_at, place_at, frame_places, frame_address, list_at, buffer_at, group_address}
+use Rattle.rules.specs.Memory.{used_offset, count_offset, held_offset, list_offset, group_stride, place_stride, word, words_at, place_at, frame_places, frame_address, list_at, buffer_at, group_address}
 use Rattle.rules.specs.MemoryTest.{zero_at}
 use Rattle.rules.proofs.Steps.EveryLaws.{every_of}
 use Rattle.rules.proofs.Steps.ListLaws.{length-parts}
@@ -156,13 +156,3 @@ module _ (m : List ℕ) (g : ℕ) (f : Framed m g) where
           ∙ sym (listed-place (first + i) (omega arith) (omega arith))
           ∙ (range-tells (waiting_at m g) h n).0 a (first + i) (omega arith) (omega arith) in
           fails (all (waiting_at m g) (up_from h n)) (λ a. true≢false (sym ((range-tells (waiting_in m w) (p % 8) (k - p % 8)).1 (each a)) ∙ t))
-
--- the test of a place by its address
-pub place-tested : (m : List ℕ) (f i a : ℕ) (t : Bool) → a ≡ frame_address f + place_stride * i → is_waiting (place_at m a) ≡ t → waiting_in m f i ≡ t
-unfolding waiting_in
-place-tested m f i a t e r = rw (← e) r
-
--- a place of a page is within the memory
-pub place_inside : (f r a : ℕ) → f < 96 → r < 8 → a ≡ frame_address f + place_stride * r → a + place_stride ≤ size
-unfolding frame_address
-place_inside f r a h l e = omega arith

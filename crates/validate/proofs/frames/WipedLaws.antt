@@ -15,14 +15,14 @@ use Rattle.rules.specs.Lists.{all, concat_map, up_from}
 use Rattle.rules.specs.Node.{Place}
 use Rattle.rules.specs.Frames.{ceil_div}
 use Rattle.rules.specs.Valid.{idle, is_wiped}
-use Rattle.rules.specs.Memory.{free_at, free_count_at, swap_at, swap_count_at, used_offset, count_offset, held_offset, list_offset, group_stride, place_stride, frame_stride, word, words_at, place_at, places_at, frame_places, frame_address, list_at, buffer_at, group_address, paging_from, node_at}
+use Rattle.rules.specs.Memory.{size, free_at, free_count_at, swap_at, swap_count_at, used_offset, count_offset, held_offset, list_offset, group_stride, place_stride, word, words_at, place_at, places_at, frame_places, frame_address, list_at, buffer_at, group_address, paging_from, node_at}
 use Rattle.rules.specs.MemoryTest.{zero_at, frame_wiped, idle_are_wiped}
 use Rattle.rules.proofs.Map.MapWords.{length-words_at, getD-words_at}
 use Rattle.memory.proofs.words.ZeroLaws.{zero-none, zero-swap}
 use Rattle.validate.specs.Clauses.{used_up_wiped, behind_wiped, list_start, list_count, list_numbers}
-use Rattle.validate.specs.Known.{Framed}
-use Rattle.validate.proofs.RangeLaws.{all_append, all_words}
-use Rattle.validate.proofs.frames.ListedLaws.{words-split}
+use Rattle.validate.specs.Known.{Paged, Framed}
+use Rattle.validate.proofs.RangeLaws.{all_append}
+use Rattle.validate.proofs.frames.ListedLaws.{words-split, list-bound}
 use Rattle.validate.proofs.frames.PlaceLaws.{eight-places, places-all}
 
 -- Places in a row.
@@ -155,21 +155,29 @@ module _ (m : List ℕ) (g : ℕ) where
 
 -- The pages of a list.
 
--- page i of the list at address a is 0
-unfoldable pub wiped_at : List ℕ → ℕ → ℕ → Bool
-wiped_at m a i = frame_wiped m (word m (a + i))
+-- the page whose number stands at address a is 0
+unfoldable pub wiped_at : List ℕ → ℕ → Bool
+wiped_at m a = frame_wiped m (word m a)
 
 module _ (m : List ℕ) where
-  -- by its address
-  pub page-tested : (a i p : ℕ) (t : Bool) → p ≡ frame_address (word m (a + i)) → zero_at m p frame_stride ≡ t → wiped_at m a i ≡ t
-  unfolding wiped_at frame_wiped
-  page-tested a i p t e r = rw (← e) r
+  -- a test of words is one of their addresses
+  all_at : (p : ℕ → Bool) (a k : ℕ) → all p (words_at m a k) ≡ all (λ j. p (word m j)) (up_from a k)
+  unfolding words_at
+  all_at p a zero = refl
+  all_at p a (suc k) =
+      let e : a + 1 ≡ suc a = omega arith in
+      ap (λ (t : Bool). p (word m a) && t) (rw e (all_at p (suc a) k))
 
-  -- all of them, one by one
-  pub list-tested : (l a k : ℕ) → a ≡ list_start l → k ≡ list_count m l → all (frame_wiped m) (list_numbers m l) ≡ all (wiped_at m a) (up_from 0 k)
+  -- all of a list, address by address
+  pub list-tested : (l a k : ℕ) → a ≡ list_start l → k ≡ list_count m l → all (frame_wiped m) (list_numbers m l) ≡ all (wiped_at m) (up_from a k)
   unfolding list_numbers wiped_at
-  list-tested l a k s e =
-      rw (← s, ← e) (ap (λ (b : ℕ). all (frame_wiped m) (words_at m b k)) (sym (add-zero a)) ∙ all_words (frame_wiped m) m a 0 k)
+  list-tested l a k s e = rw (← s, ← e) (all_at (frame_wiped m) a k)
+
+  -- where a page's number stands
+  pub list-pages : (l a k : ℕ) → Paged m l → a ≡ list_start l → k ≡ list_count m l → (x : ℕ) → a ≤ x → x < a + k → (x < size) × (word m x < 96)
+  list-pages l a k p s e x low high =
+      let here : list_start l + (x - a) ≡ x = omega arith in
+      (omega (arith, list-bound m p.counted l p.high), rw here at (p.numbers (x - a) (omega arith)))
 
   -- those that no buffer holds: the free line, and the swap line
   pub idle-tested : idle_are_wiped m ≡ all (frame_wiped m) (list_numbers m 1) && all (frame_wiped m) (list_numbers m 2)

@@ -100,12 +100,12 @@ module _ (m : List ℕ) (g : ℕ) (f : Framed m g) where
   unfolding group_at flag_at
   revoked-read w e = rw (group-read m g f.low f.high, ← e)
 
--- what a call that tells of a line says
-pub empty-line : {a t : Bool} → not a ≡ t → t ≡ false → a ≡ true
-empty-line {a} e n = not-false a (e ∙ n)
+-- what a call that tells of a line says, where its answer is turned round
+pub empty-line : {a t v : Bool} → not a ≡ t → v ≡ not t → v ≡ true → a ≡ true
+empty-line {a} {t} e f n = not-false a (e ∙ not-true t (sym f ∙ n))
 
-pub some-line : {a t : Bool} → not a ≡ t → t ≡ true → a ≡ false
-some-line {a} e n = not-true a (e ∙ n)
+pub some-line : {a t v : Bool} → not a ≡ t → v ≡ not t → v ≡ false → a ≡ false
+some-line {a} {t} e f n = not-true a (e ∙ not-false t (sym f ∙ n))
 
 -- The running group.
 

@@ -4,4 +4,4 @@ use Rattle.capi.proofs.carried.load.Goals as goal
 
 pub returns : goal.returns
 returns c =
-    loaded c.args.words.now c.args.bytes.now c.load_script.ensures c.copy.ensures
+    loaded c.args.words.now c.args.bytes.now c.load_script.ensures c.copy_all.ensures.after

@@ -11,7 +11,7 @@ use Rattle.capi.proofs.carried.put_waiting.Goals as goal
 pub returns : goal.returns
 returns c =
     let w = c.args.words.now in (
-      ap (λ (x : List ℕ). take waiting_at w ++ (x ++ drop 16 (drop waiting_at w))) c.copy.ensures
+      ap (λ (x : List ℕ). take waiting_at w ++ (x ++ drop 16 (drop waiting_at w))) c.copy_all.ensures.after
           ∙ ap (λ (x : List ℕ). take waiting_at w ++ (c.args.waiting ++ x)) (drop-drop 16 waiting_at w),
       search rules,
     )

@@ -1,6 +1,7 @@
 -- `capi::feed::fugu_feed` meets its contract: the script is fed on from where it is found, and where it is behind the portion is put in its place. Assumes nothing.
 use native.Mathlib.Omega.{arith}
 use lib.ListN.{length-set}
+use Rattle.capi.proofs.CarriedLaws.{stop-told}
 use Rattle.capi.proofs.FeedLaws.{portion-fed, portion-unfed}
 use Rattle.capi.proofs.feed.fugu_feed.Goals as goal
 
@@ -27,4 +28,4 @@ bounds-part-2 c = let l = c.lent.ensures.0 c.if-not-lent.false in simp length-se
 
 pub returns : goal.returns
 returns c =
-    portion-fed (c.lent.ensures.0 c.if-not-lent.false) c.load_script.ensures c.feed-f.ensures c.save_script.ensures
+    rw (stop-told c.feed-f.result.stop) (portion-fed (c.lent.ensures.0 c.if-not-lent.false) c.load_script.ensures c.feed-f.ensures c.save_script.ensures)

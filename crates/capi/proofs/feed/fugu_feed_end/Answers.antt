@@ -1,6 +1,7 @@
 -- `capi::feed::fugu_feed_end` meets its contract: the script is ended from where it is found. Assumes nothing.
 use native.Mathlib.Omega.{arith}
 use lib.ListN.{length-set}
+use Rattle.capi.proofs.CarriedLaws.{stop-told}
 use Rattle.capi.proofs.FeedLaws.{end-fed, end-unfed}
 use Rattle.capi.proofs.feed.fugu_feed_end.Goals as goal
 
@@ -20,4 +21,4 @@ bounds-part-1 c = let l = c.lent.ensures.0 c.if-not-lent.false in simp length-se
 
 pub returns : goal.returns
 returns c =
-    end-fed (c.lent.ensures.0 c.if-not-lent.false) c.load_script.ensures c.feed_end-e.ensures
+    rw (stop-told c.feed_end-e.result.stop) (end-fed (c.lent.ensures.0 c.if-not-lent.false) c.load_script.ensures c.feed_end-e.ensures)

@@ -1,6 +1,7 @@
 -- `capi::tell::fugu_tell` meets its contract: the state that is found is told on, and the one behind the portion is put in its place. Assumes nothing.
 use native.Mathlib.Omega.{arith}
 use lib.ListN.{length-set}
+use Rattle.capi.proofs.CarriedLaws.{stop-told}
 use Rattle.capi.proofs.TellLaws.{portion-nothing, portion-told}
 use Rattle.capi.proofs.tell.fugu_tell.Goals as goal
 
@@ -27,4 +28,4 @@ bounds-part-2 c = let l = c.lent.ensures.0 c.if-not-lent.false in simp length-se
 
 pub returns : goal.returns
 returns c =
-    portion-told (c.lent.ensures.0 c.if-not-lent.false) c.load.ensures c.tell-t.ensures c.save.ensures
+    rw (stop-told c.tell-t.result.stop) (portion-told (c.lent.ensures.0 c.if-not-lent.false) c.load.ensures c.tell-t.ensures c.save.ensures)

@@ -1,6 +1,7 @@
 -- `capi::tell::fugu_tell_end` meets its contract: the state that is found is ended. Assumes nothing.
 use native.Mathlib.Omega.{arith}
 use lib.ListN.{length-set}
+use Rattle.capi.proofs.CarriedLaws.{stop-told}
 use Rattle.capi.proofs.TellLaws.{end-nothing, end-told}
 use Rattle.capi.proofs.tell.fugu_tell_end.Goals as goal
 
@@ -20,4 +21,4 @@ bounds-part-1 c = let l = c.lent.ensures.0 c.if-not-lent.false in simp length-se
 
 pub returns : goal.returns
 returns c =
-    end-told (c.lent.ensures.0 c.if-not-lent.false) c.load.ensures c.finish-e.ensures
+    rw (stop-told c.finish-e.result.stop) (end-told (c.lent.ensures.0 c.if-not-lent.false) c.load.ensures c.finish-e.ensures)

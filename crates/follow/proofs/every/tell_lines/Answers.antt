@@ -1,8 +1,9 @@
 -- `follow::every::tell_lines` meets its contract: at each turn the lines so far are stepped and told, and the memory is still known to be a node or none. The
 -- measure is what is left of the lines. Assumes nothing.
-use Prim.Native.Nat.{◌-◌}
 use native.Mathlib.Omega.{arith}
-use mathlib.Core.Path.{◌∙◌, refl}
+use mathlib.Core.Path.{◌∙◌, sym, refl}
+use Rattle.script.specs.declared.play.Stop.TheVariants.{NoRoom}
+use Rattle.script.proofs.play.StopLaws.{all-or-number, all-or-room, room-or-number}
 use Rattle.follow.proofs.every.EveryLaws.{telling-end, telling-more, telling-start}
 use Rattle.follow.proofs.portion.NextLaws.{next-forward}
 use Rattle.follow.proofs.portion.PassedLaws.{passed-next}
@@ -42,7 +43,7 @@ pub shape_of-out-after-loop-r : goal.shape_of-out-after-loop-r
 shape_of-out-after-loop-r c = c.loop-r.invariant.1.1.1.0
 
 pub returns-after-loop-r : goal.returns-after-loop-r
-returns-after-loop-r c = let v = c.loop-r.invariant in let g = v.1.1.1.1.1.1 in let z = v.1.1.1.1.1.0 in telling-end g c.loop-r.r.stop v.1.1.1.0 (λ e. let i = g.passed.inside in let f = c.loop-r-test.false in omega arith) (λ e. omega arith) (λ e. omega arith) (omega arith)
+returns-after-loop-r c = let v = c.loop-r.invariant in let g = v.1.1.1.1.1.1 in let z = v.1.1.1.1.1.0 in telling-end g c.loop-r.r.stop v.1.1.1.0 (λ e. let i = g.passed.inside in let f = c.loop-r-test.false in omega arith) (λ e. absurd (all-or-room (sym z ∙ e))) (λ e. absurd (all-or-room (sym z ∙ e))) (λ e. absurd (all-or-number (sym z ∙ e)))
 
 pub shape_of-memory-then-out-r-lt-LINES_ROOM : goal.shape_of-memory-then-out-r-lt-LINES_ROOM
 shape_of-memory-then-out-r-lt-LINES_ROOM c = c.loop-r.invariant.0
@@ -57,4 +58,4 @@ pub shape_of-out-then-out-r-lt-LINES_ROOM : goal.shape_of-out-then-out-r-lt-LINE
 shape_of-out-then-out-r-lt-LINES_ROOM c = c.loop-r.invariant.1.1.1.0
 
 pub returns-then-out-r-lt-LINES_ROOM : goal.returns-then-out-r-lt-LINES_ROOM
-returns-then-out-r-lt-LINES_ROOM c = let v = c.loop-r.invariant in let g = v.1.1.1.1.1.1 in telling-end g 1 v.1.1.1.0 (λ e. omega arith) (λ e. let w = g.within in let t = c.if-out-r-lt-LINES_ROOM.true in omega arith) (λ e. c.loop-r-test.true) (omega arith)
+returns-then-out-r-lt-LINES_ROOM c = let v = c.loop-r.invariant in let g = v.1.1.1.1.1.1 in telling-end g NoRoom v.1.1.1.0 (λ e. absurd (all-or-room (sym e))) (λ e. let w = g.within in let t = c.if-out-r-lt-LINES_ROOM.true in omega arith) (λ e. c.loop-r-test.true) room-or-number

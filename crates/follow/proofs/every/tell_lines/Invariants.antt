@@ -4,6 +4,7 @@ use Prim.Native.Nat.{◌-◌}
 use mathlib.Core.Path.{◌≡◌}
 use lib.ListN.{length, take}
 use Rattle.script.specs.Read.{field_limit}
+use Rattle.script.specs.declared.play.Stop.TheVariants.{AllUsed}
 use Rattle.follow.proofs.every.EveryLaws.{Telling-lines}
 use Rattle.follow.proofs.every.tell_lines.Given as goal
 
@@ -14,7 +15,7 @@ invariant-loop-r l =
     × ((length l.waiting ≡ length l.initial.waiting)
     × ((length l.out ≡ length l.initial.out)
     × ((length l.fields ≡ field_limit)
-    × ((l.r.stop ≡ 0) × Telling-lines l.initial.memory (take l.begun l.initial.kept) l.whole l.lines (take l.count l.initial.waiting) l.initial.out l.memory l.kept l.waiting l.out l.r)))))
+    × ((l.r.stop ≡ AllUsed) × Telling-lines l.initial.memory (take l.begun l.initial.kept) l.whole l.lines (take l.count l.initial.waiting) l.initial.out l.memory l.kept l.waiting l.out l.r)))))
 
 abbrev pub decreases-loop-r : goal.decreases-loop-r
 decreases-loop-r l = length l.whole - l.r.used

@@ -1,6 +1,5 @@
 -- `follow::one::follow_lines` meets its contract: at each turn the lines so far are stepped and followed, and the memory is still known to be a node or none. The
 -- measure is what is left of the lines. Assumes nothing.
-use Prim.Native.Nat.{◌-◌}
 use native.Mathlib.Omega.{arith}
 use mathlib.Core.Path.{◌∙◌, refl}
 use Rattle.follow.proofs.one.FollowLaws.{going_end, going_more, going_start}

@@ -1,19 +1,24 @@
 -- `follow::one::moved_up` meets its contract: a message moves up by as many as leave before it. Assumes nothing.
-use native.Mathlib.Omega.{arith}
 use mathlib.Core.Path.{ap, sym, ◌∙◌}
-use Rattle.reasons.specs.ByPlace.{leaving}
-use Rattle.follow.specs.One.{followed_of, told_of}
-use Rattle.follow.proofs.one.PlaceLaws.{moved-behind, moved-first, moved_later, moved_none}
+use Rattle.reasons.specs.Numbers.{reason_number}
+use Rattle.follow.specs.One.{followed_of, place_of, told_of}
+use Rattle.follow.specs.Seen.{reasons_of}
+use Rattle.follow.proofs.one.PlaceLaws.{moved-ahead, moved_none, moved-out, moved_still}
 use Rattle.follow.proofs.one.moved_up.Goals as goal
 
-pub returns-then-place-l : goal.returns-then-place-l
-returns-then-place-l c = sym (moved-behind c.args.i (told_of c.args.f.told) c.args.f.place c.args.l.left c.args.l.first c.args.l.later c.if-place-l.true)
+pub returns-in_default : goal.returns-in_default
+returns-in_default c = sym (moved_still c.args.i (told_of c.args.f.told) (place_of c.args.f.ahead) (ap reasons_of c.in_default.is))
 
-pub returns-then-place-eq0 : goal.returns-then-place-eq0
-returns-then-place-eq0 c = sym (moved_none c.args.i (told_of c.args.f.told) c.args.f.place (leaving c.args.l.left c.args.l.first c.args.l.later) c.if-place-eq0.true)
+pub returns-in_default-ahead : goal.returns-in_default-ahead
+returns-in_default-ahead c = sym (moved_none c.args.i (told_of c.args.f.told) (place_of c.args.f.ahead) (reasons_of c.args.l.leaving) (ap place_of c.in_default-ahead.is))
 
-pub returns-then-place-eq1 : goal.returns-then-place-eq1
-returns-then-place-eq1 c = ap followed_of c.left_in.ensures ∙ sym (moved-first c.args.i (told_of c.args.f.told) c.args.f.place c.args.l.left c.args.l.first c.args.l.later c.if-place-eq1.true c.if-place-l.false)
+pub returns-in-Some-checked_sub : goal.returns-in-Some-checked_sub
+returns-in-Some-checked_sub c =
+    rw (c.in-Some.is, c.in-Some-ahead.is)
+    (moved-ahead c.args.i (told_of c.args.f.told) c.in-Some-ahead.ahead c.in-Some.leaving.count (reason_number c.in-Some.leaving.first) (reason_number c.in-Some.leaving.later) c.in-Some-checked_sub.ensures)
 
-pub returns : goal.returns
-returns c = ap followed_of c.left_in-2.ensures ∙ sym (moved_later c.args.i (told_of c.args.f.told) c.args.f.place c.args.l.left c.args.l.first c.args.l.later (let z = c.if-place-eq0.false in let o = c.if-place-eq1.false in omega arith) c.if-place-l.false)
+pub returns-in-None : goal.returns-in-None
+returns-in-None c =
+    rw (c.in-Some.is, c.in-Some-ahead.is)
+    (ap followed_of c.left_in.ensures
+    ∙ moved-out c.args.i (told_of c.args.f.told) c.in-Some-ahead.ahead c.in-Some.leaving.count (reason_number c.in-Some.leaving.first) (reason_number c.in-Some.leaving.later) c.in-None.ensures c.reason_at.ensures)

@@ -1,13 +1,16 @@
 -- `follow::one::picked_up` meets its contract: the tests are those of the definition. Assumes nothing.
+use borrow.Author.Rules.{rules}
+use mathlib.Core.Path.{◌≡◌}
 use Rattle.follow.specs.One.{followed_of}
+use Rattle.follow.specs.Seen.{left_of}
 use Rattle.follow.proofs.one.PlaceLaws.{picked-arrival, picked-other, picked-unread}
 use Rattle.follow.proofs.one.picked_up.Goals as goal
 
-pub returns-then-l-eq-UNREADABLE : goal.returns-then-l-eq-UNREADABLE
-returns-then-l-eq-UNREADABLE c = λ s v. picked-unread v (followed_of c.args.f) c.if-l-eq-UNREADABLE.true
-
 pub returns-then-l : goal.returns-then-l
-returns-then-l c = λ s v. picked-arrival v (followed_of c.args.f) c.if-l-eq-UNREADABLE.false c.if-l.true
+returns-then-l c = λ s v. picked-unread v (followed_of c.args.f) c.if-l.true
 
-pub returns : goal.returns
-returns c = λ s v. picked-other v (followed_of c.args.f) c.if-l-eq-UNREADABLE.false c.if-l.false
+pub returns-in-Some : goal.returns-in-Some
+returns-in-Some c = let e : c.map_or-left.result ≡ left_of c.args.l.leaving = search rules in λ s v. picked-arrival v (followed_of c.args.f) c.if-l.false c.in-Some.queued c.in-Some.is c.checked_sub.result (rw e at c.checked_sub.ensures)
+
+pub returns-in-None : goal.returns-in-None
+returns-in-None c = λ s v. picked-other v (followed_of c.args.f) c.if-l.false c.in-None.is

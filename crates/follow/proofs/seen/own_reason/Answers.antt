@@ -15,5 +15,5 @@ group_word-requires c = arrival-count c.requires
 pub returns-then-group_word-gt1 : goal.returns-then-group_word-gt1
 returns-then-group_word-gt1 c = own-older c.requires c.if-g-memory.false c.group_word.ensures c.if-group_word-gt1.true
 
-pub returns : goal.returns
-returns c = own_alone c.requires c.if-g-memory.false c.group_word.ensures c.if-group_word-gt1.false
+pub returns-else-group_word-gt1 : goal.returns-else-group_word-gt1
+returns-else-group_word-gt1 c = own_alone c.requires c.if-g-memory.false c.group_word.ensures c.if-group_word-gt1.false

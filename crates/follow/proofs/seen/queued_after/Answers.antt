@@ -1,7 +1,5 @@
 -- `follow::seen::queued_after` meets its contract: after an accepted arrival the memory is a node's. Assumes nothing.
 use native.Mathlib.Omega.{arith}
-use mathlib.Core.Bool.{true≢false}
-use mathlib.Core.Path.{sym, ◌∙◌}
 use Rattle.follow.proofs.seen.ReadLaws.{queue-count}
 use Rattle.rules.specs.Memory.{word}
 use Rattle.rules.proofs.Map.MapLaws.{test-size}
@@ -12,7 +10,4 @@ bounds-memory-2 c = let l = test-size c.args.memory.now (c.requires c.if-arrival
 
 pub returns-then-arrival : goal.returns-then-arrival
 unfolding word
-returns-then-arrival c = λ e. queue-count c.args.memory.now
-
-pub returns : goal.returns
-returns c = λ e. absurd (true≢false (sym e ∙ c.if-arrival.false))
+returns-then-arrival c = (c.if-arrival.true, queue-count c.args.memory.now)

@@ -7,8 +7,8 @@ use Rattle.follow.proofs.seen.step_line.Goals as goal
 pub queued_after-requires : goal.queued_after-requires
 queued_after-requires c = step-known-node _ _ _ c.step_known-r.ensures c.is_arrival-arrival.ensures
 
-pub first_reason-requires : goal.first_reason-requires
-first_reason-requires c = step-known-arrival _ _ _ c.step_known-r.ensures _ c.left_by-left.ensures.0
+pub gone-requires : goal.gone-requires
+gone-requires c = step-known-arrival _ _ _ c.step_known-r.ensures _ c.left_by-left.ensures.0
 
 pub returns : goal.returns
-returns c = line-stepped _ _ _ c.step_known-r.ensures c.is_arrival-arrival.ensures (ap (operation_of c.read_at-l.result.op) c.words_of.ensures ∙ c.read_at-l.ensures.operation) c.read_at-l.ensures.next c.left_by-left.ensures.0 c.left_by-left.ensures.1 c.queued_after.ensures c.first_reason.ensures c.later_reason.ensures
+returns c = line-stepped _ _ _ c.step_known-r.ensures c.is_arrival-arrival.ensures (ap (operation_of c.read_at-l.result.op) c.words_of.ensures ∙ c.read_at-l.ensures.operation) c.read_at-l.ensures.next c.left_by-left.ensures.0 c.left_by-left.ensures.1 c.queued_after.ensures c.gone.ensures

@@ -2,15 +2,18 @@
 use Prim.Native.Nat.{◌+◌, ◌-◌, ◌<◌, ◌≤◌, ℕ}
 use native.Mathlib.Omega.{arith}
 use mathlib.Core.List.{List, ◌∷◌}
-use mathlib.Core.Path.{◌∙◌, ◌≡◌, refl, sym}
+use mathlib.Core.Path.{◌∙◌, ◌≡◌, ap, refl, sym}
 use lib.ListN.{length, length-drop, length-take}
 use borrow.Rule.Slice.PartMut.{put_mid}
-use Rattle.rules.specs.Build.{page_count, paper01}
-use Rattle.rules.specs.Memory.{count_offset, frame_address, group_stride, size}
+use Rattle.rules.specs.Build.{page_count, paper01, word_limit}
+use Rattle.rules.specs.Memory.{count_offset, frame_address, group_stride, place_words, size}
+use Rattle.rules.specs.Node.{Message, place_of}
+use Rattle.rules.proofs.Steps.ListLaws.{length-pad}
+use Rattle.memory.specs.Holds.{Kept}
 use Rattle.memory.specs.Writes.{InGroup, Wrote}
 use Rattle.memory.proofs.buffer.AppendLaws.{Ends, ends, last_frame, room-end}
 use Rattle.memory.proofs.buffer.PutLaws.{end_place, putting-kept}
-use Rattle.memory.proofs.WriteLaws.{wrote_as, wrote_at, wrote-part}
+use Rattle.memory.proofs.WriteLaws.{length-part, wrote_as, wrote_at, wrote-part}
 use Rattle.memory.proofs.buffer.put.Goals as goal
 use Rattle.memory.proofs.buffer.put.Lts as lts
 use Rattle.memory.proofs.buffer.put.Tie as tie
@@ -56,16 +59,21 @@ at-end : (c : After-place_at) → c.place_at-at.result ≡ end_place c.args.m.no
 at-end c = c.place_at-at.ensures ∙ rw (c.group_word-last.ensures, c.read-x.ensures)
 
 -- what is written of the message
-wrote : (c : After-put_message)
+wrote : (c : After-put_message) → length c.args.message.words ≡ 8
     → Wrote c.args.m.now
     (put_mid c.place_at-at.result (length c.args.m.now - c.place_at-at.result) c.args.m.now c.put_message.new.part)
-    (end_place c.args.m.now c.args.g) (c.args.len ∷ c.args.words)
-wrote c =
+    (end_place c.args.m.now c.args.g) (c.args.message.len ∷ c.args.message.words)
+wrote c fits =
     let l = inside c.before.before in
     let f = facts c.before.before.before.before.before.before.before in
     wrote_at (wrote-part c.args.m.now c.put_message.new.part c.place_at-at.result
-    (length c.args.m.now - c.place_at-at.result) (c.args.len ∷ c.args.words) (omega arith) (omega arith) c.put_message.ensures)
+    (length c.args.m.now - c.place_at-at.result) (c.args.message.len ∷ c.args.message.words) (omega arith) (simp (length-take, length-drop) (omega arith)) c.put_message.ensures)
     (at-end c.before.before)
+
+-- a message is kept by eight words
+kept-length : {g len : ℕ} {ws : List ℕ} {x : Message} → Kept g len ws x → length ws ≡ 8
+unfolding place_words place_of
+kept-length {x = x} k = omega (arith, ap length k.words, length-pad word_limit x.words)
 
 pub read-x-requires : goal.read-x-requires
 read-x-requires c = in_group c.before _ count_offset refl (omega arith)
@@ -95,10 +103,13 @@ pub overflow_add-x : goal.overflow_add-x
 overflow_add-x c = let b = below c.before.before.before.before.before.before.before.before.before in omega arith
 
 pub set_counts-requires : goal.set_counts-requires
-set_counts-requires c = in_group c.before.before.before.before.before.before.before.before.before.before.before _ count_offset (wrote c.before.before.before.before).same_length (omega arith)
+set_counts-requires c =
+    in_group c.before.before.before.before.before.before.before.before.before.before.before _ count_offset
+    (length-part c.args.m.now c.put_message.new.part c.place_at-at.result (length c.args.m.now - c.place_at-at.result) c.put_message.ensures.same_length) (omega arith)
 
 pub returns : goal.returns
 returns c x kept n r h room =
-    let w = wrote c.before.before.before.before.before.before.before.before in
+    let l : length c.args.message.words ≡ 8 = kept-length kept in
+    let w = wrote c.before.before.before.before.before.before.before.before l in
     putting-kept h x c.args.g kept.group c.requires.le_g.0 c.requires.le_g.1 room (wrote_as w (sym kept.words))
     (rw c.read-x.ensures at c.set_counts.ensures)

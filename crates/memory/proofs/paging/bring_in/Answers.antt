@@ -25,7 +25,7 @@ exchange-requires c =
     let p = c.requires in
     record { node = p.node; rest = p.rest; holds = p.holds; fact = record { away = p.fact; full = none_free p.holds (omega (arith, c.if-m-gt0.false)) } }
 
-pub returns : goal.returns
+pub returns-else-m-gt0 : goal.returns-else-m-gt0
 unfolding word
-returns c n r h away =
+returns-else-m-gt0 c n r h away =
     c.exchange.ensures n r h (record { away = away; full = none_free h (omega (arith, c.if-m-gt0.false)) })

@@ -5,14 +5,14 @@ use Rattle.memory.specs.Holds.{Holds}
 use Rattle.memory.proofs.paging.PrepareLaws.{resident-away, resident-here}
 use Rattle.memory.proofs.paging.resident.Goals as goal
 
-pub returns-then-p-lt-FRAMES : goal.returns-then-p-lt-FRAMES
-returns-then-p-lt-FRAMES c n r h owned =
+pub returns-else-p-ge-FRAMES : goal.returns-else-p-ge-FRAMES
+returns-else-p-ge-FRAMES c n r h owned =
     let a = c.args in
-    subst (λ (k : Node). Holds a.m.now k r) (resident-here a.p n c.if-p-lt-FRAMES.true) h
+    subst (λ (k : Node). Holds a.m.now k r) (resident-here a.p n c.if-p-ge-FRAMES.false) h
 
-pub returns : goal.returns
-returns c n r h owned =
+pub returns-then-p-ge-FRAMES : goal.returns-then-p-ge-FRAMES
+returns-then-p-ge-FRAMES c n r h owned =
     let a = c.args in
-    let high = c.if-p-lt-FRAMES.false in
+    let high = c.if-p-ge-FRAMES.true in
     subst (λ (k : Node). Holds c.bring_in.new.m k r) (resident-away a.p n high)
     (c.bring_in.ensures n r h (record { owned = owned; high = high }))

@@ -11,6 +11,6 @@ pub returns-then-x-q : goal.returns-then-x-q
 unfolding traded
 returns-then-x-q c = rw (ne_eqb _ _ c.if-x-p.false, eq-eqb _ _ c.if-x-q.true)
 
-pub returns : goal.returns
+pub returns-else-x-q : goal.returns-else-x-q
 unfolding traded
-returns c = rw (ne_eqb _ _ c.if-x-p.false, ne_eqb _ _ c.if-x-q.false)
+returns-else-x-q c = rw (ne_eqb _ _ c.if-x-p.false, ne_eqb _ _ c.if-x-q.false)

@@ -1,38 +1,17 @@
--- `memory::words::clear` meets its contract. The invariant: i words are written. Assumes nothing.
-use Prim.Native.Nat.{ℕ, ◌+◌, ◌-◌}
+-- `memory::words::clear` meets its contract: the part is written whole. Assumes nothing.
+use Prim.Native.Nat.{◌+◌, ◌-◌}
 use native.Mathlib.Omega.{arith}
 use mathlib.Core.Path.{◌≡◌}
-use lib.ListN.{replicate, length-replicate}
-use Rattle.memory.proofs.WriteLaws.{wrote_none, wrote-next, replicate_more}
+use lib.ListN.{length, take, drop, replicate, length-drop}
+use lib.Seq.{length-take-le}
+use Rattle.memory.proofs.WriteLaws.{wrote_as, wrote_range}
 use Rattle.memory.proofs.words.clear.Goals as goal
 
-pub loop-i-init : goal.loop-i-init
-loop-i-init c = (omega arith, wrote_none c.args.m.now c.args.at)
-
-pub overflow_add-m : goal.overflow_add-m
-overflow_add-m c = omega arith
-
-pub offset_bounds-m-at : goal.offset_bounds-m-at
-offset_bounds-m-at c = omega arith
-
-pub bounds-m-at : goal.bounds-m-at
-bounds-m-at c = omega arith
-
-pub overflow_add-i : goal.overflow_add-i
-overflow_add-i c = omega arith
-
-pub loop-i-smaller : goal.loop-i-smaller
-loop-i-smaller c = omega arith
-
-pub loop-i-preserved : goal.loop-i-preserved
-loop-i-preserved c =
-    let at = c.args.at in
-    let i = c.loop-i.i in
-    let l = length-replicate {A = ℕ} i 0 in
-    (omega arith, rw (replicate_more i 0) (wrote-next c.loop-i.invariant.1 (at + i) 0 (omega arith) (omega arith)))
-
-pub shape_of-m : goal.shape_of-m
-shape_of-m c = c.loop-i.invariant.1.same_length
-
 pub returns : goal.returns
-returns c = let e : c.args.n ≡ c.loop-i.i = omega arith in rw e c.loop-i.invariant.1
+returns c =
+    let a = c.args in
+    let m = a.m.now in
+    let k : a.at + a.n - a.at ≡ a.n = omega arith in
+    let l : length (take a.n (drop a.at m)) ≡ a.n = length-take-le a.n (drop a.at m) (omega (arith, length-drop a.at m)) in
+    let zeros : c.fill.new.self ≡ replicate a.n 0 = rw (k, l) at c.fill.ensures.after (λ y h. h) in
+    rw k (wrote_as (wrote_range m c.fill.new.self a.at a.n (omega arith) (rw (k, l) at c.fill.ensures.len)) zeros)

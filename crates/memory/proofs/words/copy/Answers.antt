@@ -1,5 +1,5 @@
 -- `memory::words::copy` meets its contract. The invariant: i words are copied, and those to come are as they were. Assumes nothing.
-use Prim.Native.Nat.{◌+◌, ◌-◌}
+use Prim.Native.Nat.{◌+◌}
 use native.Mathlib.Omega.{arith}
 use mathlib.Core.Path.{◌≡◌}
 use Rattle.rules.specs.Memory.{word, words_at}
@@ -10,31 +10,7 @@ use Rattle.memory.proofs.words.copy.Goals as goal
 
 pub loop-i-init : goal.loop-i-init
 unfolding words_at
-loop-i-init c = (omega arith, wrote_none c.args.m.now c.args.to)
-
-pub overflow_add-m : goal.overflow_add-m
-overflow_add-m c = omega arith
-
-pub offset_bounds-m-from : goal.offset_bounds-m-from
-offset_bounds-m-from c = omega arith
-
-pub bounds-m-from : goal.bounds-m-from
-bounds-m-from c = omega arith
-
-pub overflow_add-m-in-loop-i : goal.overflow_add-m-in-loop-i
-overflow_add-m-in-loop-i c = omega arith
-
-pub offset_bounds-m-to : goal.offset_bounds-m-to
-offset_bounds-m-to c = omega arith
-
-pub bounds-m-to : goal.bounds-m-to
-bounds-m-to c = omega arith
-
-pub overflow_add-i : goal.overflow_add-i
-overflow_add-i c = omega arith
-
-pub loop-i-smaller : goal.loop-i-smaller
-loop-i-smaller c = omega arith
+loop-i-init c = wrote_none c.args.m.now c.args.to
 
 pub loop-i-preserved : goal.loop-i-preserved
 unfolding word
@@ -43,15 +19,7 @@ loop-i-preserved c =
     let m₀ = a.m.now in
     let m = c.loop-i.m in
     let i = c.loop-i.i in
-    let w = c.loop-i.invariant.1 in
+    let w = c.loop-i.invariant in
     let l = length-words_at m₀ a.from i in
-    let same : word m (a.from + i) ≡ word m₀ (a.from + i) = rw l at (uncopied w a.from a.n (omega arith) c.requires.n_bound) in (
-      omega arith,
-      rw (words_at-more m₀ a.from i, ← same) (wrote-next w (a.to + i) (word m (a.from + i)) (omega arith) (omega arith)),
-    )
-
-pub shape_of-m : goal.shape_of-m
-shape_of-m c = c.loop-i.invariant.1.same_length
-
-pub returns : goal.returns
-returns c = let e : c.args.n ≡ c.loop-i.i = omega arith in rw e c.loop-i.invariant.1
+    let same : word m (a.from + i) ≡ word m₀ (a.from + i) = rw l at (uncopied w a.from a.n (omega arith) c.requires.n_bound) in
+    rw (words_at-more m₀ a.from i, ← same) (wrote-next w (a.to + i) (word m (a.from + i)) (omega arith) (omega arith))

@@ -7,14 +7,18 @@ use Rattle.rules.specs.Operation.{dispatch}
 use Rattle.rules.specs.Step.{act, valued}
 use Rattle.memory.proofs.PieceLaws.{holds-pieces}
 use Rattle.node.proofs.kernel.KernelLaws.{dispatch-accepted, dispatch-busy, dispatch-high, dispatch-none, handed, handed-sound}
-use Rattle.node.proofs.StepMap.{acted-refused, acted-unsettled, one-act}
+use Rattle.node.proofs.StepMap.{acting-unsettled, one-act, stepping-refused}
 use Rattle.node.proofs.kernel.dispatch.Goals as goal
+use Rattle.node.proofs.kernel.dispatch.Goals.{then-g-eq0-via-then-g-eq0, then-g-eq0-via-else-g-eq0+then-g-gt-GROUPS}
 
 pub returns-then-g-eq0 : goal.returns-then-g-eq0
-returns-then-g-eq0 c n r h v = let g = c.args.g in acted-refused (dispatch g) 13 (dispatch-none n g c.if-g-eq0.true) h c.refused.ensures
-
-pub returns-then-g-gt-GROUPS : goal.returns-then-g-gt-GROUPS
-returns-then-g-gt-GROUPS c n r h v = let g = c.args.g in acted-refused (dispatch g) 13 (dispatch-high n g c.if-g-eq0.false c.if-g-gt-GROUPS.true) h c.refused-then-g-gt-GROUPS.ensures
+returns-then-g-eq0 c n r h v =
+    let g = c.args.g in
+    stepping-refused (dispatch g) 13
+    (elim c.then-g-eq0.branch [
+      | then-g-eq0-via-then-g-eq0 w ↦ dispatch-none n g w.if-g-eq0.true
+      | then-g-eq0-via-else-g-eq0+then-g-gt-GROUPS w ↦ dispatch-high n g w.if-g-eq0.false w.if-g-gt-GROUPS.true
+    ]) h
 
 pub bounds-m-0 : goal.bounds-m-0
 bounds-m-0 c = omega (arith, (holds-pieces c.requires.holds).long)
@@ -23,8 +27,8 @@ pub returns-then-m-ne0 : goal.returns-then-m-ne0
 unfolding word
 returns-then-m-ne0 c n r h v =
     let g = c.args.g in
-    acted-refused (dispatch g) 15
-    (dispatch-busy n g c.if-g-eq0.false c.if-g-gt-GROUPS.false (λ e. c.if-m-ne0.true ((holds-pieces h).running ∙ e))) h c.refused-then-m-ne0.ensures
+    stepping-refused (dispatch g) 15
+    (dispatch-busy n g c.if-g-eq0.false c.if-g-gt-GROUPS.false (λ e. c.if-m-ne0.true ((holds-pieces h).running ∙ e))) h
 
 pub bounds-m-0-2 : goal.bounds-m-0-2
 bounds-m-0-2 c = omega (arith, (holds-pieces c.requires.holds).long)
@@ -34,5 +38,5 @@ unfolding word act valued
 returns c n r h v =
     let g = c.args.g in
     let high = c.if-g-gt-GROUPS.false in
-    acted-unsettled (dispatch g) (with_running g n) 0 0 (one-act n (dispatch g) tt (dispatch-accepted n g c.if-g-eq0.false high (sym (holds-pieces h).running ∙ c.if-m-ne0.false)) refl)
-    (handed-sound v g high) (omega arith) (handed h g) c.unsettled.ensures
+    acting-unsettled (dispatch g) (with_running g n) 0 0 (one-act n (dispatch g) tt (dispatch-accepted n g c.if-g-eq0.false high (sym (holds-pieces h).running ∙ c.if-m-ne0.false)) refl)
+    (handed-sound v g high) (omega arith) (handed h g)

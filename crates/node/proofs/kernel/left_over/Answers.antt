@@ -9,6 +9,6 @@ pub returns-then-forced : goal.returns-then-forced
 unfolding rest
 returns-then-forced c n r h s = sym (ap (λ (f : Bool). cond f (c.args.t % 256) 0) (c.forced.ensures n r h s ∙ c.if-forced.true))
 
-pub returns : goal.returns
+pub returns-else-forced : goal.returns-else-forced
 unfolding rest
-returns c n r h s = sym (ap (λ (f : Bool). cond f (c.args.t % 256) 0) (c.forced.ensures n r h s ∙ c.if-forced.false))
+returns-else-forced c n r h s = sym (ap (λ (f : Bool). cond f (c.args.t % 256) 0) (c.forced.ensures n r h s ∙ c.if-forced.false))

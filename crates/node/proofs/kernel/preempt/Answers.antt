@@ -7,7 +7,7 @@ use Rattle.rules.specs.Node.{with_running}
 use Rattle.rules.specs.Operation.{preempt}
 use Rattle.memory.proofs.PieceLaws.{holds-pieces}
 use Rattle.node.proofs.kernel.KernelLaws.{handed, handed-sound, preempt-nobody, preempt-taken}
-use Rattle.node.proofs.StepMap.{acted-still, acted-unsettled}
+use Rattle.node.proofs.StepMap.{acting-unsettled, stepping-still}
 use Rattle.node.proofs.kernel.preempt.Goals as goal
 
 pub bounds-m-0 : goal.bounds-m-0
@@ -15,11 +15,8 @@ bounds-m-0 c = omega (arith, (holds-pieces c.requires.holds).long)
 
 pub returns-then-m-eq0 : goal.returns-then-m-eq0
 unfolding word
-returns-then-m-eq0 c n r h v = acted-still preempt (preempt-nobody v (sym (holds-pieces h).running ∙ c.if-m-eq0.true)) h c.accepted.ensures
-
-pub bounds-m-0-2 : goal.bounds-m-0-2
-bounds-m-0-2 c = omega (arith, (holds-pieces c.requires.holds).long)
+returns-then-m-eq0 c n r h v = rw c.accepted.ensures (stepping-still preempt (preempt-nobody v (sym (holds-pieces h).running ∙ c.if-m-eq0.true)) h)
 
 pub returns : goal.returns
 returns c n r h v =
-    acted-unsettled preempt (with_running 0 n) 0 0 (preempt-taken v) (handed-sound v 0 (omega arith)) (omega arith) (handed h 0) c.unsettled.ensures
+    acting-unsettled preempt (with_running 0 n) 0 0 (preempt-taken v) (handed-sound v 0 (omega arith)) (omega arith) (handed h 0)

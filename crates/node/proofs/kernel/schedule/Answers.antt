@@ -4,7 +4,7 @@ use Prim.Native.Nat.{ℕ, ◌≤◌}
 use native.Mathlib.Omega.{arith}
 use mathlib.Core.List.{List}
 use mathlib.Core.Logic.{◌≢◌}
-use mathlib.Core.Path.{◌∙◌, ap, sym}
+use mathlib.Core.Path.{◌∙◌, sym}
 use lib.ListN.{length, length-set, set}
 use Rattle.rules.specs.Build.{paper01}
 use Rattle.rules.specs.Memory.{running_at, size, timer_at, word}
@@ -16,9 +16,9 @@ use Rattle.memory.specs.Holds.{Holds}
 use Rattle.memory.proofs.PieceLaws.{holds-pieces}
 use Rattle.memory.proofs.PieceWrites.{timer-held}
 use Rattle.memory.proofs.WriteLaws.{wrote-set}
-use Rattle.node.specs.Steps.{Drained, unsettled}
+use Rattle.node.specs.Steps.{Drained}
 use Rattle.node.proofs.kernel.KernelLaws.{handed, handed-sound, schedule-other, schedule-refused, schedule-same, schedule-sound}
-use Rattle.node.proofs.StepMap.{acted-refused, acted-still, acted-unsettled}
+use Rattle.node.proofs.StepMap.{acting-unsettled, stepping-refused, stepping-still}
 use Rattle.node.proofs.kernel.schedule.Goals as goal
 use Rattle.node.proofs.kernel.schedule.Lts as lts
 use Rattle.node.proofs.kernel.schedule.Tie as tie
@@ -31,10 +31,10 @@ After-drain = lts.After-drain tie.the-claims past.Pre past.Post
 
 -- the queue drained with nobody running
 drained : (c : After-drain) (n : Node) (r : List ℕ) → Holds c.args.m.now n r → Valid paper01 n
-    → Drained c.drain-moved.new.m (with_running 0 n) r c.drain-moved.result
-drained c n r h v = c.drain-moved.ensures (with_running 0 n) r (handed h 0) (handed-sound v 0 (omega arith))
+    → Drained c.drain-waiting.new.m (with_running 0 n) r c.drain-waiting.result
+drained c n r h v = c.drain-waiting.ensures (with_running 0 n) r (handed h 0) (handed-sound v 0 (omega arith))
 
-drained-long : (c : After-drain) → size ≤ length c.drain-moved.new.m
+drained-long : (c : After-drain) → size ≤ length c.drain-waiting.new.m
 drained-long c = let p = c.requires in (holds-pieces (drained c p.node p.rest p.holds p.fact).holds).long
 
 -- the processor given, and the timer set
@@ -42,20 +42,20 @@ given : {m : List ℕ} {n : Node} {r : List ℕ} → Holds m n r → (g : ℕ) �
 given {m} h g = timer-held (handed h g) 0 (wrote-set (set m running_at g) timer_at 0 (omega (arith, (holds-pieces (handed h g)).long)))
 
 pub returns-then-g-gt-GROUPS : goal.returns-then-g-gt-GROUPS
-returns-then-g-gt-GROUPS c n r h v = let g = c.args.g in acted-refused (schedule g) 13 (schedule-refused n g c.if-g-gt-GROUPS.true) h c.refused.ensures
+returns-then-g-gt-GROUPS c n r h v = let g = c.args.g in stepping-refused (schedule g) 13 (schedule-refused n g c.if-g-gt-GROUPS.true) h
 
 pub bounds-m-0 : goal.bounds-m-0
 bounds-m-0 c = omega (arith, (holds-pieces c.requires.holds).long)
 
 pub returns-then-g-m : goal.returns-then-g-m
 unfolding word
-returns-then-g-m c n r h v = let g = c.args.g in acted-still (schedule g) (schedule-same v g (c.if-g-m.true ∙ (holds-pieces h).running)) h c.accepted.ensures
+returns-then-g-m c n r h v = let g = c.args.g in rw c.accepted.ensures (stepping-still (schedule g) (schedule-same v g (c.if-g-m.true ∙ (holds-pieces h).running)) h)
 
 pub bounds-m-0-2 : goal.bounds-m-0-2
 bounds-m-0-2 c = omega (arith, (holds-pieces c.requires.holds).long)
 
-pub drain-moved-requires : goal.drain-moved-requires
-drain-moved-requires c = let p = c.requires in record { node = with_running 0 p.node; rest = p.rest; holds = handed p.holds 0; fact = handed-sound p.fact 0 (omega arith) }
+pub drain-waiting-requires : goal.drain-waiting-requires
+drain-waiting-requires c = let p = c.requires in record { node = with_running 0 p.node; rest = p.rest; holds = handed p.holds 0; fact = handed-sound p.fact 0 (omega arith) }
 
 pub bounds-m-0-3 : goal.bounds-m-0-3
 bounds-m-0-3 c = omega (arith, drained-long c.before.before)
@@ -63,15 +63,12 @@ bounds-m-0-3 c = omega (arith, drained-long c.before.before)
 pub bounds-m-1 : goal.bounds-m-1
 bounds-m-1 c = simp length-set (omega (arith, drained-long c.before.before))
 
-pub shape_of-m : goal.shape_of-m
-shape_of-m c = simp length-set (simp length-set at c.drain-moved.auto.m)
-
 pub returns : goal.returns
 unfolding word with_running
 returns c n r h v =
     let g = c.args.g in
     let high = c.if-g-gt-GROUPS.false in
     let other : g ≢ n.running = λ e. c.if-g-m.false (e ∙ sym (holds-pieces h).running) in
-    let d = drained c.before.before.before n r h v in
-    acted-unsettled (schedule g) (with_timer 0 (with_running g (drain paper01 n.queue (with_running 0 n)))) 0 (length n.queue) (schedule-other v g high other)
-    (schedule-sound v g high) v.queue-length (given d.holds g) (c.unsettled.ensures ∙ ap (unsettled 0) d.count)
+    let d = drained c.before.before n r h v in
+    let k = with_timer 0 (with_running g (drain paper01 n.queue (with_running 0 n))) in
+    rw d.count (acting-unsettled (schedule g) k 0 (length n.queue) (schedule-other v g high other) (schedule-sound v g high) v.queue-length (given d.holds g))

@@ -2,7 +2,7 @@
 use Prim.Native.Nat.{◌+◌, ◌<◌, ◌≤◌, ℕ}
 use native.Mathlib.Omega.{arith}
 use mathlib.Core.List.{[], ◌∷◌}
-use mathlib.Core.Path.{◌∙◌, ◌≡◌, ap, sym}
+use mathlib.Core.Path.{◌∙◌, ◌≡◌, ap, refl, sym}
 use lib.ListN.{length}
 use Rattle.rules.specs.Build.{paper01}
 use Rattle.rules.specs.Memory.{size, timer_at, word}
@@ -16,8 +16,9 @@ use Rattle.memory.proofs.PieceWrites.{timer-held}
 use Rattle.memory.proofs.WriteLaws.{wrote_as, wrote-set}
 use Rattle.node.specs.Steps.{late}
 use Rattle.node.proofs.kernel.KernelLaws.{late-sound, tick-accepted, tick-counted, tick-idle, tick-many, tick-none, tick-timeout, valid-ticking}
-use Rattle.node.proofs.StepMap.{acted-quiet, acted-refused, acted-unsettled, one-act}
+use Rattle.node.proofs.StepMap.{acting-unsettled, one-act, stepping-quiet, stepping-refused}
 use Rattle.node.proofs.kernel.tick.Goals as goal
+use Rattle.node.proofs.kernel.tick.Goals.{then-k-eq0-via-then-k-eq0, then-k-eq0-via-else-k-eq0+then-k-gt-TICK_LIMIT}
 use Rattle.node.proofs.kernel.tick.Lts as lts
 use Rattle.node.proofs.kernel.tick.Tie as tie
 use Rattle.node.proofs.kernel.tick.Reads as past
@@ -35,20 +36,21 @@ timer-low : (c : Start) → word c.args.m.now timer_at < paper01.timeout
 timer-low c = rw (holds-pieces c.requires.holds).timer c.requires.fact.timer-bound
 
 pub returns-then-k-eq0 : goal.returns-then-k-eq0
-returns-then-k-eq0 c n r h v = let k = c.args.k in acted-refused (tick k) 14 (tick-none n k c.if-k-eq0.true) h c.refused.ensures
-
-pub returns-then-k-gt-TICK_LIMIT : goal.returns-then-k-gt-TICK_LIMIT
-returns-then-k-gt-TICK_LIMIT c n r h v = let k = c.args.k in acted-refused (tick k) 14 (tick-many n k c.if-k-eq0.false c.if-k-gt-TICK_LIMIT.true) h c.refused-then-k-gt-TICK_LIMIT.ensures
-
-pub timer_runs-requires : goal.timer_runs-requires
-timer_runs-requires c = let p = c.requires in record { node = p.node; rest = p.rest; holds = p.holds; fact = valid-sound p.fact }
+returns-then-k-eq0 c n r h v =
+    let k = c.args.k in
+    stepping-refused (tick k) 14
+    (elim c.then-k-eq0.branch [
+      | then-k-eq0-via-then-k-eq0 w ↦ tick-none n k w.if-k-eq0.true
+      | then-k-eq0-via-else-k-eq0+then-k-gt-TICK_LIMIT w ↦ tick-many n k w.if-k-eq0.false w.if-k-gt-TICK_LIMIT.true
+    ]) h
 
 pub returns-then-not-timer_runs : goal.returns-then-not-timer_runs
 unfolding valued
 returns-then-not-timer_runs c n r h v =
     let k = c.args.k in
     let rests = c.timer_runs.ensures n r h (valid-sound v) ∙ c.if-not-timer_runs.true in
-    acted-quiet (tick k) (valued 0 n) (one-act n (tick k) tt (tick-accepted n k c.if-k-eq0.false c.if-k-gt-TICK_LIMIT.false) (tick-idle v k rests)) (valid-quiet v) h c.accepted.ensures
+    rw c.accepted.ensures
+    (stepping-quiet (tick k) (valued 0 n) (one-act n (tick k) tt (tick-accepted n k c.if-k-eq0.false c.if-k-gt-TICK_LIMIT.false) (tick-idle v k rests)) (valid-quiet v) h refl)
 
 pub bounds-m-1 : goal.bounds-m-1
 bounds-m-1 c = let l = long c.before.before.before.before.before.before.before in omega arith
@@ -69,10 +71,11 @@ returns-then-t-lt-TIMEOUT c n r h v =
     let l = (holds-pieces h).long in
     let runs = c.timer_runs.ensures n r h (valid-sound v) ∙ c.if-not-timer_runs.false in
     let e : word m timer_at + k ≡ n.timer + k = ap (λ (x : ℕ). x + k) t in
-    acted-quiet (tick k) (valued 0 (with_timer (n.timer + k) n))
+    rw c.accepted-then-t-lt-TIMEOUT.ensures
+    (stepping-quiet (tick k) (valued 0 (with_timer (n.timer + k) n))
     (one-act n (tick k) tt (tick-accepted n k c.if-k-eq0.false c.if-k-gt-TICK_LIMIT.false) (tick-counted v k runs (omega (arith, c.if-t-lt-TIMEOUT.true))))
     (counted-quiet v runs (n.timer + k))
-    (timer-held h (n.timer + k) (wrote_as (wrote-set m timer_at (word m timer_at + k) (omega arith)) (ap (λ (x : ℕ). x ∷ []) e))) c.accepted-then-t-lt-TIMEOUT.ensures
+    (timer-held h (n.timer + k) (wrote_as (wrote-set m timer_at (word m timer_at + k) (omega arith)) (ap (λ (x : ℕ). x ∷ []) e))) refl)
 
 pub timeout-requires : goal.timeout-requires
 timeout-requires c =
@@ -89,6 +92,7 @@ returns c n r h v =
     let runs = c.timer_runs.ensures n r h (valid-sound v) ∙ c.if-not-timer_runs.false in
     let e : word m timer_at + k ≡ n.timer + k = ap (λ (x : ℕ). x + k) timer in
     let t = c.timeout.ensures n r h (valid-ticking v runs) in
-    acted-unsettled (tick k) (late (word m timer_at + k) n).node timeout_trap (length n.queue)
+    rw t.told
+    (acting-unsettled (tick k) (late (word m timer_at + k) n).node timeout_trap (length n.queue)
     (one-act n (tick k) tt (tick-accepted n k c.if-k-eq0.false c.if-k-gt-TICK_LIMIT.false) (tick-timeout v k runs (omega (arith, c.if-t-lt-TIMEOUT.false)) ∙ ap (λ (x : ℕ). late x n) (sym e)))
-    (late-sound (valid-ticking v runs) (word m timer_at + k)) v.queue-length t.holds t.told
+    (late-sound (valid-ticking v runs) (word m timer_at + k)) v.queue-length t.holds)

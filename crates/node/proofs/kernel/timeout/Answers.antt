@@ -2,12 +2,13 @@
 use Prim.Native.Nat.{ℕ}
 use native.Mathlib.Omega.{arith}
 use mathlib.Core.List.{List, [], ◌∷◌}
-use mathlib.Core.Path.{◌∙◌, ap}
-use lib.ListN.{length-set, set}
+use mathlib.Core.Path.{ap}
+use lib.ListN.{set}
 use Rattle.rules.specs.Build.{paper01}
 use Rattle.rules.specs.Memory.{timer_at}
 use Rattle.rules.specs.Node.{Node}
-use Rattle.rules.specs.Operation.{timeout_trap}
+use Rattle.std.specs.Prelude.{Some}
+use Rattle.rules.specs.declared.Trap.TheVariants.{TimedOut}
 use Rattle.rules.specs.Settling.{drain}
 use Rattle.memory.specs.Holds.{Holds}
 use Rattle.memory.proofs.PieceLaws.{holds-pieces}
@@ -33,12 +34,6 @@ held c n r h t =
     let e = c.left_over-left.ensures n r h t.sound in
     timer-held k (rest c.args.t n) (wrote_as (wrote-set c.revoke.new.m timer_at c.left_over-left.result (omega (arith, (holds-pieces k).long))) (ap (λ (x : ℕ). x ∷ []) e))
 
-pub left_over-left-requires : goal.left_over-left-requires
-left_over-left-requires c = let p = c.requires in record { node = p.node; rest = p.rest; holds = p.holds; fact = p.fact.sound }
-
-pub drain-moved-requires : goal.drain-moved-requires
-drain-moved-requires c = let p = c.requires in record { node = p.node; rest = p.rest; holds = p.holds; fact = p.fact.sound }
-
 pub revoke-requires : goal.revoke-requires
 revoke-requires c = let p = c.requires in record { node = _; rest = p.rest; holds = (c.drain-moved.ensures p.node p.rest p.holds p.fact.sound).holds; fact = drained-ticking p.fact }
 
@@ -48,12 +43,9 @@ bounds-m-1 c =
     let d = c.drain-moved.ensures p.node p.rest p.holds p.fact.sound in
     omega (arith, (holds-pieces (c.revoke.ensures _ p.rest d.holds (drained-ticking p.fact))).long)
 
-pub shape_of-m : goal.shape_of-m
-shape_of-m c = simp length-set (c.revoke.auto.m ∙ c.drain-moved.auto.m)
-
 pub returns : goal.returns
 returns c n r h t =
     record {
-      told = c.unsettled.ensures ∙ ap (unsettled timeout_trap) (c.drain-moved.ensures n r h t.sound).count;
-      holds = held c.before.before.before n r h t;
+      told = ap (unsettled (Some TimedOut)) (c.drain-moved.ensures n r h t.sound).count;
+      holds = held c.before.before n r h t;
     }

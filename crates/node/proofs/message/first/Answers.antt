@@ -103,9 +103,6 @@ offset_bounds-m-at c = let w = inside c.before in omega arith
 pub bounds-m-at : goal.bounds-m-at
 bounds-m-at c = let w = inside c.before.before in omega (arith, long c.before.before.before.before.before.before.before.before.before.before)
 
-pub overflow_cast-result : goal.overflow_cast-result
-overflow_cast-result c = omega (arith, c.shared_slice_known-then-group_word-ne0-1.given c.place_at-at.result)
-
 pub returns-then-group_word-ne0 : goal.returns-then-group_word-ne0
 unfolding buffer_part word
 returns-then-group_word-ne0 c n r h v =
@@ -118,9 +115,6 @@ bounds-m-2 c = omega (arith, long c.before.before.before.before.before.before.be
 
 pub bounds-m : goal.bounds-m
 bounds-m c = omega (arith, long c.before.before.before.before.before.before.before.before.before)
-
-pub overflow_cast-result-then-m-ne0 : goal.overflow_cast-result-then-m-ne0
-overflow_cast-result-then-m-ne0 c = omega (arith, c.shared_slice_known-then-m-ne0-1.given 5)
 
 pub returns-then-m-ne0 : goal.returns-then-m-ne0
 unfolding queue_part word

@@ -1,4 +1,4 @@
--- `node::network::pledges` meets its contract: after i groups the sum is that of the pledges of groups 1 to i. Assumes nothing.
+-- `node::network::pledges` meets its contract: before group i the sum is that of the pledges of groups 1 to i - 1. Assumes nothing.
 use Prim.Native.Nat.{ℕ, ◌-◌, ◌*◌, ◌≤◌}
 use mathlib.Core.List.{List}
 use mathlib.Core.Path.{◌≡◌}
@@ -13,9 +13,5 @@ use Rattle.node.proofs.network.pledges.Given as goal
 
 abbrev pub invariant-loop-i : goal.invariant-loop-i
 invariant-loop-i l =
-    (l.i ≤ 8)
-    × ((l.sum ≤ 113 * l.i)
-    × ((n : Node) (r : List ℕ) → Holds l.m n r → (x : Message) → x.group ≡ l.g → l.sum ≡ weight (pledge paper01 (queued x n)) (up_from 1 l.i)))
-
-abbrev pub decreases-loop-i : goal.decreases-loop-i
-decreases-loop-i l = 8 - l.i
+    (l.sum ≤ 113 * (l.i - 1))
+    × ((n : Node) (r : List ℕ) → Holds l.m n r → (x : Message) → x.group ≡ l.g → l.sum ≡ weight (pledge paper01 (queued x n)) (up_from 1 (l.i - 1)))

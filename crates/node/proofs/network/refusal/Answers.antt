@@ -17,6 +17,8 @@ use Rattle.node.proofs.network.ArriveLaws.{above-pages, full-queue, high-group, 
 use Rattle.node.proofs.network.PledgeLaws.{early}
 use Rattle.node.proofs.network.PledgeReads.{free-counts, places}
 use Rattle.node.proofs.network.refusal.Goals as goal
+use Rattle.node.proofs.network.refusal.Goals.{then-g-eq0-via-then-g-eq0, then-g-eq0-via-else-g-eq0+then-g-gt-GROUPS}
+use Rattle.node.proofs.network.refusal.Goals.{then-words-eq0-via-then-words-eq0, then-words-eq0-via-else-words-eq0+then-words}
 use Rattle.node.proofs.network.refusal.Lts as lts
 use Rattle.node.proofs.network.refusal.Tie as tie
 use Rattle.node.proofs.network.refusal.Reads as past
@@ -55,20 +57,23 @@ unfolding word
 room c n r h = omega (arith, queue-count h, c.if-m-ge-PLACES.false)
 
 pub returns-then-g-eq0 : goal.returns-then-g-eq0
-returns-then-g-eq0 c n r h v = let s = c.args in sym (no-group paper01 n s.g s.words.now c.if-g-eq0.true)
-
-pub returns-then-g-gt-GROUPS : goal.returns-then-g-gt-GROUPS
-returns-then-g-gt-GROUPS c n r h v = let s = c.args in sym (high-group paper01 n s.g s.words.now c.if-g-gt-GROUPS.true)
+returns-then-g-eq0 c n r h v =
+    let s = c.args in
+    sym
+    (elim c.then-g-eq0.branch [
+      | then-g-eq0-via-then-g-eq0 w ↦ no-group paper01 n s.g s.words.now w.if-g-eq0.true
+      | then-g-eq0-via-else-g-eq0+then-g-gt-GROUPS w ↦ high-group paper01 n s.g s.words.now w.if-g-gt-GROUPS.true
+    ])
 
 pub returns-then-words-eq0 : goal.returns-then-words-eq0
 returns-then-words-eq0 c n r h v =
     let s = c.args in
-    sym (no_words paper01 n s.g s.words.now (omega (arith, c.if-g-eq0.false)) c.if-g-gt-GROUPS.false c.if-words-eq0.true)
-
-pub returns-then-words : goal.returns-then-words
-returns-then-words c n r h v =
-    let s = c.args in
-    sym (many-words paper01 n s.g s.words.now (omega (arith, c.if-g-eq0.false)) c.if-g-gt-GROUPS.false c.if-words.true)
+    let low : 1 ≤ s.g = omega (arith, c.if-g-eq0.false) in
+    sym
+    (elim c.then-words-eq0.branch [
+      | then-words-eq0-via-then-words-eq0 w ↦ no_words paper01 n s.g s.words.now low c.if-g-gt-GROUPS.false w.if-words-eq0.true
+      | then-words-eq0-via-else-words-eq0+then-words w ↦ many-words paper01 n s.g s.words.now low c.if-g-gt-GROUPS.false w.if-words.true
+    ])
 
 pub bounds-m-2 : goal.bounds-m-2
 bounds-m-2 c = omega (arith, long c.before.before.before.before.before.before.before.before)

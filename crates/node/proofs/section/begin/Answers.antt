@@ -68,9 +68,6 @@ pub set_timer_flags-requires : goal.set_timer_flags-requires
 unfolding word
 set_timer_flags-requires c = let p = c.requires in runner-in p.holds p.fact.some p.fact.valid.running-bound _ c.set_flags.auto.m
 
-pub shape_of-m : goal.shape_of-m
-shape_of-m c = c.set_timer_flags.auto.m ∙ c.set_flags.auto.m
-
 pub returns : goal.returns
 unfolding serve valued refuse_request own_report
 returns c n r h run =

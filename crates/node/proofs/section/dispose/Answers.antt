@@ -4,7 +4,7 @@ use native.Mathlib.Omega.{arith}
 use mathlib.Core.Bool.{false}
 use mathlib.Core.List.{List}
 use mathlib.Core.Path.{◌∙◌, ◌≡◌, ap, refl, subst, sym}
-use lib.ListN.{length-set, set}
+use lib.ListN.{set}
 use Rattle.rules.specs.Build.{paper01}
 use Rattle.rules.specs.Lists.{is_empty}
 use Rattle.rules.specs.Memory.{flag_word, running_at, timer_at, word}
@@ -14,12 +14,13 @@ use Rattle.rules.specs.Step.{disposed, extending, removed, serve}
 use Rattle.memory.specs.Holds.{Holds, flagging}
 use Rattle.memory.specs.declared.group.Group.{Group as Group·rt}
 use Rattle.memory.proofs.PieceLaws.{holds-pieces}
+use Rattle.rules.specs.Numbers.{trap_number}
 use Rattle.node.specs.Steps.{Running, WithLine, effect}
 use Rattle.node.proofs.RunnerLaws.{runner-atomic, runner-in}
 use Rattle.node.proofs.section.SectionLaws.{disposing, runner-buffered, runner-none, runner-queued, line-missing, line-present}
-use Rattle.node.proofs.ServedLaws.{acting-refused, acting-unsettled, request-sound}
+use Rattle.node.proofs.ServedLaws.{request-refused, request-sound, request-unsettled}
 use Rattle.node.proofs.section.dispose.Goals as goal
-use Rattle.node.proofs.section.dispose.Goals.{else-x-eq0, then-x-eq0+else-m-eq0}
+use Rattle.node.proofs.section.dispose.Goals.{else-x-eq0-via-else-x-eq0, else-x-eq0-via-then-x-eq0+else-m-eq0}
 use Rattle.node.proofs.section.dispose.Lts as lts
 use Rattle.node.proofs.section.dispose.Tie as tie
 use Rattle.node.proofs.section.dispose.Reads as past
@@ -37,7 +38,10 @@ line-some : (c : Joined1) (n : Node) (r : List ℕ) → Holds c.args.m.now n r �
 unfolding word
 line-some c n r h run =
     let e = ap (λ (x : Group·rt). x.count) c.read-x.ensures in
-    elim c.if-x-eq0.branch [ then-x-eq0+else-m-eq0 w ↦ runner-queued h run (sym e ∙ w.if-x-eq0.true) w.if-m-eq0.false | else-x-eq0 w ↦ runner-buffered h run (λ z. w.if-x-eq0.false (e ∙ z)) ]
+    elim c.else-x-eq0.branch [
+      | else-x-eq0-via-then-x-eq0+else-m-eq0 w ↦ runner-queued h run (sym e ∙ w.if-x-eq0.true) w.if-m-eq0.false
+      | else-x-eq0-via-else-x-eq0 w ↦ runner-buffered h run (λ z. w.if-x-eq0.false (e ∙ z))
+    ]
 
 with-line : (c : Joined1) (n : Node) (r : List ℕ) → Holds c.args.m.now n r → Running n → WithLine (word c.args.m.now running_at) n
 with-line c n r h run = record { running = run; own = (holds-pieces h).running; some = line-some c n r h run }
@@ -66,7 +70,7 @@ bounds-m-2 c = let p = c.requires in let l = (holds-pieces p.holds).long in omeg
 
 pub returns-then-m-eq0 : goal.returns-then-m-eq0
 unfolding word
-returns-then-m-eq0 c n r h run = acting-refused run dispose h 7 (line-missing n (runner-none h run (sym (ap (λ (x : Group·rt). x.count) c.read-x.ensures) ∙ c.if-x-eq0.true) c.if-m-eq0.true)) c.refused.ensures
+returns-then-m-eq0 c n r h run = request-refused run dispose h 7 (line-missing n (runner-none h run (sym (ap (λ (x : Group·rt). x.count) c.read-x.ensures) ∙ c.if-x-eq0.true) c.if-m-eq0.true))
 
 pub remove-trap-requires : goal.remove-trap-requires
 unfolding word
@@ -79,13 +83,10 @@ set_flags-requires c = let p = c.requires in runner-in p.holds p.fact.some p.fac
 pub bounds-m-1 : goal.bounds-m-1
 bounds-m-1 c = let p = c.requires in let l = (holds-pieces p.holds).long in omega (arith, c.set_flags.auto.m, c.remove-trap.auto.m)
 
-pub shape_of-m : goal.shape_of-m
-shape_of-m c = simp length-set (c.set_flags.auto.m ∙ c.remove-trap.auto.m)
-
 pub returns : goal.returns
 unfolding word serve extending
 returns c n r h run =
-    let ok = line-present _ (line-some c.before.before.before.before.before.before.before.before.before n r h run) in
-    let t = c.remove-trap.ensures n r h (with-line c.before.before.before.before.before.before.before.before.before n r h run) in
-    acting-unsettled run dispose (disposed paper01 n) c.remove-trap.result 0 ok (λ i. effect (disposed paper01 n) (sym t.extended i) 0)
-    (request-sound run dispose ok) (omega arith) (gone c.before.before.before n r h run) c.unsettled.ensures
+    let ok = line-present _ (line-some c.before.before.before.before.before.before.before.before n r h run) in
+    let t = c.remove-trap.ensures n r h (with-line c.before.before.before.before.before.before.before.before n r h run) in
+    request-unsettled run dispose (disposed paper01 n) (trap_number c.remove-trap.result) 0 ok (λ i. effect (disposed paper01 n) (sym t.extended i) 0)
+    (request-sound run dispose ok) (omega arith) (gone c.before.before n r h run)

@@ -1,7 +1,10 @@
 -- `node::section::end` meets its contract: pending is read, and the trap is decided before the flags are set. Assumes nothing.
 use Prim.Native.Nat.{ℕ}
 use native.Mathlib.Omega.{arith}
-use mathlib.Core.Bool.{cond, false}
+use mathlib.Core.Bool.{Bool, cond, false, true}
+use Rattle.std.specs.Bool.{then_some}
+use Rattle.rules.specs.Numbers.{trap_number}
+use Rattle.rules.specs.declared.Trap.TheVariants.{AtomicityExtend}
 use mathlib.Core.List.{List}
 use mathlib.Core.Path.{◌∙◌, ◌≡◌, ap, refl, subst, sym}
 use Rattle.rules.specs.Memory.{flag_word, word}
@@ -15,9 +18,8 @@ use Rattle.node.specs.Steps.{Running, effect}
 use Rattle.node.proofs.settling.CallLaws.{flag_off, flag-on}
 use Rattle.node.proofs.RunnerLaws.{runner-in, runner-pending, runner-timer-flagged}
 use Rattle.node.proofs.section.SectionLaws.{section-ends, section-pending}
-use Rattle.node.proofs.ServedLaws.{acting-refused, acting-unsettled, request-sound}
+use Rattle.node.proofs.ServedLaws.{request-refused, request-sound, request-unsettled}
 use Rattle.node.proofs.section.end.Goals as goal
-use Rattle.node.proofs.section.end.Goals.{else-buffered, then-buffered}
 use Rattle.node.proofs.section.end.Lts as lts
 use Rattle.node.proofs.section.end.Tie as tie
 use Rattle.node.proofs.section.end.Reads as past
@@ -27,15 +29,10 @@ use Rattle.node.proofs.section.end.Reads as past
 abbrev After-set_flags : Type 0
 After-set_flags = lts.After-set_flags tie.the-claims past.Pre past.Post
 
-abbrev Joined2 : Type 0
-Joined2 = lts.Joined2 tie.the-claims past.Pre past.Post
-
--- the trap, where the arms meet
-trap-read : (c : Joined2) (n : Node) (r : List ℕ) → Holds c.args.m.now n r → Running n → c.if-buffered.trap ≡ cond (buffered n n.running) atomicity_extend no_trap
-unfolding word
-trap-read c n r h run =
-    let e = ap (buffered n) (sym (holds-pieces h).running) ∙ c.buffered.ensures n r h in
-    elim c.if-buffered.branch [ then-buffered w ↦ w.trap-is ∙ rw (e, w.if-buffered.true) | else-buffered w ↦ w.trap-is ∙ rw (e, w.if-buffered.false) ]
+-- the trap, by whether the group is buffered
+trap-by : (t : Bool) → trap_number (then_some t AtomicityExtend) ≡ cond t atomicity_extend no_trap
+trap-by true = refl
+trap-by false = refl
 
 -- pending is off; force and revoked go off, and then atomic
 ended-there : (c : After-set_flags) (n : Node) (r : List ℕ) → Holds c.args.m.now n r → Running n
@@ -58,7 +55,7 @@ read-x-requires c = let p = c.requires in runner-in p.holds p.fact.some p.fact.v
 
 pub returns-then-x-ne0 : goal.returns-then-x-ne0
 unfolding word
-returns-then-x-ne0 c n r h run = acting-refused run end_atomic h 9 (section-pending n (flag-on _ (λ e. c.if-x-ne0.true (ap (λ (x : Group·rt). x.pending) c.read-x.ensures ∙ runner-pending h run.some run.valid.running-bound ∙ e)))) c.refused.ensures
+returns-then-x-ne0 c n r h run = request-refused run end_atomic h 9 (section-pending n (flag-on _ (λ e. c.if-x-ne0.true (ap (λ (x : Group·rt). x.pending) c.read-x.ensures ∙ runner-pending h run.some run.valid.running-bound ∙ e))))
 
 pub buffered-requires : goal.buffered-requires
 unfolding word
@@ -72,13 +69,12 @@ pub set_flags-requires : goal.set_flags-requires
 unfolding word
 set_flags-requires c = let p = c.requires in runner-in p.holds p.fact.some p.fact.valid.running-bound _ c.set_timer_flags.auto.m
 
-pub shape_of-m : goal.shape_of-m
-shape_of-m c = c.set_flags.auto.m ∙ c.set_timer_flags.auto.m
-
 pub returns : goal.returns
-unfolding serve extending
+unfolding serve extending word
 returns c n r h run =
-    let t = ended-there c.before.before.before.before n r h run in
+    let t = ended-there c.before.before.before n r h run in
     let ok = section-ends _ t.0 in
-    acting-unsettled run end_atomic (section_ended n) c.if-buffered.trap 0 ok (λ i. effect (section_ended n) (sym (trap-read c.before.before.before.before.before.before.before.before.before.before n r h run) i) 0)
-    (request-sound run end_atomic ok) (omega arith) t.1 c.unsettled.ensures
+    let on : buffered n n.running ≡ c.buffered.result = ap (buffered n) (sym (holds-pieces h).running) ∙ c.buffered.ensures n r h in
+    let told = ap trap_number c.then_some-trap.ensures ∙ trap-by c.buffered.result ∙ ap (λ (t : Bool). cond t atomicity_extend no_trap) (sym on) in
+    request-unsettled run end_atomic (section_ended n) (trap_number c.then_some-trap.result) 0 ok (λ i. effect (section_ended n) (sym told i) 0)
+    (request-sound run end_atomic ok) (omega arith) t.1

@@ -3,7 +3,6 @@ use Prim.Native.Nat.{ℕ}
 use native.Mathlib.Omega.{arith}
 use mathlib.Core.Bool.{false, true}
 use mathlib.Core.Path.{◌∙◌, ◌≡◌, ap, sym, subst}
-use Rattle.rules.specs.Frames.{extended}
 use Rattle.rules.specs.Memory.{count_offset}
 use Rattle.rules.specs.Node.{buffer_holds}
 use Rattle.rules.proofs.Steps.LineLaws.{buffered-holds}

@@ -1,9 +1,9 @@
 -- `node::settling::drain` meets its contract: at each turn the drain goes on at the node that the memory holds. The measure is the queue's count. Assumes nothing.
 use native.Mathlib.Omega.{arith}
-use mathlib.Core.Path.{◌∙◌, refl}
+use mathlib.Core.Path.{◌∙◌}
 use Rattle.rules.specs.Memory.{word}
 use Rattle.memory.proofs.PieceLaws.{holds-pieces}
-use Rattle.node.proofs.settling.PassLaws.{Draining, draining-ends, draining-headed, draining-on, draining-start, moved-count}
+use Rattle.node.proofs.settling.PassLaws.{Draining, draining-ends, draining-headed, draining-on, moved-count}
 use Rattle.node.proofs.settling.drain.Goals as goal
 use Rattle.node.proofs.settling.drain.Lts as lts
 use Rattle.node.proofs.settling.drain.Tie as tie
@@ -21,9 +21,6 @@ draining c = let p = c.requires in c.loop-m.invariant.1 p.node p.rest p.holds p.
 pub bounds-m-2 : goal.bounds-m-2
 bounds-m-2 c = let l = (holds-pieces c.requires.holds).long in omega arith
 
-pub loop-m-init : goal.loop-m-init
-loop-m-init c = (refl, λ n r h s. draining-start h s)
-
 pub bounds-m-2-in-loop-m : goal.bounds-m-2-in-loop-m
 bounds-m-2-in-loop-m c = let d = draining c.before.before in let l = (holds-pieces d.holds).long in omega arith
 
@@ -38,9 +35,6 @@ loop-m-smaller c = let d = draining c.before.before.before.before.before.before.
 pub loop-m-preserved : goal.loop-m-preserved
 unfolding word
 loop-m-preserved c = (c.move_head.auto.m ∙ c.loop-m.invariant.0, λ n r h s. draining-on (c.loop-m.invariant.1 n r h s) c.loop-m-test.true c.move_head.ensures)
-
-pub shape_of-m : goal.shape_of-m
-shape_of-m c = c.loop-m.invariant.0
 
 pub returns : goal.returns
 unfolding word

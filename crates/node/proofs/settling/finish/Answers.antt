@@ -1,7 +1,6 @@
 -- `node::settling::finish` meets its contract: settled, the running group's first page brought in, and then called up. Assumes nothing.
-use native.Mathlib.Omega.{arith}
 use Rattle.node.proofs.settling.CallLaws.{settled-settles}
-use Rattle.node.proofs.settling.FinishLaws.{finished, resident-some, settled-few, settled-resident, settled-some}
+use Rattle.node.proofs.settling.FinishLaws.{finished, resident-some, settled-resident, settled-some}
 use Rattle.node.proofs.settling.finish.Goals as goal
 
 pub runner_resident-requires : goal.runner_resident-requires
@@ -11,12 +10,6 @@ pub upcall-up-requires : goal.upcall-up-requires
 upcall-up-requires c =
     let p = c.requires.some in
     resident-some p.fact (c.settle-settled.ensures p.node p.rest p.holds p.fact) c.runner_resident.ensures
-
-pub overflow_add-moved : goal.overflow_add-moved
-overflow_add-moved c =
-    let s = c.requires in
-    let p = s.some in
-    omega (arith, settled-few p.fact (c.settle-settled.ensures p.node p.rest p.holds p.fact), s.moved_bound)
 
 pub returns : goal.returns
 returns c n r h s =

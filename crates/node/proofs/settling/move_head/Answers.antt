@@ -6,26 +6,16 @@ use mathlib.Core.Path.{◌≡◌}
 use lib.ListN.{length}
 use Rattle.rules.specs.Build.{group_count, paper01}
 use Rattle.rules.specs.Memory.{queue_at, size, word, words_at}
-use Rattle.rules.specs.Node.{Node}
+use Rattle.rules.specs.Node.{Message, Node}
 use Rattle.rules.specs.Paging.{store}
-use Rattle.memory.specs.Holds.{Holds, Kept, Some}
+use Rattle.memory.specs.Holds.{Becomes, Holds, Kept, Some}
 use Rattle.memory.specs.Paging.{Wanting}
+use Rattle.memory.specs.declared.descriptor.Descriptor.{Descriptor as Descriptor·rt}
 use Rattle.memory.proofs.PieceLaws.{holds-pieces}
 use Rattle.memory.proofs.queue.QueueLaws.{message-read}
 use Rattle.node.specs.Steps.{Headed, head_of, moving_head}
 use Rattle.node.proofs.settling.MoveLaws.{head-good-group, head-wanting, stored-queued}
 use Rattle.node.proofs.settling.move_head.Goals as goal
-use Rattle.node.proofs.settling.move_head.Lts as lts
-use Rattle.node.proofs.settling.move_head.Tie as tie
-use Rattle.node.proofs.settling.move_head.Reads as past
-
--- The places of the code that lemmas speak of.
-
-abbrev After-store : Type 0
-After-store = lts.After-store tie.the-claims past.Pre past.Post tie.handed_clauses
-
-abbrev Start : Type 0
-Start = lts.Start tie.the-claims past.Pre past.Post tie.handed_clauses
 
 -- what stands at the head of the queue
 record Read (m : List ℕ) : Type 0 where
@@ -39,9 +29,8 @@ head-kept : {m : List ℕ} {n : Node} {r : List ℕ} → Holds m n r → Headed 
 unfolding head_of
 head-kept h headed = message-read h 0 headed.some
 
-reading : (c : Start) → Read c.args.m.now
-reading c =
-    let p = c.requires in
+reading : {m : List ℕ} → Some m Headed → Read m
+reading {m} p =
     let good = head-good-group p.fact in
     let g = (head-kept p.holds p.fact).0 in
     record {
@@ -51,29 +40,36 @@ reading c =
       some = record { node = p.node; rest = p.rest; holds = p.holds; fact = rw g (head-wanting p.fact) };
     }
 
--- the head is stored, and still in the queue
-stored : (c : After-store) (n : Node) (r : List ℕ) → Holds c.args.m.now n r → Headed n → Holds c.store.new.m (store paper01 (head_of n) n) r
-unfolding word
-stored c n r h headed =
+-- what is read at the head is kept of its message, and so it is stored, and still in the queue
+stored : {m m' : List ℕ} (d : Descriptor·rt) → d ≡ record { len = word m (queue_at + 1); words = words_at m (queue_at + 1 + 1) 8 }
+    → ((x : Message) → Kept (word m queue_at) d.len d.words x → Becomes m m' (Wanting (word m queue_at)) (store paper01 x))
+    → (n : Node) (r : List ℕ) → Holds m n r → Headed n → Holds m' (store paper01 (head_of n) n) r
+stored {m} d e stores n r h headed =
     let k = head-kept h headed in
-    c.store.ensures (head_of n) (rw c.eight-words.ensures k.1) n r h (rw k.0 (head-wanting headed))
+    stores (head_of n) (rw e k.1) n r h (rw k.0 (head-wanting headed))
 
 pub bounds-m-4 : goal.bounds-m-4
-bounds-m-4 c = let t = reading c.before.before.before in omega arith
+bounds-m-4 c = let t = reading c.requires in omega (arith, t.long)
 
-pub bounds-m : goal.bounds-m
-bounds-m c = let t = reading c.before.before.before.before in omega arith
-
-pub eight-words-requires : goal.eight-words-requires
-eight-words-requires c = let t = reading c.before.before.before in omega arith
+pub message-head-requires : goal.message-head-requires
+message-head-requires c = let t = reading c.requires in omega (arith, t.long)
 
 pub store-requires : goal.store-requires
 unfolding word
-store-requires c = let t = reading c.before.before.before.before.before in record { le_g = (t.low, t.high); some = t.some }
+store-requires c = let t = reading c.requires in record { le_g = (t.low, t.high); some = t.some }
 
 pub drop_head-requires : goal.drop_head-requires
-drop_head-requires c = let p = c.requires in record { node = store paper01 (head_of p.node) p.node; rest = p.rest; holds = stored c.before.before.before p.node p.rest p.holds p.fact; fact = stored-queued p.fact }
+unfolding word
+drop_head-requires c =
+    let p = c.requires in
+    record {
+      node = store paper01 (head_of p.node) p.node;
+      rest = p.rest;
+      holds = stored c.message-head.result c.message-head.ensures c.store.ensures p.node p.rest p.holds p.fact;
+      fact = stored-queued p.fact;
+    }
 
 pub returns : goal.returns
-unfolding moving_head
-returns c n r h headed = c.drop_head.ensures (store paper01 (head_of n) n) r (stored c.before.before.before.before.before.before.before n r h headed) (stored-queued headed)
+unfolding moving_head word
+returns c n r h headed =
+    c.drop_head.ensures (store paper01 (head_of n) n) r (stored c.message-head.result c.message-head.ensures c.store.ensures n r h headed) (stored-queued headed)

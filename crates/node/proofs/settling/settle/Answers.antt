@@ -1,12 +1,11 @@
 -- `node::settling::settle` meets its contract: at each turn the pass of the rules goes on at the node that the memory holds. The measure is the queue's count. Assumes nothing.
 use Prim.Native.Nat.{◌≤◌}
 use native.Mathlib.Omega.{arith}
-use mathlib.Core.Path.{◌∙◌, refl}
+use mathlib.Core.Path.{◌∙◌}
 use lib.ListN.{length}
 use Rattle.rules.specs.Memory.{size, word}
-use Rattle.rules.proofs.Steps.FrameLaws.{held}
 use Rattle.memory.proofs.PieceLaws.{holds-pieces}
-use Rattle.node.proofs.settling.PassLaws.{Passing, moved-count, passed-settled, passing-group, passing-headed, passing-on, passing-start, passing-ends, passing-stays}
+use Rattle.node.proofs.settling.PassLaws.{Passing, moved-count, passed-settled, passing-group, passing-headed, passing-on, passing-ends, passing-stays}
 use Rattle.node.proofs.settling.settle.Goals as goal
 use Rattle.node.proofs.settling.settle.Goals.{else-loop-m-test, then-loop-m-test+then-stays}
 use Rattle.node.proofs.settling.settle.Lts as lts
@@ -25,9 +24,6 @@ passing c = let p = c.requires in c.loop-m.invariant.1 p.node p.rest p.holds p.f
 long : (c : At-loop) → size ≤ length c.loop-m.m
 long c = (holds-pieces (passing c).holds).long
 
-pub loop-m-init : goal.loop-m-init
-loop-m-init c = (refl, λ n r h s. passing-start h s)
-
 pub bounds-m-2 : goal.bounds-m-2
 bounds-m-2 c = let l = long c.before.before in omega arith
 
@@ -42,9 +38,6 @@ pub move_head-requires : goal.move_head-requires
 unfolding word
 move_head-requires c = let p = passing c.before.before.before.before.before in record { node = p.node; rest = c.requires.rest; holds = p.holds; fact = passing-headed p c.loop-m-test.true }
 
-pub overflow_add-moved : goal.overflow_add-moved
-overflow_add-moved c = let p = passing c.before.before.before.before.before.before.before.before.before in let q = p.queued in let few = c.requires.fact.queue-length in omega arith
-
 pub loop-m-smaller : goal.loop-m-smaller
 unfolding word
 loop-m-smaller c = let p = passing c.before.before.before.before.before.before.before.before.before in let e = moved-count p.holds (passing-headed p c.loop-m-test.true) c.move_head.ensures in omega arith
@@ -57,12 +50,6 @@ loop-m-preserved c = (
       passing-on (c.loop-m.invariant.1 n r h s) c.loop-m-test.true
       (λ k t held x e. c.stays.ensures k t held x e ∙ c.if-stays.false) c.move_head.ensures,
 )
-
-pub rest_timer-requires : goal.rest_timer-requires
-rest_timer-requires c = let p = passing c.before.before.before in record { node = p.node; rest = c.requires.rest; holds = p.holds; fact = p.sound }
-
-pub shape_of-m : goal.shape_of-m
-shape_of-m c = c.rest_timer.auto.m ∙ c.loop-m.invariant.0
 
 pub returns : goal.returns
 unfolding word

@@ -11,7 +11,7 @@ use Rattle.memory.specs.declared.group.Group.{Group as Group·rt}
 use Rattle.memory.proofs.PieceLaws.{holds-pieces}
 use Rattle.node.proofs.settling.CallLaws.{called-atomic, called-buffered, called-empty, called-nobody, called-queued, runner-high}
 use Rattle.node.proofs.settling.upcall.Goals as goal
-use Rattle.node.proofs.settling.upcall.Goals.{else-x-eq0, then-x-eq0+else-m-eq0}
+use Rattle.node.proofs.settling.upcall.Goals.{else-x-eq0-via-else-x-eq0, else-x-eq0-via-then-x-eq0+else-m-eq0}
 use Rattle.node.proofs.settling.upcall.Lts as lts
 use Rattle.node.proofs.settling.upcall.Tie as tie
 use Rattle.node.proofs.settling.upcall.Reads as past
@@ -66,4 +66,7 @@ returns c n r h s =
     let off = sym (ap (λ (x : Group·rt). x.atomic) read) ∙ c.if-x-ne0.false in
     let count = ap (λ (x : Group·rt). x.count) read in
     let w = c.set_flags.ensures true true refl refl n r h tt in
-    elim c.if-x-eq0.branch [ then-x-eq0+else-m-eq0 v ↦ called-queued h s some off (sym count ∙ v.if-x-eq0.true) v.if-m-eq0.false w | else-x-eq0 v ↦ called-buffered h s some off (λ e. v.if-x-eq0.false (count ∙ e)) w ]
+    elim c.else-x-eq0.branch [
+      | else-x-eq0-via-then-x-eq0+else-m-eq0 v ↦ called-queued h s some off (sym count ∙ v.if-x-eq0.true) v.if-m-eq0.false w
+      | else-x-eq0-via-else-x-eq0 v ↦ called-buffered h s some off (λ e. v.if-x-eq0.false (count ∙ e)) w
+    ]

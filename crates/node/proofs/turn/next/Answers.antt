@@ -1,8 +1,6 @@
 -- `node::turn::next` meets its contract: it computes what `by_bits` says. Assumes nothing.
-use Prim.Native.Nat.{ℕ, ◌*◌, ◌/◌, ◌^◌, ◌≤◌}
+use Prim.Native.Nat.{ℕ}
 use mathlib.Core.Path.{sym, ap}
-use borrow.Author.Rules.{rules}
-use lib.Count.{trailing_le, count_trailing_zeros}
 use Rattle.rules.specs.Turns.{by_bits}
 use Rattle.node.proofs.turn.MailLaws.{bits-some}
 use Rattle.node.proofs.turn.next.Goals as goal
@@ -10,12 +8,6 @@ use Rattle.node.proofs.turn.next.Goals as goal
 pub returns-then-set-eq0 : goal.returns-then-set-eq0
 unfolding by_bits
 returns-then-set-eq0 c = sym (ap (λ (s : ℕ). by_bits s c.args.running) c.if-set-eq0.true)
-
-pub overflow_add-result : goal.overflow_add-result
-overflow_add-result c =
-    let x = c.args.set * 257 / 2 ^ c.args.running in
-    let h : count_trailing_zeros 32 x ≤ 32 = trailing_le 32 x in
-    search (rules, h)
 
 pub returns : goal.returns
 returns c = sym (bits-some c.args.set c.args.running c.if-set-eq0.false)

@@ -1,10 +1,9 @@
 -- `node::turn::turn` meets its contract: the bits name what the search finds, and after a step that changes nothing nothing is due. Assumes
 -- nothing.
 use native.Mathlib.Omega.{arith}
-use mathlib.Core.Path.{ap, ◌∙◌}
+use mathlib.Core.Path.{◌∙◌}
 use Rattle.rules.specs.Memory.{word}
 use Rattle.rules.specs.Turns.{by_bits}
-use Rattle.node.specs.Steps.{done}
 use Rattle.memory.proofs.PieceLaws.{holds-pieces}
 use Rattle.node.proofs.turn.MailLaws.{mail-byte, turn-acts}
 use Rattle.node.proofs.turn.turn.Goals as goal
@@ -22,4 +21,4 @@ pub returns : goal.returns
 unfolding word
 returns c n r h v =
     let set = c.mail_set.ensures n r h v in
-    turn-acts h v (c.next-g.ensures ∙ (λ i. by_bits (set i) ((holds-pieces h).running i))) (c.done.ensures ∙ ap done c.accepted.ensures)
+    turn-acts h v (c.next-g.ensures ∙ (λ i. by_bits (set i) ((holds-pieces h).running i))) c.accepted.ensures

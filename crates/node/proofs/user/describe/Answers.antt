@@ -24,7 +24,7 @@ pub returns-then-d-ge-WORDS : goal.returns-then-d-ge-WORDS
 unfolding word
 returns-then-d-ge-WORDS c n r h runs =
     let e = c.read-d.ensures n r h in
-    describe-full h runs e c.args.w c.if-d-ge-WORDS.true c.refused.ensures
+    describe-full h runs e c.args.w c.if-d-ge-WORDS.true
 
 pub write-requires : goal.write-requires
 unfolding word

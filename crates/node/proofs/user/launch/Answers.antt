@@ -19,14 +19,14 @@ pub returns-then-d-eq0 : goal.returns-then-d-eq0
 unfolding word
 returns-then-d-eq0 c n r h runs =
     let e = c.read-d.ensures n r h in
-    launch-empty h runs e c.args.to c.if-d-eq0.true c.refused.ensures
+    launch-empty h runs e c.args.to c.if-d-eq0.true
 
 pub returns-then-to-gt-LAST_NODE : goal.returns-then-to-gt-LAST_NODE
 unfolding word
 returns-then-to-gt-LAST_NODE c n r h runs =
     let e = c.read-d.ensures n r h in
     let some = c.if-d-eq0.false in
-    launch-far h runs e c.args.to (omega arith) c.if-to-gt-LAST_NODE.true c.refused-then-to-gt-LAST_NODE.ensures
+    launch-far h runs e c.args.to (omega arith) c.if-to-gt-LAST_NODE.true
 
 pub write-requires : goal.write-requires
 unfolding word

@@ -24,14 +24,14 @@ inside c =
 pub returns-then-p-eq0 : goal.returns-then-p-eq0
 returns-then-p-eq0 c n r h runs =
     let e = c.first-p.ensures n r h runs.valid in
-    peek-none h runs e c.args.i c.if-p-eq0.true c.refused.ensures
+    peek-none h runs e c.args.i c.if-p-eq0.true
 
 pub returns-then-p-at : goal.returns-then-p-at
 returns-then-p-at c n r h runs =
     let e = c.first-p.ensures n r h runs.valid in
     let some = c.if-p-eq0.false in
     let past = c.if-p-at.true in
-    peek-past h runs e c.args.i (omega arith) (omega arith) c.refused-then-p-at.ensures
+    peek-past h runs e c.args.i (omega arith) (omega arith)
 
 pub overflow_add-start : goal.overflow_add-start
 overflow_add-start c = let i = inside c.before.before.before.before.before in omega (arith, c.if-p-at.false)

@@ -1,21 +1,17 @@
--- `script::feed::feed` meets its contract: the memory is tested once, and the line number is written once as digits. Assumes nothing.
+-- `script::feed::feed` meets its contract: the memory is tested once, and the counter is made once. Assumes nothing.
 use native.Mathlib.Omega.{arith}
 use mathlib.Core.Path.{◌≡◌, refl}
 use lib.ListN.{length}
 use Rattle.script.specs.Feed.{kept_line}
-use Rattle.script.proofs.write.DecimalLaws.{decimal-length}
-use Rattle.script.proofs.feed.FedLaws.{counts-written, fed-enough, fed-feedable, fed-first, kept-empty, kept-one}
+use Rattle.script.proofs.feed.FedLaws.{fed-enough, fed-feedable, fed-first, kept-empty, kept-one}
 use borrow.Author.Rules.{rules}
 use Rattle.script.proofs.feed.feed.Goals as goal
 
 pub returns-then-lines-input : goal.returns-then-lines-input
 returns-then-lines-input c = record { enough = λ h. absurd (let t = c.if-lines-input.true in omega arith); last-number = λ h. (refl, (refl, refl)) }
 
-pub put_number-len-requires : goal.put_number-len-requires
-put_number-len-requires c = let l = decimal-length 19 c.args.state.lines (let t = c.if-lines-input.false in omega arith) in omega arith
-
 pub feed_lines-requires : goal.feed_lines-requires
-feed_lines-requires c = fed-feedable c.is_node-good.ensures (counts-written c.put_number-len.ensures refl (let t = c.if-lines-input.false in omega arith)) (let t = c.if-lines-input.false in omega arith)
+feed_lines-requires c = fed-feedable c.is_node-good.ensures c.new-counter.ensures (let t = c.if-lines-input.false in omega arith)
 
 pub returns-then-state-eq0 : goal.returns-then-state-eq0
 returns-then-state-eq0 c = fed-enough (let t = c.if-lines-input.false in omega arith) (kept-empty c.args.state c.if-state-eq0.true) (fed-first c.feed_lines.ensures)
@@ -28,9 +24,9 @@ feed_begun-requires c =
     let few = c.if-lines-input.false in
     let k = c.kept_count-count.ensures in
     record {
-      count_le_kept_room = (k.0, search rules);
+      room = (k.0, search rules);
       one_line = kept-one _ k.1;
-      lines_feedable = fed-feedable c.is_node-good.ensures (counts-written c.put_number-len.ensures refl (omega arith)) (omega arith);
+      lines_feedable = fed-feedable c.is_node-good.ensures c.new-counter.ensures (omega arith);
     }
 
 pub returns : goal.returns

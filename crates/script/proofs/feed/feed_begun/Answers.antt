@@ -31,7 +31,7 @@ play_text-p-requires c =
       inside = let g = k.1 in omega arith;
       one = grown-one c.args.input.now c.requires.one_line e (rw z at k.0);
       room = let r = c.if-out-lt-LINE_ROOM.false in omega arith;
-      counting = record { number = c.args.lines; counts = h.counts };
+      counting = record { number = c.args.state.lines; counts = h.counts };
       few = let g = k.1 in let f = h.few in omega arith;
     }
 

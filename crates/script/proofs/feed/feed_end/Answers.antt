@@ -1,6 +1,5 @@
 -- `script::feed::feed_end` meets its contract: a newline is fed, or nothing. Assumes nothing.
 use mathlib.Core.Path.{◌∙◌, sym}
-use borrow.Author.Rules.{rules}
 use borrow.Author.Tests.{not-false, not-true}
 use Rattle.script.proofs.feed.FedLaws.{feeds-newline, feeds-nothing}
 use Rattle.script.proofs.feed.feed_end.Goals as goal

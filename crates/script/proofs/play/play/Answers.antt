@@ -1,9 +1,8 @@
 -- `script::play::play` meets its contract: at each turn the lines so far are played, and the memory is still known to be a node or none. The
 -- measure is what is left of the script. Assumes nothing.
-use Prim.Native.Nat.{◌-◌}
 use native.Mathlib.Omega.{arith}
-use mathlib.Core.Path.{◌∙◌, refl}
-use lib.ListN.{length}
+use mathlib.Core.Path.{◌∙◌, sym, refl}
+use Rattle.script.proofs.play.StopLaws.{all-or-number, all-or-room, room-or-number}
 use Rattle.script.proofs.play.PlayLaws.{playing-start, playing-more, played-forward, played-to}
 use Rattle.script.proofs.play.play.Goals as goal
 
@@ -50,8 +49,8 @@ pub returns-after-loop-p : goal.returns-after-loop-p
 returns-after-loop-p c =
     let l = c.loop-p in
     let q = l.invariant.1.1.1 in
-    played-to l.p q (λ e. let i = q.inside in let f = c.loop-p-test.false in omega arith) (λ e. let z = l.invariant.1.1.0 in omega arith)
-    (let z = l.invariant.1.1.0 in omega arith)
+    played-to l.p q (λ e. let i = q.inside in let f = c.loop-p-test.false in omega arith) (λ e. absurd (all-or-room (sym l.invariant.1.1.0 ∙ e)))
+    (λ e. absurd (all-or-number (sym l.invariant.1.1.0 ∙ e)))
 
 pub shape_of-memory-then-out-p-lt-LINE_ROOM : goal.shape_of-memory-then-out-p-lt-LINE_ROOM
 shape_of-memory-then-out-p-lt-LINE_ROOM c = c.loop-p.invariant.0
@@ -62,4 +61,4 @@ shape_of-out-then-out-p-lt-LINE_ROOM c = c.loop-p.invariant.1.1.1.same_length
 pub returns-then-out-p-lt-LINE_ROOM : goal.returns-then-out-p-lt-LINE_ROOM
 returns-then-out-p-lt-LINE_ROOM c =
     let q = c.loop-p.invariant.1.1.1 in
-    played-to _ q (λ e. omega arith) (λ e. let w = q.within in let t = c.if-out-p-lt-LINE_ROOM.true in omega arith) (omega arith)
+    played-to _ q (λ e. absurd (all-or-room (sym e))) (λ e. let w = q.within in let t = c.if-out-p-lt-LINE_ROOM.true in omega arith) (λ e. room-or-number e)

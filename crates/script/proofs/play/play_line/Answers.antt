@@ -3,7 +3,7 @@ use Rattle.script.proofs.play.PlayLaws.{answered-few, line-played}
 use Rattle.script.proofs.play.play_line.Goals as goal
 
 pub put_line-end-requires : goal.put_line-end-requires
-put_line-end-requires c = record { fact_1 = c.requires.room; fact_2 = record { number = _; counts = c.next-digits_len.ensures _ c.requires.countable.counts }; fact_3 = answered-few _ _ c.step_known-r.ensures }
+put_line-end-requires c = record { room = c.requires.room; counting = record { number = _; counts = c.next.ensures _ c.requires.countable.counts }; words = answered-few _ _ c.step_known-r.ensures }
 
 pub returns : goal.returns
-returns c = line-played c.read_at-l.ensures (rw c.words_of.ensures at c.step_known-r.ensures) c.next-digits_len.ensures c.put_line-end.ensures.0 c.put_line-end.ensures.1
+returns c = line-played c.read_at-l.ensures (rw c.words_of.ensures at c.step_known-r.ensures) c.next.ensures c.put_line-end.ensures.0 c.put_line-end.ensures.1

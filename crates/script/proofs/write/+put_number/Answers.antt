@@ -1,6 +1,6 @@
 -- `script::write::put_number` meets its contract. A number below ten is one digit. Any other is its tenth, which the call writes, and its last
 -- digit behind it. Assumes nothing.
-use Prim.Native.Nat.{ℕ, ◌+◌, ◌%◌, ◌<◌}
+use Prim.Native.Nat.{◌+◌, ◌%◌}
 use native.Mathlib.Omega.{arith}
 use mathlib.Core.Path.{sym}
 use Rattle.script.proofs.write.AppendedLaws.{appended-byte, appended-next, appended-as}

@@ -1,5 +1,4 @@
 -- `script::write::put_header` meets its contract: the text is the header's. Assumes nothing.
-use borrow.Author.Rules.{rules}
 use Rattle.rules.specs.Script.{header}
 use Rattle.script.proofs.write.put_header.Goals as goal
 

@@ -12,14 +12,14 @@ use Rattle.script.proofs.write.put_line.Goals as goal
 
 pub put_report-requires : goal.put_report-requires
 put_report-requires c =
-    let k = c.requires.fact_2 in
-    let w = c.put_counter-number.ensures k.number k.counts in
-    (c.requires.fact_3, omega (arith, c.requires.fact_1, w.same_length, w.end, counts-length k.counts))
+    let k = c.requires.counting in
+    let w = c.put-number.ensures k.number k.counts in
+    (c.requires.words, omega (arith, c.requires.room, w.same_length, w.end, counts-length k.counts))
 
 pub returns : goal.returns
 returns c =
-    let k = c.requires.fact_2 in
-    let number = c.put_counter-number.ensures in
+    let k = c.requires.counting in
+    let number = c.put-number.ensures in
     let w = number k.number k.counts in
     let report = c.put_report.ensures in (
       λ i q h e l. appended-as (appended_then (number i h) report.0) (ap (λ r. decimal i ++ behind_number r) e ∙ line-behind l i),

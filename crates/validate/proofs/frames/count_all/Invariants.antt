@@ -6,7 +6,4 @@ use Rattle.validate.specs.Clauses.{listed}
 use Rattle.validate.proofs.frames.count_all.Given as goal
 
 abbrev pub invariant-loop-l : goal.invariant-loop-l
-invariant-loop-l l = (l.from ≤ l.l) × ((l.l ≤ l.to) × ((l.total ≡ length (listed l.m l.from (l.l - l.from))) × (l.total ≤ 96 * l.l)))
-
-abbrev pub decreases-loop-l : goal.decreases-loop-l
-decreases-loop-l l = l.to - l.l
+invariant-loop-l l = (l.total ≡ length (listed l.m l.from (l.l - l.from))) × (l.total ≤ 96 * l.l)

@@ -1,18 +1,29 @@
 -- `validate::frames::place_waiting` meets its contract: a length of 1 to 8, and the words past it. Assumes nothing.
+use native.Mathlib.Omega.{arith}
+use lib.ListN.{get_or}
+use borrow.Author.Tests.{lt-leb, eq-eqb}
 use Rattle.rules.specs.Memory.{word}
 use Rattle.validate.proofs.frames.PlaceLaws.{place_none, place-over, place-within}
 use Rattle.validate.proofs.frames.place_waiting.Goals as goal
+use Rattle.validate.proofs.frames.place_waiting.Goals.{then-len-ne0, else-len-ne0}
 
-pub returns-then-len-eq0 : goal.returns-then-len-eq0
+pub returns-then-len-le-WORDS : goal.returns-then-len-le-WORDS
 unfolding word
-returns-then-len-eq0 c = let s = c.args in place_none s.m.now s.a c.if-len-eq0.true
-
-pub returns-then-len-gt-WORDS : goal.returns-then-len-gt-WORDS
-unfolding word
-returns-then-len-gt-WORDS c = let s = c.args in place-over s.m.now s.a c.if-len-eq0.false c.if-len-gt-WORDS.true
-
-pub returns : goal.returns
-unfolding word
-returns c =
+returns-then-len-le-WORDS c =
     let s = c.args in
-    place-within s.m.now s.a _ c.if-len-eq0.false c.if-len-gt-WORDS.false c.past_zero.ensures
+    place-within s.m.now s.a _ c.if-len-le-WORDS.true.0 c.if-len-le-WORDS.true.1 c.past_zero.ensures
+
+pub returns-else-len-le-WORDS : goal.returns-else-len-le-WORDS
+unfolding word
+returns-else-len-le-WORDS c =
+    let s = c.args in
+    elim c.if-len-ne0.branch [
+      | then-len-ne0 w ↦
+          let long = lt-leb (get_or s.m.now s.a 0) 8 (omega arith) in
+          let fails = place-over s.m.now s.a w.if-len-ne0.true (omega arith) in
+          cc
+      | else-len-ne0 w ↦
+          let none = eq-eqb (get_or s.m.now s.a 0) 0 w.if-len-ne0.false in
+          let fails = place_none s.m.now s.a w.if-len-ne0.false in
+          cc
+    ]

@@ -1,6 +1,6 @@
 -- `validate::frames::waiting_good` meets its contract: the places from h up to p pass, page by page, and the first page that fails decides.
 -- Assumes nothing.
-use Prim.Native.Nat.{◌+◌, ◌-◌, ◌<◌}
+use Prim.Native.Nat.{◌+◌, ◌<◌}
 use mathlib.Core.Path.{◌∙◌}
 use native.Mathlib.Omega.{arith}
 use Rattle.rules.specs.Memory.{word, group_address, used_offset, count_offset}

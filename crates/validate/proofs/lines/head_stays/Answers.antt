@@ -1,20 +1,17 @@
 -- `validate::lines::head_stays` meets its contract: the timer where the queue is empty, else the head's group, which the queue's clause has found
 -- to be one of the eight: it runs, its buffer holds no message, and it is not revoked. Assumes nothing.
-use mathlib.Core.Path.{◌∙◌}
+use mathlib.Core.Path.{sym, ◌∙◌}
 use native.Mathlib.Omega.{arith}
+use borrow.Author.Tests.{eqb-true, eqb-false, ne_eqb}
 use Rattle.rules.specs.Memory.{word}
-use Rattle.validate.proofs.lines.LineLaws.{head-none, head-other, head-held, head-direct, head-framed}
+use Rattle.validate.proofs.lines.LineLaws.{head-none, head-framed, head-other, head-held, head-direct}
 use Rattle.validate.proofs.lines.head_stays.Goals as goal
+use Rattle.validate.proofs.lines.head_stays.Goals.{then-g-m, else-g-m}
 
 pub returns-then-m-eq0 : goal.returns-then-m-eq0
 unfolding word
 returns-then-m-eq0 c =
     head-none c.args.m.now c.if-m-eq0.true ∙ c.timer_idle.ensures
-
-pub returns-then-g-m : goal.returns-then-g-m
-unfolding word
-returns-then-g-m c =
-    head-other c.args.m.now c.if-m-eq0.false c.if-g-m.true
 
 pub group_word-requires : goal.group_word-requires
 unfolding word
@@ -22,18 +19,30 @@ group_word-requires c =
     let f = head-framed c.args.m.now c.requires c.if-m-eq0.false in
     record { long = f.long; low = f.low; high = f.high; inside = omega arith }
 
-pub returns-then-group_word-gt0 : goal.returns-then-group_word-gt0
+pub group_word-requires-then-group_word-eq0 : goal.group_word-requires-then-group_word-eq0
 unfolding word
-returns-then-group_word-gt0 c =
-    head-held c.args.m.now c.requires c.if-m-eq0.false c.if-g-m.false _ c.group_word.ensures c.if-group_word-gt0.true
-
-pub group_word-requires-2 : goal.group_word-requires-2
-unfolding word
-group_word-requires-2 c =
+group_word-requires-then-group_word-eq0 c =
     let f = head-framed c.args.m.now c.requires c.if-m-eq0.false in
     record { long = f.long; low = f.low; high = f.high; inside = omega arith }
 
-pub returns : goal.returns
+pub returns-then-group_word-eq0 : goal.returns-then-group_word-eq0
 unfolding word
-returns c =
-    head-direct c.args.m.now c.requires c.if-m-eq0.false c.if-g-m.false _ _ c.group_word.ensures c.if-group_word-gt0.false c.group_word-2.ensures
+returns-then-group_word-eq0 c =
+    let m = c.args.m.now in
+    elim c.if-g-m.branch [
+      | then-g-m w ↦
+          let none = eqb-true _ 0 (sym w.value-is ∙ c.if-group_word-eq0.true) in
+          head-direct m c.requires c.if-m-eq0.false w.if-g-m.true _ _ w.group_word.ensures (omega arith) c.group_word-then-group_word-eq0.ensures
+      | else-g-m w ↦ let other = ne_eqb _ _ w.if-g-m.false in cc
+    ]
+
+pub returns-else-group_word-eq0 : goal.returns-else-group_word-eq0
+unfolding word
+returns-else-group_word-eq0 c =
+    let m = c.args.m.now in
+    elim c.if-g-m.branch [
+      | then-g-m w ↦
+          let some = eqb-false _ 0 (sym w.value-is ∙ c.if-group_word-eq0.false) in
+          head-held m c.requires c.if-m-eq0.false w.if-g-m.true _ w.group_word.ensures (omega arith) ∙ sym c.if-group_word-eq0.false
+      | else-g-m w ↦ head-other m c.if-m-eq0.false w.if-g-m.false ∙ sym c.if-group_word-eq0.false
+    ]

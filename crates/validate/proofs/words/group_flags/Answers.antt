@@ -1,20 +1,13 @@
--- `validate::words::group_flags` meets its contract: flags are 0 or 1 and stand only with atomic exactly where none is above atomic, which is at
--- most 1. Assumes nothing.
-use native.Mathlib.Omega.{arith}
-use Rattle.validate.proofs.words.WordLaws.{atomic-over, pending-over, pending-within}
+-- `validate::words::group_flags` meets its contract: it asks the one thing that the clauses on flags come to. Assumes nothing.
+use Rattle.std.proofs.Common.{arith}
+use Rattle.std.proofs.lemmas.Grind.{common_steps}
+use Rattle.validate.proofs.words.WordLaws.{flags_parted}
 use Rattle.validate.proofs.words.group_flags.Goals as goal
-
-pub returns-then-atomic-gt1 : goal.returns-then-atomic-gt1
-returns-then-atomic-gt1 c =
-    let s = c.args in
-    atomic-over s.m.now s.g _ c.group_word-atomic.ensures (omega arith)
 
 pub returns-then-group_word-atomic : goal.returns-then-group_word-atomic
 returns-then-group_word-atomic c =
-    let s = c.args in
-    pending-over s.m.now s.g _ c.group_word-atomic.ensures (omega arith) (omega arith)
+    grind (arith, common_steps, flags_parted c.args.m.now c.args.g c.group_word-atomic.result c.group_word-atomic.ensures)
 
-pub returns : goal.returns
-returns c =
-    let s = c.args in
-    pending-within s.m.now s.g _ c.group_word-atomic.ensures _ (omega arith) (omega arith) c.timer_flags.ensures
+pub returns-else-group_word-atomic : goal.returns-else-group_word-atomic
+returns-else-group_word-atomic c =
+    grind (arith, common_steps, flags_parted c.args.m.now c.args.g c.group_word-atomic.result c.group_word-atomic.ensures)

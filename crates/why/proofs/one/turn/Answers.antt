@@ -1,9 +1,0 @@
--- `why::one::turn` meets its contract. Assumes nothing.
-use Rattle.why.proofs.ReadLaws.{brought-few}
-use Rattle.why.proofs.one.turn.Goals as goal
-
-pub take_in-requires : goal.take_in-requires
-take_in-requires g c = brought-few c.read_some-got.ensures
-
-pub returns : goal.returns
-returns g c e = record { got = _; brought = c.read_some-got.ensures; takes-in = c.take_in.ensures e }

@@ -1,7 +1,7 @@
 // Pages between frames and swap space.
 ghost use Rattle.std.specs.Prelude.{◌≡◌, [], ◌∷◌, ◌+◌, ◌≤◌, ◌<◌, length, SomeIff};
 ghost use Rattle.rules.specs.Build.{paper01, page_count, group_count};
-ghost use Rattle.rules.specs.Memory.{word, group_address, frame_address, running_at, held_offset, list_offset};
+ghost use Rattle.rules.specs.Memory.{word, group_address, frame_address, running_at, held_offset};
 ghost use Rattle.rules.specs.Paging.{traded, more, resident, prepared, runner_resident};
 ghost use Rattle.rules.specs.Sound.{Sound};
 ghost use Rattle.memory.specs.Writes.{Wrote, InGroup};
@@ -79,6 +79,7 @@ pub fn swap_pages(m: &mut [u32], f: u32, p: u32)
 }
 
 // One more, staying at the last number once there.
+#[tactic(auto, unfolding(rules::specs::Paging::more))]
 pub fn more(k: u32) -> u32
     ensures { result ≡ more k }
 {
@@ -94,16 +95,16 @@ pub fn count(m: &mut [u32], at: usize)
     m[at] = k;
 }
 
-// The running group's first page, where a group runs and has one.
-fn runner_page(m: &[u32]) -> Option<u32>
+// The running group, where one runs and has a page.
+fn paged_runner(m: &[u32]) -> Option<u32>
     requires { Some m.now (Sound paper01) }
-    ensures { let g = word m.now running_at in SomeIff result ((1 ≤ g) × (1 ≤ word m.now (group_address g + held_offset))) (word m.now (group_address g + list_offset)) }
+    ensures { let g = word m.now running_at in SomeIff result ((1 ≤ g) × (1 ≤ word m.now (group_address g + held_offset))) g }
 {
     let g = m[map::RUNNING];
     if g == 0 || map::group_word(m, g, map::HELD) == 0 {
         None
     } else {
-        Some(map::group_word(m, g, map::LIST))
+        Some(g)
     }
 }
 
@@ -113,8 +114,8 @@ pub fn victim(m: &[u32]) -> u32
     ensures { Chosen m.now result }
 {
     let first = m[map::ENTERED_AT];
-    match runner_page(m) {
-        Some(page) if page == first => m[map::ENTERED_AT + 1],
+    match paged_runner(m) {
+        Some(g) if map::group_word(m, g, map::LIST) == first => m[map::ENTERED_AT + 1],
         _ => first,
     }
 }
@@ -200,7 +201,8 @@ pub fn runner_resident(m: &mut [u32])
     requires { Some m.old (Sound paper01) }
     ensures { Becomes m.old m.new (Sound paper01) (runner_resident paper01) }
 {
-    if let Some(p) = runner_page(m) {
+    if let Some(g) = paged_runner(m) {
+        let p = map::group_word(m, g, map::LIST);
         resident(m, p);
     }
 }

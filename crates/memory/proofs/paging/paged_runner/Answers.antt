@@ -1,20 +1,20 @@
--- `memory::paging::runner_page` meets its contract: who runs, and the first page of its list, are read. Assumes nothing.
+-- `memory::paging::paged_runner` meets its contract: who runs, and how many pages its list has, are read. Assumes nothing.
 use Prim.Native.Nat.{ℕ, ◌+◌, ◌≤◌}
 use native.Mathlib.Decide.{ℕ_discrete}
 use native.Mathlib.Omega.{arith}
 use mathlib.Core.Bool.{Bool, true, false}
 use mathlib.Core.List.{List}
-use mathlib.Core.Path.{◌≡◌, sym, subst, ◌∙◌}
+use mathlib.Core.Path.{◌≡◌, refl, sym, subst, ◌∙◌}
 use lib.Dec.{eqb}
 use borrow.Author.Tests.{eq-eqb, ne_eqb}
 use Rattle.rules.specs.Memory.{group_address, held_offset, running_at, word}
 use Rattle.memory.proofs.PieceLaws.{holds-pieces}
 use Rattle.memory.proofs.paging.RunnerLaws.{Paged, runner-high}
-use Rattle.memory.proofs.paging.runner_page.Goals as goal
-use Rattle.memory.proofs.paging.runner_page.Goals.{then-g-eq0, else-g-eq0}
-use Rattle.memory.proofs.paging.runner_page.Lts as lts
-use Rattle.memory.proofs.paging.runner_page.Tie as tie
-use Rattle.memory.proofs.paging.runner_page.Reads as past
+use Rattle.memory.proofs.paging.paged_runner.Goals as goal
+use Rattle.memory.proofs.paging.paged_runner.Goals.{then-g-eq0, else-g-eq0}
+use Rattle.memory.proofs.paging.paged_runner.Lts as lts
+use Rattle.memory.proofs.paging.paged_runner.Tie as tie
+use Rattle.memory.proofs.paging.paged_runner.Reads as past
 
 -- what the test says
 abbrev Judged : List ℕ → Bool → Type 0
@@ -54,20 +54,9 @@ group_word-requires c =
       inside = omega arith;
     }
 
-pub group_word-requires-else-group_word-eq0 : goal.group_word-requires-else-group_word-eq0
-unfolding word
-group_word-requires-else-group_word-eq0 c =
-    let paged = subst (Judged c.args.m.now) c.if-group_word-eq0.false (judged c.before.before) in
-    record {
-      long = (holds-pieces c.requires.holds).long;
-      low = paged.0;
-      high = runner-high c.requires.holds c.requires.fact paged.0;
-      inside = omega arith;
-    }
-
 pub returns-then-group_word-eq0 : goal.returns-then-group_word-eq0
 returns-then-group_word-eq0 c = subst (Judged c.args.m.now) c.if-group_word-eq0.true (judged c.before.before)
 
 pub returns-else-group_word-eq0 : goal.returns-else-group_word-eq0
 unfolding word
-returns-else-group_word-eq0 c = (subst (Judged c.args.m.now) c.if-group_word-eq0.false (judged c.before.before.before), c.group_word-else-group_word-eq0.ensures)
+returns-else-group_word-eq0 c = (subst (Judged c.args.m.now) c.if-group_word-eq0.false (judged c.before.before), refl)

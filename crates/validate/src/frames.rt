@@ -7,7 +7,6 @@ ghost use Rattle.rules.specs.MemoryTest.{zero_at, frame_wiped, idle_are_wiped};
 ghost use Rattle.rules.specs.Valid.{is_waiting, frame_numbers, frame_order, stands_once};
 ghost use Rattle.validate.specs.Clauses.{list_start, list_count, list_numbers, listed, pages_once, entered_once, swap_page, waiting_in, waiting_good, used_up_wiped, behind_wiped, places_good, numbers_good, frames_good};
 ghost use Rattle.validate.specs.Known.{Counted, Paged, Framed};
-ghost use Rattle.validate.specs.Masks.{past_masks};
 
 use crate::{GROUPS_END, PAGE_COUNT};
 use memory::Node;
@@ -18,8 +17,25 @@ use memory::map::{
 use memory::paging::page_at;
 use memory::words::zeros;
 
-// How many masks there are: twice a message's words.
-const MASKS: usize = 16;
+// Masks: eight that leave nothing of a word, then eight that leave all of it. The eight from WORDS - len on hide the first len words of a message.
+const PAST: [u32; 16] = [
+    0,
+    0,
+    0,
+    0,
+    0,
+    0,
+    0,
+    0,
+    u32::MAX,
+    u32::MAX,
+    u32::MAX,
+    u32::MAX,
+    u32::MAX,
+    u32::MAX,
+    u32::MAX,
+    u32::MAX,
+];
 
 // The lists of page numbers: the order of entry, the free line, the swap line, then the groups', that of group g being list g + SWAP_LIST.
 // Numbers and no enum, since the walks below go over a run of them.
@@ -175,59 +191,44 @@ fn idle_wiped(m: &[u32]) -> bool
     list_wiped(m, FREE_LIST) && list_wiped(m, SWAP_LIST)
 }
 
-// Masks: eight that leave nothing of a word, then eight that leave all of it. The eight from WORDS - len on hide the first len words of a message.
-// They are made once for all buffers, and lent.
-#[tactic(auto, unfolding(crate::specs::Masks::past_masks))]
-fn past_masks() -> [u32; MASKS]
-    ensures { result ≡ past_masks }
-{
-    let mut masks = [0; MASKS];
-    masks[WORDS..].fill(u32::MAX);
-    masks
-}
-
 // Of the eight words from address a on, those past the first len are 0: the | of all eight is, each under its mask. No branch depends on the
 // length or on a word.
-fn past_zero(m: &[u32], a: usize, len: usize, masks: &[u32; MASKS]) -> bool
+fn past_zero(m: &[u32], a: usize, len: usize) -> bool
     requires a_in_bounds { a + 8 ≤ length m.now }
     requires len_bound { len ≤ 8 }
-    requires masks_value { masks.now ≡ past_masks }
     ensures { zero_at m.now (a + len) (8 - len) ≡ result }
 {
     let mut sum: u32 = 0;
     for j in 0..WORDS {
-        sum |= m[a + j] & masks[WORDS - len + j];
+        sum |= m[a + j] & PAST[WORDS - len + j];
     }
     sum == 0
 }
 
 // A message waits in the place at address a: its length is 1 to 8, and the words past it are 0.
-fn place_waiting(m: &[u32], a: usize, masks: &[u32; MASKS]) -> bool
-    requires place_stride_in_bounds { a + place_stride ≤ length m.now }
-    requires masks_value { masks.now ≡ past_masks }
+fn place_waiting(m: &[u32], a: usize) -> bool
+    requires { a + place_stride ≤ length m.now }
     ensures { is_waiting (place_at m.now a) ≡ result }
 {
     let len = m[a];
-    len != 0 && len <= Node::WORDS && past_zero(m, a + 1, len as usize, masks)
+    len != 0 && len <= Node::WORDS && past_zero(m, a + 1, len as usize)
 }
 
 // The same of place i of page f.
 #[tactic(auto, unfolding(rules::specs::Memory::frame_address, crate::specs::Clauses::waiting_in))]
-fn waiting_in(m: &[u32], f: u32, i: u32, masks: &[u32; MASKS]) -> bool
-    requires size_in_bounds { (size ≤ length m.now) × ((f < page_count paper01) × (i < paper01.per_frame)) }
-    requires masks_value { masks.now ≡ past_masks }
+fn waiting_in(m: &[u32], f: u32, i: u32) -> bool
+    requires { (size ≤ length m.now) × ((f < page_count paper01) × (i < paper01.per_frame)) }
     ensures { waiting_in m.now f i ≡ result }
 {
-    place_waiting(m, place_at(f, i), masks)
+    place_waiting(m, place_at(f, i))
 }
 
 // The same of a page's places from one up to another, which is not looked at.
-fn places_waiting(m: &[u32], f: u32, from: u32, to: u32, masks: &[u32; MASKS]) -> bool
-    requires size_in_bounds { (size ≤ length m.now) × ((f < page_count paper01) × ((from ≤ to) × (to ≤ paper01.per_frame))) }
-    requires masks_value { masks.now ≡ past_masks }
+fn places_waiting(m: &[u32], f: u32, from: u32, to: u32) -> bool
+    requires { (size ≤ length m.now) × ((f < page_count paper01) × ((from ≤ to) × (to ≤ paper01.per_frame))) }
     ensures { all (waiting_in m.now f) (up_from from (to - from)) ≡ result }
 {
-    (from..to).all(|i| waiting_in(m, f, i, masks))
+    (from..to).all(|i| waiting_in(m, f, i))
 }
 
 // Of so many places from a page's first on, how many are the page's.
@@ -239,9 +240,8 @@ fn in_frame(places: u32) -> u32
 
 // "waiting messages' lengths"; "a waiting message's words past its length are 0": of those in the buffer of group g, page by page,
 // so that a page's number is read once and not for each of its places
-fn waiting_good(m: &[u32], g: u32, masks: &[u32; MASKS]) -> bool
-    requires framed { Framed m.now g }
-    requires masks_value { masks.now ≡ past_masks }
+fn waiting_good(m: &[u32], g: u32) -> bool
+    requires { Framed m.now g }
     ensures { waiting_good m.now g ≡ result }
 {
     let used = group_word(m, g, USED);
@@ -252,7 +252,7 @@ fn waiting_good(m: &[u32], g: u32, masks: &[u32; MASKS]) -> bool
         let from = p % Node::PER_FRAME;
         let first = p - from;
         let to = in_frame(end - first);
-        if !places_waiting(m, f, from, to, masks) {
+        if !places_waiting(m, f, from, to) {
             return false;
         }
         p = first + to;
@@ -291,12 +291,11 @@ fn behind_wiped(m: &[u32], g: u32) -> bool
 
 // All places of the buffer of group g: where a message waits, and where none does.
 #[tactic(auto, unfolding(crate::specs::Clauses::places_good))]
-fn places_good(m: &[u32], g: u32, masks: &[u32; MASKS]) -> bool
-    requires framed { Framed m.now g }
-    requires masks_value { masks.now ≡ past_masks }
+fn places_good(m: &[u32], g: u32) -> bool
+    requires { Framed m.now g }
     ensures { places_good m.now g ≡ result }
 {
-    waiting_good(m, g, masks) && used_up_wiped(m, g) && behind_wiped(m, g)
+    waiting_good(m, g) && used_up_wiped(m, g) && behind_wiped(m, g)
 }
 
 // Those of all buffers.
@@ -304,8 +303,7 @@ fn all_places_good(m: &[u32]) -> bool
     requires { (g : ℕ) → 1 ≤ g → g ≤ group_count → Framed m.now g }
     ensures { all (places_good m.now) (up_from 1 group_count) ≡ result }
 {
-    let masks = past_masks();
-    (1..GROUPS_END).all(|g| places_good(m, g, &masks))
+    (1..GROUPS_END).all(|g| places_good(m, g))
 }
 
 // The clauses on the frames and swap pages and on what is in them.

@@ -1,18 +1,19 @@
 // The clauses of "Memory is a node when" on words alone: counts, flags and unused words. Of a group's flags all is asked in one pass.
-ghost use Rattle.std.specs.Prelude.{◌≡◌, ◌&&◌, ◌+◌, ◌≤◌, ◌<◌, leb, length};
+ghost use Rattle.std.specs.Prelude.{◌≡◌, ◌&&◌, ◌+◌, ◌-◌, ◌≤◌, ◌<◌, leb, length};
 ghost use Rattle.rules.specs.Lists.{all, up_from};
 ghost use Rattle.rules.specs.Build.{group_count};
 ghost use Rattle.rules.specs.Memory.{size, word, queued_at, swap_count_at, entered_count_at, force_offset, revoked_offset, group_address};
-ghost use Rattle.rules.specs.MemoryTest.{group_counts, length_in_bounds, counts_in_bounds, queue_unused, free_unused, swap_unused, entered_unused, group_unused, message_unused, unused_are_zero};
+ghost use Rattle.rules.specs.MemoryTest.{group_counts, length_in_bounds, zero_at, counts_in_bounds, queue_unused, group_unused, message_unused, unused_are_zero};
 ghost use Rattle.validate.specs.Clauses.{flags_good};
 ghost use Rattle.validate.specs.Known.{Counted};
 
 use crate::{GROUPS_END, PAGE_COUNT};
 use memory::Node;
+use memory::lines::Line;
 use memory::map::{
-    ATOMIC, DESCRIBED, DESCRIPTOR, ENTERED_AT, ENTERED_COUNT, FORCE, FREE_AT, FREE_COUNT, HELD,
-    LENGTH, LINE, LIST, MESSAGE, PAGES, PENDING, PLACES, QUEUE_AT, QUEUE_STRIDE, QUEUED, REVOKED,
-    SWAP_AT, SWAP_COUNT, SWAP_LINE, WORDS, group_at, group_word, queue_word,
+    ATOMIC, DESCRIBED, DESCRIPTOR, ENTERED_COUNT, FORCE, FREE_COUNT, HELD, LENGTH, LINE, MESSAGE,
+    PAGES, PENDING, PLACES, QUEUE_AT, QUEUE_STRIDE, QUEUED, REVOKED, SWAP_COUNT, SWAP_LINE, WORDS,
+    group_at, group_word, queue_word,
 };
 use memory::words::zeros;
 
@@ -93,6 +94,7 @@ pub fn flags_good(m: &[u32]) -> bool
 }
 
 // "unused places of the queue .. are 0"
+#[tactic(auto, unfolding(rules::specs::Memory::word, rules::specs::MemoryTest::queue_unused))]
 fn queue_unused(m: &[u32]) -> bool
     requires { Counted m.now }
     ensures { queue_unused m.now ≡ result }
@@ -105,31 +107,15 @@ fn queue_unused(m: &[u32]) -> bool
     )
 }
 
-// "unused places of the .. free line .. are 0"
-fn free_unused(m: &[u32]) -> bool
-    requires { Counted m.now }
-    ensures { free_unused m.now ≡ result }
+// Of a line with room for so many numbers: those of the free line, of the swap line, of the order of entry and of a list.
+#[tactic(auto, unfolding(rules::specs::Memory::word))]
+fn line_unused(m: &[u32], line: Line, room: usize) -> bool
+    requires in_bounds { (line.count < length m.now) × (line.first + room ≤ length m.now) }
+    requires count_bound { word m.now line.count ≤ room }
+    ensures { zero_at m.now (line.first + word m.now line.count) (room - word m.now line.count) ≡ result }
 {
-    let free = m[FREE_COUNT] as usize;
-    zeros(m, FREE_AT + free, LINE - free)
-}
-
-// The same of the swap line.
-fn swap_unused(m: &[u32]) -> bool
-    requires { Counted m.now }
-    ensures { swap_unused m.now ≡ result }
-{
-    let swap = m[SWAP_COUNT] as usize;
-    zeros(m, SWAP_AT + swap, SWAP_LINE - swap)
-}
-
-// The order of entry has "its unused places 0".
-fn entered_unused(m: &[u32]) -> bool
-    requires { Counted m.now }
-    ensures { entered_unused m.now ≡ result }
-{
-    let entered = m[ENTERED_COUNT] as usize;
-    zeros(m, ENTERED_AT + entered, LINE - entered)
+    let count = m[line.count] as usize;
+    zeros(m, line.first + count, room - count)
 }
 
 // "unused places of the .. lists, unused descriptor words .. are 0": those of group g
@@ -139,11 +125,9 @@ fn group_unused(m: &[u32], g: u32) -> bool
     requires le_g { (1 ≤ g) × (g ≤ group_count) }
     ensures { group_unused m.now g ≡ result }
 {
-    let held = group_word(m, g, HELD) as usize;
     let described = group_word(m, g, DESCRIBED) as usize;
-    let at = group_at(g);
-    zeros(m, at + LIST + held, PAGES - held)
-        && zeros(m, at + DESCRIPTOR + described, WORDS - described)
+    line_unused(m, Line::list_of(g), PAGES)
+        && zeros(m, group_at(g) + DESCRIPTOR + described, WORDS - described)
 }
 
 // Those of all groups.
@@ -177,15 +161,15 @@ fn messages_unused(m: &[u32]) -> bool
 }
 
 // "unused places of the queue, free line and lists, unused descriptor words and a waiting message's words past its length are 0"
-#[tactic(auto, unfolding(rules::specs::MemoryTest::unused_are_zero))]
+#[tactic(auto, unfolding(rules::specs::MemoryTest::unused_are_zero, rules::specs::MemoryTest::free_unused, rules::specs::MemoryTest::swap_unused, rules::specs::MemoryTest::entered_unused))]
 pub fn unused_are_zero(m: &[u32]) -> bool
     requires { Counted m.now }
     ensures { unused_are_zero m.now ≡ result }
 {
     queue_unused(m)
-        && free_unused(m)
-        && swap_unused(m)
-        && entered_unused(m)
+        && line_unused(m, Line::FREE, LINE)
+        && line_unused(m, Line::SWAP, SWAP_LINE)
+        && line_unused(m, Line::ENTERED, LINE)
         && groups_unused(m)
         && messages_unused(m)
 }

@@ -3,7 +3,7 @@ use Prim.Native.Nat.{ℕ, ◌+◌, ◌-◌, ◌≤◌, ◌<◌}
 use native.Mathlib.Omega.{arith}
 use native.Mathlib.Nat.{eq-zero-or-pos, mod-eq_of_lt}
 use mathlib.Core.Path.{◌≡◌, ◌∙◌}
-use mathlib.Core.List.{List}
+use mathlib.Core.List.{List, ◌++◌}
 use mathlib.Core.Logic.{◌⊎◌, inl, inr}
 use lib.Bits.{bit_and, bit_or, and_mask, and_zero_r, or_zero_r}
 use lib.Dec.{eqb}
@@ -12,9 +12,12 @@ use lib.Seq.{get_or-append-add}
 use Rattle.rules.specs.Memory.{word}
 use Rattle.rules.specs.MemoryTest.{zero_at}
 use Rattle.memory.proofs.words.ZeroLaws.{zero-gathered}
-use Rattle.validate.specs.Masks.{past_masks}
 
--- nothing of a word is left under one of the first eight masks
+-- eight masks that leave nothing of a word, then eight that leave all of it: the eight from 8 - k on hide the first k words and show the others
+unfoldable pub past_masks : List ℕ
+past_masks = replicate 8 0 ++ replicate 8 4294967295
+
+-- nothing of a word is left under one of the first eight
 mask-hides : (w i : ℕ) → i < 8 → bit_and w (get_or past_masks i 0) ≡ 0
 unfolding past_masks
 mask-hides w i h =

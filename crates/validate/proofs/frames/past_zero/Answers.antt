@@ -6,7 +6,7 @@ use native.Mathlib.Omega.{arith}
 use Rattle.std.proofs.Common.{rules}
 use Rattle.rules.specs.Memory.{word}
 use Rattle.memory.proofs.words.ZeroLaws.{zero-none}
-use Rattle.validate.proofs.frames.MaskLaws.{past-gathered}
+use Rattle.validate.proofs.frames.MaskLaws.{past_masks, past-gathered}
 use Rattle.validate.proofs.frames.past_zero.Goals as goal
 
 pub loop-j-init : goal.loop-j-init
@@ -16,8 +16,7 @@ loop-j-init c =
     rw none (zero-none s.m.now (s.a + s.len))
 
 pub loop-j-preserved : goal.loop-j-preserved
-unfolding word
+unfolding word past_masks
 loop-j-preserved c =
     let m = c.args.m.now in
-    rw c.requires.masks_value (past-gathered m c.args.a c.args.len c.loop-j.j c.loop-j.sum (omega arith) (omega arith)
-    (search rules) c.loop-j.invariant)
+    past-gathered m c.args.a c.args.len c.loop-j.j c.loop-j.sum (omega arith) (omega arith) (search rules) c.loop-j.invariant

@@ -4,8 +4,9 @@ use Rattle.rules.specs.Build.{paper01}
 use Rattle.rules.specs.Lists.{is_empty}
 use Rattle.rules.specs.Node.{Message, Node, group_of, with_timer, buffered, forced, line}
 use Rattle.rules.specs.Numbers.{refusal_number, trap_number}
-use Rattle.rules.specs.Operation.{Request, Operation, user, accepted, refused, dispose_extend, no_trap, timeout_trap}
+use Rattle.rules.specs.Operation.{Request, Operation, user, accepted, accepted_with, refused, launch, dispose_extend, no_trap, timeout_trap}
 use Rattle.rules.specs.Paging.{store}
+use Rattle.rules.specs.Refusal.{refuse_request}
 use Rattle.rules.specs.Settling.{may_stay, settle, drain, upcall, upcall_group}
 use Rattle.rules.specs.Step.{Effect, finish, revoke, step, removed}
 use Rattle.rules.specs.Types.{operation_of, report_of}
@@ -18,7 +19,7 @@ use Rattle.rules.specs.declared.Trap.TheVariants.{TimedOut as TrapTimedOut}
 use Rattle.rules.specs.Sound.{Sound}
 use Rattle.memory.specs.Holds.{Holds, Some, blank, dropping}
 use Rattle.node.specs.declared.acted.Act.{Act as Act·rt}
-use Rattle.node.specs.declared.acted.Act.TheVariants.{Done, Settles as Unsettled}
+use Rattle.node.specs.declared.acted.Act.TheVariants.{Done, Sends, Settles as Unsettled}
 
 -- the memory holds a node
 abbrev pub IsNode : List ℕ → Type 0
@@ -42,15 +43,19 @@ pub record Stepping (m' : List ℕ) (n : Node) (rest : List ℕ) (op : Operation
 abbrev pub Steps : List ℕ → List ℕ → Operation → Report·rt → Type 0
 Steps m m' op rep = (n : Node) (r : List ℕ) → Holds m n r → Valid paper01 n → Stepping m' n r op rep
 
--- the step is done, with this report
-abbrev pub done : Report·rt → Act·rt
-done rep = Done rep
+-- the step is done, with this value to report
+abbrev pub done : ℕ → Act·rt
+done value = Done value
 
 -- it is accepted, with this trap and so many messages moved, and settling is to come
 abbrev pub unsettled : Option Trap·rt → ℕ → Act·rt
 unsettled trap moved = Unsettled trap moved
 
--- the report of a step that is refused
+-- the report of a step that is done, with this value
+abbrev pub report_done : ℕ → Report·rt
+report_done value = report_of (accepted_with value no_trap 0 0)
+
+-- that of a step that is refused
 abbrev pub report_refused : Refusal·rt → Report·rt
 report_refused x = report_of (refused (refusal_number x))
 
@@ -71,11 +76,27 @@ pub record Acting (m' : List ℕ) (n : Node) (rest : List ℕ) (op : Operation) 
   pub holds : Holds m' node rest
   pub few : moved ≤ paper01.places
 
--- what an operation has done of its step: it is refused, or has done all, or what comes before settling
+-- a node whose running group's descriptor may be sent to node k
+pub record Launches (k : ℕ) (n : Node) : Type 0 where
+  pub running : Running n
+  pub fine : refuse_request n (launch k) ≡ accepted
+
+-- an L that is accepted, and has changed nothing yet: sent, the descriptor of the node that the memory still holds is the step
+pub record Launching (m' : List ℕ) (n : Node) (rest : List ℕ) (op : Operation) (k : ℕ) : Type 0 where
+  pub asked : op ≡ user (launch k)
+  pub ready : Launches k n
+  pub holds : Holds m' n rest
+
+-- whatever such node m held, this is the step of L to node k
+abbrev pub Launched : List ℕ → List ℕ → ℕ → Report·rt → Type 0
+Launched m m' k rep = (n : Node) (r : List ℕ) → Holds m n r → Launches k n → Stepping m' n r (user (launch k)) rep
+
+-- what an operation has done of its step: it is refused, or has done all, or what comes before settling, or before what is sent
 abbrev pub Acted : List ℕ → Node → List ℕ → Operation → Result Act·rt Refusal·rt → Type 0
 Acted m' n rest op (Err x) = Stepping m' n rest op (report_refused x)
-Acted m' n rest op (Ok (Done rep)) = Stepping m' n rest op rep
+Acted m' n rest op (Ok (Done value)) = Stepping m' n rest op (report_done value)
 Acted m' n rest op (Ok (Unsettled trap moved)) = Acting m' n rest op (trap_number trap) moved
+Acted m' n rest op (Ok (Sends k)) = Launching m' n rest op k
 
 -- whatever node m held, this is what the operation has done
 abbrev pub Acts : List ℕ → List ℕ → Operation → Result Act·rt Refusal·rt → Type 0
@@ -85,13 +106,13 @@ Acts m m' op a = (n : Node) (r : List ℕ) → Holds m n r → Valid paper01 n �
 abbrev pub ActsFor : List ℕ → List ℕ → Request → Result Act·rt Refusal·rt → Type 0
 ActsFor m m' q a = (n : Node) (r : List ℕ) → Holds m n r → Running n → Acted m' n r (user q) a
 
--- what one that is done at once reports: its own report, or that it is refused
-abbrev pub reported_as : Result Report·rt Refusal·rt → Report·rt
-reported_as (Ok rep) = rep
+-- what one that is done at once reports: its value, or that it is refused
+abbrev pub reported_as : Result ℕ Refusal·rt → Report·rt
+reported_as (Ok value) = report_done value
 reported_as (Err x) = report_refused x
 
 -- one that is done at once
-abbrev pub Serves : List ℕ → List ℕ → Request → Result Report·rt Refusal·rt → Type 0
+abbrev pub Serves : List ℕ → List ℕ → Request → Result ℕ Refusal·rt → Type 0
 Serves m m' q a = (n : Node) (r : List ℕ) → Holds m n r → Running n → Stepping m' n r (user q) (reported_as a)
 
 -- a request by its Rattle name, whoever runs

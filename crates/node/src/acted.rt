@@ -1,24 +1,24 @@
-// What an accepted operation has done of its step. So one place settles after all of them.
+// What an accepted operation has done of its step. So one place settles after all of them, and one makes the report.
 ghost use Rattle.std.specs.Prelude.{◌≡◌};
-ghost use Rattle.rules.specs.Operation.{accepted_with};
-ghost use Rattle.rules.specs.Types.{report_of};
 ghost use Rattle.node.specs.Steps.{done};
 
-use rules::{Report, Trap};
+use rules::Trap;
 
 #[derive(Clone, Copy)]
 pub enum Act {
-    // All of it, with this report.
-    Done(Report),
+    // All of it, with this value to report.
+    Done(u32),
     // What comes before settling, with the trap that it brings, and so many messages moved.
     Settles { trap: Option<Trap>, moved: u32 },
+    // Nothing yet: the running group's descriptor is to be sent to this node.
+    Sends(u32),
 }
 
 impl Act {
     // There is nothing to do.
     pub fn accepted() -> Act
-        ensures { result ≡ done (report_of (accepted_with 0 0 0 0)) }
+        ensures { result ≡ done 0 }
     {
-        Act::Done(Report::accepted(0, 0, 0, 0))
+        Act::Done(0)
     }
 }

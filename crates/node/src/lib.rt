@@ -90,12 +90,13 @@ pub fn step_node(memory: &mut [u32], op: Operation, words: &[u32]) -> Report
     ensures { Steps memory.old memory.new (operation_of op words.now) result }
 {
     match act(memory, op, words) {
-        Ok(Act::Done(report)) => report,
+        Ok(Act::Done(value)) => Report::accepted(value, 0, 0, 0),
         Ok(Act::Settles { trap, moved }) => settling::finish(
             memory,
             trap.map_or(0, |trap| trap as u32),
             moved,
         ),
+        Ok(Act::Sends(to)) => user::send(memory, to),
         Err(refusal) => refusal.into(),
     }
 }
@@ -129,10 +130,13 @@ fn request(memory: &mut [u32], op: Operation) -> Result<Act, Refusal>
         Operation::Poll => Ok(Act::Done(user::poll(memory))),
         Operation::Peek(i) => Ok(Act::Done(user::peek(memory, i)?)),
         Operation::Dispose => section::dispose(memory),
-        Operation::BeginAtomic(force) => Ok(Act::Done(section::begin(memory, force))),
+        Operation::BeginAtomic(force) => {
+            section::begin(memory, force);
+            Ok(Act::accepted())
+        }
         Operation::EndAtomic => section::end(memory),
         Operation::Describe(w) => Ok(Act::Done(user::describe(memory, w)?)),
-        Operation::Launch(k) => Ok(Act::Done(user::launch(memory, k)?)),
+        Operation::Launch(k) => user::launch(memory, k),
         _ => Err(Refusal::Unreadable),
     }
 }

@@ -7,19 +7,18 @@ ghost use Rattle.node.specs.Steps.{IsRunning, Serves, ActsFor, WithLine, TookFir
 
 use super::acted::Act;
 use memory::{buffer, group, map, queue};
-use rules::{Refusal, Report, Trap};
+use rules::{Refusal, Trap};
 
 // B: atomic on, and force too if it is so asked.
-pub fn begin(m: &mut [u32], force: bool) -> Report
+pub fn begin(m: &mut [u32], force: bool)
     requires { IsRunning m.old }
-    ensures { Serves m.old m.new (begin_atomic force) (Ok result) }
+    ensures { Serves m.old m.new (begin_atomic force) (Ok 0) }
 {
     let g = m[map::RUNNING];
     let x = group::read(m, g);
     let forced = if force { 1 } else { x.force };
     group::set_flags(m, g, 1, x.pending);
     group::set_timer_flags(m, g, forced, x.revoked);
-    Report::accepted(0, 0, 0, 0)
 }
 
 // N: atomic off, and with it force and revoked.

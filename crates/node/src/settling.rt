@@ -81,7 +81,7 @@ pub fn drain(m: &mut [u32]) -> u32
     ensures { (n : Node) (r : List ℕ) → Holds m.old n r → Sound paper01 n → Drained m.new n r result }
 {
     let moved = m[map::QUEUED];
-    while m[map::QUEUED] > 0 {
+    for _ in 0..moved {
         move_head(m);
     }
     moved

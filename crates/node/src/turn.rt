@@ -12,7 +12,6 @@ ghost use Rattle.node.specs.Steps.{IsNode, Acts};
 use super::acted::Act;
 use super::network;
 use memory::{group, map};
-use rules::Report;
 
 // Whether group g has mail: its buffer holds a message, or one of its messages is queued.
 pub fn mail(m: &[u32], g: u32) -> bool
@@ -57,5 +56,5 @@ pub fn turn(m: &[u32]) -> Act
     ensures { Acts m.now m.now turn (Ok result) }
 {
     let g = next(mail_set(m), m[map::RUNNING]);
-    Act::Done(Report::accepted(g, 0, 0, 0))
+    Act::Done(g)
 }

@@ -1,28 +1,30 @@
 // The operations of the running group that neither take a message nor touch its flags: M and E read its first message, P and L its
 // descriptor. Nothing settles after them, and no upcall is due.
-ghost use Rattle.std.specs.Prelude.{List, ◌≡◌, ℕ};
+ghost use Rattle.std.specs.Prelude.{List, ◌≡◌, ℕ, Ok};
 ghost use Rattle.rules.specs.Operation.{poll, peek, describe, launch};
 ghost use Rattle.rules.specs.Types.{report_of};
 ghost use Rattle.memory.specs.Descriptors.{descriptor_of};
+ghost use Rattle.memory.specs.Holds.{Some};
 ghost use Rattle.node.specs.Sending.{sending};
-ghost use Rattle.node.specs.Steps.{IsRunning, Serves};
+ghost use Rattle.node.specs.Steps.{IsRunning, ActsFor, Launched, Launches, Serves};
 
+use super::acted::Act;
 use super::message;
 use memory::descriptor::Descriptor;
 use memory::{Node, descriptor, map};
 use rules::{Refusal, Report, Sent};
 
 // M: how many words the running group's first message has.
-pub fn poll(m: &[u32]) -> Report
+pub fn poll(m: &[u32]) -> u32
     requires { IsRunning m.now }
     ensures { Serves m.now m.now poll (Ok result) }
 {
     let p = message::first(m);
-    Report::accepted(p.len as u32, 0, 0, 0)
+    p.len as u32
 }
 
 // E: word i of that message, read where it stands.
-pub fn peek(m: &[u32], i: u32) -> Result<Report, Refusal>
+pub fn peek(m: &[u32], i: u32) -> Result<u32, Refusal>
     requires { IsRunning m.now }
     ensures { Serves m.now m.now (peek i) result }
 {
@@ -35,11 +37,11 @@ pub fn peek(m: &[u32], i: u32) -> Result<Report, Refusal>
         return Err(Refusal::PastMessage);
     }
     let start = p.start;
-    Ok(Report::accepted(m[start + at], 0, 0, 0))
+    Ok(m[start + at])
 }
 
 // P: a word joins the running group's descriptor.
-pub fn describe(m: &mut [u32], w: u32) -> Result<Report, Refusal>
+pub fn describe(m: &mut [u32], w: u32) -> Result<u32, Refusal>
     requires { IsRunning m.old }
     ensures { Serves m.old m.new (describe w) result }
 {
@@ -50,7 +52,22 @@ pub fn describe(m: &mut [u32], w: u32) -> Result<Report, Refusal>
     }
     let next = d.described(w);
     descriptor::write(m, g, next);
-    Ok(Report::accepted(next.len, 0, 0, 0))
+    Ok(next.len)
+}
+
+// L: whether the running group's descriptor may be sent to this node.
+pub fn launch(m: &[u32], to: u32) -> Result<Act, Refusal>
+    requires { IsRunning m.now }
+    ensures { ActsFor m.now m.now (launch to) result }
+{
+    let d = descriptor::read(m, m[map::RUNNING]);
+    if d.len == 0 {
+        return Err(Refusal::DescriptorEmpty);
+    }
+    if Node::LAST_NODE < to {
+        return Err(Refusal::BadNode);
+    }
+    Ok(Act::Sends(to))
 }
 
 // What is reported of a descriptor that group g sends.
@@ -74,19 +91,13 @@ fn sent(to: u32, g: u32, d: Descriptor) -> Report
     }
 }
 
-// L: the running group's descriptor is sent, and emptied.
-pub fn launch(m: &mut [u32], to: u32) -> Result<Report, Refusal>
-    requires { IsRunning m.old }
-    ensures { Serves m.old m.new (launch to) result }
+// L, once it is accepted: the running group's descriptor is sent, and emptied.
+pub fn send(m: &mut [u32], to: u32) -> Report
+    requires { Some m.old (Launches to) }
+    ensures { Launched m.old m.new to result }
 {
     let g = m[map::RUNNING];
     let d = descriptor::read(m, g);
-    if d.len == 0 {
-        return Err(Refusal::DescriptorEmpty);
-    }
-    if Node::LAST_NODE < to {
-        return Err(Refusal::BadNode);
-    }
     descriptor::write(m, g, d.launched());
-    Ok(sent(to, g, d))
+    sent(to, g, d)
 }

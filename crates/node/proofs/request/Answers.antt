@@ -77,7 +77,7 @@ returns-in-Dispose c q e n r h v = rw (← asked c.args.op _ q c.in-Dispose.is e
 
 pub returns-in-BeginAtomic : goal.returns-in-BeginAtomic
 unfolding word operation_of
-returns-in-BeginAtomic c q e n r h v = rw (← asked c.args.op _ q c.in-BeginAtomic.is e) (c.begin.ensures n r h (somebody-runs h c.if-memory-eq0.false v))
+returns-in-BeginAtomic c q e n r h v = rw (c.accepted.ensures, ← asked c.args.op _ q c.in-BeginAtomic.is e) (c.begin.ensures n r h (somebody-runs h c.if-memory-eq0.false v))
 
 pub returns-in-EndAtomic : goal.returns-in-EndAtomic
 unfolding word operation_of
@@ -92,14 +92,9 @@ unfolding word operation_of
 returns-in_err-describe-in-Describe c q e n r h v =
     rw (← asked c.args.op _ q c.in-Describe.is e, handed-on c.from_residual-in_err-describe-in-Describe.result c.from_residual-in_err-describe-in-Describe.ensures.1) (c.in_err-describe-in-Describe.ensures n r h (somebody-runs h c.if-memory-eq0.false v))
 
-pub returns-in_ok-launch-in-Launch : goal.returns-in_ok-launch-in-Launch
+pub returns-in-Launch : goal.returns-in-Launch
 unfolding word operation_of
-returns-in_ok-launch-in-Launch c q e n r h v = rw (← asked c.args.op _ q c.in-Launch.is e) (c.in_ok-launch-in-Launch.ensures n r h (somebody-runs h c.if-memory-eq0.false v))
-
-pub returns-in_err-launch-in-Launch : goal.returns-in_err-launch-in-Launch
-unfolding word operation_of
-returns-in_err-launch-in-Launch c q e n r h v =
-    rw (← asked c.args.op _ q c.in-Launch.is e, handed-on c.from_residual-in_err-launch-in-Launch.result c.from_residual-in_err-launch-in-Launch.ensures.1) (c.in_err-launch-in-Launch.ensures n r h (somebody-runs h c.if-memory-eq0.false v))
+returns-in-Launch c q e n r h v = rw (← asked c.args.op _ q c.in-Launch.is e) (c.launch.ensures n r h (somebody-runs h c.if-memory-eq0.false v))
 
 pub returns-in_default : goal.returns-in_default
 returns-in_default c q e n r h v = absurd (not-request c.args.op c.in_default.in_default-own.keys8 q e)

@@ -13,6 +13,14 @@ numbered : (t : Option Trap·rt) {k : ℕ} {P : Trap·rt → Type 0} → ((x : T
 numbered None read e = sym e
 numbered (Some x) read e = sym (read x e)
 
+pub returns-in-Ok-Done : goal.returns-in-Ok-Done
+returns-in-Ok-Done c n r h v = rw c.accepted.ensures (rw c.in-Ok-Done.field-0-is at (c.in-Ok-Done.ensures n r h v))
+
+pub returns-in-Ok-Sends : goal.returns-in-Ok-Sends
+returns-in-Ok-Sends c n r h v =
+    let a = rw c.in-Ok-Sends.field-0-is at (c.in-Ok-Sends.ensures n r h v) in
+    rw a.asked (c.send.ensures n r a.holds a.ready)
+
 pub returns-in-Ok-Settles : goal.returns-in-Ok-Settles
 returns-in-Ok-Settles c n r h v =
     let a = rw c.in-Ok-Settles.field-0-is at (c.in-Ok-Settles.ensures n r h v) in

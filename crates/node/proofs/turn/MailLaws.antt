@@ -26,7 +26,6 @@ use Rattle.rules.proofs.Steps.LineLaws.{direct-line, line-buffered}
 use Rattle.rules.proofs.Steps.QuietLaws.{valid-quiet}
 use Rattle.rules.proofs.Steps.SoundLaws.{valid-sound}
 use Rattle.rules.proofs.Demands.TurnsLaws.{turns}
-use Rattle.rules.specs.declared.Report.{Report as Report·rt}
 use Rattle.std.specs.Prelude.{Ok}
 use Rattle.node.specs.Steps.{Acted, done}
 use Rattle.node.proofs.StepMap.{one-act, stepping-quiet}
@@ -78,9 +77,9 @@ bits-some zero r some = absurd (some refl)
 bits-some (suc s) r some = refl
 
 -- C names the group that the bits name, and nothing is due after it
-pub turn-acts : {m : List ℕ} {n : Node} {r : List ℕ} {rep : Report·rt} {g : ℕ} → Holds m n r → Valid paper01 n → g ≡ by_bits (mail_set n) n.running
-    → rep ≡ report_of (accepted_with g no_trap 0 0) → Acted m n r turn (Ok (done rep))
+pub turn-acts : {m : List ℕ} {n : Node} {r : List ℕ} {g : ℕ} → Holds m n r → Valid paper01 n → g ≡ by_bits (mail_set n) n.running
+    → Acted m n r turn (Ok (done g))
 unfolding refusal act valued
-turn-acts {n = n} h v named told =
+turn-acts {n = n} h v named =
     stepping-quiet turn (valued (whose_turn n) n) (one-act n turn tt refl refl) (valid-quiet v) h
-    (told ∙ ap (λ (g : ℕ). report_of (accepted_with g no_trap 0 0)) (named ∙ turns.by-bits n v.running-bound))
+    (ap (λ (g : ℕ). report_of (accepted_with g no_trap 0 0)) (named ∙ turns.by-bits n v.running-bound))

@@ -2,21 +2,20 @@
 -- word of it. Both leave the node as it was. Assumes nothing.
 use Prim.Native.Nat.{ℕ, ◌+◌, ◌≤◌, ◌<◌}
 use mathlib.Core.List.{List}
-use mathlib.Core.Path.{◌≡◌, ◌∙◌, ap, refl, subst, sym}
+use mathlib.Core.Path.{◌≡◌, ap, refl, subst, sym}
 use lib.ListN.{length}
 use Rattle.rules.specs.Build.{word_limit}
 use Rattle.rules.specs.Memory.{word}
 use Rattle.rules.specs.MemoryTest.{runner_part}
 use Rattle.rules.specs.Node.{Node, line}
-use Rattle.rules.specs.Operation.{accepted_with, no_message, past_message, peek, poll, refused, user}
+use Rattle.rules.specs.Operation.{no_message, past_message, peek, poll, refused, user}
 use Rattle.rules.specs.Refusal.{refuse_request}
 use Rattle.rules.specs.Step.{serve, valued}
 use Rattle.rules.specs.Types.{report_of}
-use Rattle.rules.specs.declared.Report.{Report as Report·rt}
 use Rattle.rules.proofs.Map.ShownLaws.{Shows, shown-length, shown-none, shown-past, shown-below, shown-word}
 use Rattle.memory.specs.Holds.{Holds}
 use Rattle.node.specs.Parts.{part_of, shown_by}
-use Rattle.node.specs.Steps.{Running, Stepping}
+use Rattle.node.specs.Steps.{Running, Stepping, report_done}
 use Rattle.node.specs.declared.message.Part.{Part as Part·rt}
 use Rattle.node.proofs.message.HeadLaws.{part-shows}
 use Rattle.rules.proofs.Steps.QuietLaws.{valid-quiet}
@@ -32,10 +31,10 @@ module _ {m : List ℕ} {n : Node} {r : List ℕ} {p : Part·rt} (h : Holds m n 
   first-inside = (shown.inside, shown.few)
 
   -- M
-  pub poll-serves : {rep : Report·rt} → rep ≡ report_of (accepted_with p.len 0 0 0) → Stepping m n r (user poll) rep
+  pub poll-serves : Stepping m n r (user poll) (report_done p.len)
   unfolding refuse_request serve valued own_report
-  poll-serves report =
-      request-quiet runs poll refl (valid-quiet runs.valid) (report ∙ ap (λ (x : ℕ). report_of (accepted_with x 0 0 0)) (sym (shown-length shown))) h
+  poll-serves =
+      request-quiet runs poll refl (valid-quiet runs.valid) (ap report_done (sym (shown-length shown))) h
 
   -- E with an empty line
   pub peek-none : (i : ℕ) → p.len ≡ 0 → Stepping m n r (user (peek i)) (report_of (refused no_message))
@@ -48,8 +47,8 @@ module _ {m : List ℕ} {n : Node} {r : List ℕ} {p : Part·rt} (h : Holds m n 
   peek-past i some past = request-refused runs (peek i) h 8 (shown-past shown i some past)
 
   -- E within it
-  pub peek-there : {rep : Report·rt} (i : ℕ) → i < p.len → rep ≡ report_of (accepted_with (word m (p.start + i)) 0 0 0) → Stepping m n r (user (peek i)) rep
+  pub peek-there : (i : ℕ) → i < p.len → Stepping m n r (user (peek i)) (report_done (word m (p.start + i)))
   unfolding refuse_request serve valued own_report
-  peek-there i below report =
+  peek-there i below =
       request-quiet runs (peek i) (shown-below shown i below) (valid-quiet runs.valid)
-      (report ∙ ap (λ (x : ℕ). report_of (accepted_with x 0 0 0)) (sym (shown-word shown i below))) h
+      (ap report_done (sym (shown-word shown i below))) h

@@ -9,7 +9,7 @@ use borrow.Author.Tests.{le-leb, le-ltb, lt-leb, lt-ltb}
 use Rattle.rules.specs.Build.{last_node, word_limit, group_count}
 use Rattle.rules.specs.Memory.{running_at, size, word}
 use Rattle.rules.specs.Node.{Node, group_of}
-use Rattle.rules.specs.Operation.{accepted, accepted_with, bad_node, describe, descriptor_empty, descriptor_full, launch, refused, user}
+use Rattle.rules.specs.Operation.{accepted, bad_node, describe, descriptor_empty, descriptor_full, launch, refused, user}
 use Rattle.rules.specs.Refusal.{refuse_describe, refuse_launch, refuse_request}
 use Rattle.rules.specs.Step.{described, launched, serve, valued}
 use Rattle.rules.specs.Types.{report_of}
@@ -19,7 +19,7 @@ use Rattle.memory.specs.Holds.{Holds}
 use Rattle.memory.specs.declared.descriptor.Descriptor.{Descriptor as Descriptor·rt}
 use Rattle.memory.proofs.PieceLaws.{holds-pieces}
 use Rattle.node.specs.Sending.{sending}
-use Rattle.node.specs.Steps.{Running, Stepping}
+use Rattle.node.specs.Steps.{Launches, Running, Stepping, report_done}
 use Rattle.rules.proofs.Steps.QuietLaws.{described-quiet}
 use Rattle.node.proofs.ServedLaws.{own_report, request-quiet, request-refused}
 
@@ -65,13 +65,13 @@ module _ {m : List ℕ} {n : Node} {r : List ℕ} {x : Descriptor·rt} (h : Hold
       request-refused runs (describe w) h 10 (rw (le-leb word_limit (length d) (rw len at full)))
 
   -- P with fewer
-  pub describe-serves : {m' : List ℕ} {rep : Report·rt} (w : ℕ) → x.len < word_limit → Holds m' (redescribed (word m running_at) ((group_of n (word m running_at)).descriptor ++ (w ∷ [])) n) r
-      → rep ≡ report_of (accepted_with (length ((group_of n (word m running_at)).descriptor ++ (w ∷ []))) 0 0 0) → Stepping m' n r (user (describe w)) rep
+  pub describe-serves : {m' : List ℕ} {k : ℕ} (w : ℕ) → x.len < word_limit → Holds m' (redescribed (word m running_at) ((group_of n (word m running_at)).descriptor ++ (w ∷ [])) n) r
+      → k ≡ length ((group_of n (word m running_at)).descriptor ++ (w ∷ [])) → Stepping m' n r (user (describe w)) (report_done k)
   unfolding refuse_request refuse_describe serve valued own_report described redescribed
-  describe-serves w few held report =
+  describe-serves w few held long =
       let d = (group_of n n.running).descriptor in
       request-quiet runs (describe w) (rw (lt-leb word_limit (length d) (rw len at few))) (described-quiet runs.valid (d ++ (w ∷ [])))
-      (rw own at report) (rw own at held)
+      (ap report_done (rw own at long)) (rw own at held)
 
   -- L without a word
   pub launch-empty : (k : ℕ) → x.len ≡ 0 → Stepping m n r (user (launch k)) (report_of (refused descriptor_empty))
@@ -85,10 +85,16 @@ module _ {m : List ℕ} {n : Node} {r : List ℕ} {x : Descriptor·rt} (h : Hold
   launch-far k some above =
       request-refused runs (launch k) h 12 (launch-above (group_of n n.running).descriptor k (rw len at some) above)
 
-  -- L
-  pub launch-serves : {m' : List ℕ} {rep : Report·rt} (k : ℕ) → 1 ≤ x.len → k ≤ last_node → Holds m' (redescribed (word m running_at) [] n) r
-      → rep ≡ report_of (sending k (word m running_at) (group_of n (word m running_at)).descriptor) → Stepping m' n r (user (launch k)) rep
-  unfolding refuse_request serve launched own_report described redescribed
-  launch-serves k some good held report =
-      request-quiet runs (launch k) (launch-good (group_of n n.running).descriptor k (rw len at some) good) (described-quiet runs.valid [])
-      (rw own at report) (rw own at held)
+  -- an accepted L
+  pub launch-ready : (k : ℕ) → 1 ≤ x.len → k ≤ last_node → Launches k n
+  unfolding refuse_request
+  launch-ready k some good = record { running = runs; fine = launch-good (group_of n n.running).descriptor k (rw len at some) good }
+
+-- L
+pub launch-serves : {m m' : List ℕ} {n : Node} {r : List ℕ} {rep : Report·rt} (h : Holds m n r) (k : ℕ) → Launches k n
+    → Holds m' (redescribed (word m running_at) [] n) r → rep ≡ report_of (sending k (word m running_at) (group_of n (word m running_at)).descriptor)
+    → Stepping m' n r (user (launch k)) rep
+unfolding serve launched own_report described redescribed
+launch-serves h k ready held report =
+    let own = (holds-pieces h).running in
+    request-quiet ready.running (launch k) ready.fine (described-quiet ready.running.valid []) (rw own at report) (rw own at held)

@@ -72,4 +72,4 @@ pub returns : goal.returns
 unfolding serve valued refuse_request own_report
 returns c n r h run =
     let force = c.args.force in
-    request-quiet run (begin_atomic force) refl (begun-quiet run.valid force) c.accepted.ensures (begun-there c.before.before.before.before n r h run)
+    request-quiet run (begin_atomic force) refl (begun-quiet run.valid force) refl (begun-there c.before.before.before n r h run)

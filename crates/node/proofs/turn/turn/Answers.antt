@@ -21,4 +21,4 @@ pub returns : goal.returns
 unfolding word
 returns c n r h v =
     let set = c.mail_set.ensures n r h v in
-    turn-acts h v (c.next-g.ensures ∙ (λ i. by_bits (set i) ((holds-pieces h).running i))) c.accepted.ensures
+    turn-acts h v (c.next-g.ensures ∙ (λ i. by_bits (set i) ((holds-pieces h).running i)))

@@ -40,4 +40,4 @@ returns c n r h runs =
     let few : length (d ++ (c.args.w ∷ [])) ≤ word_limit = omega (arith, length-append d (c.args.w ∷ [])) in
     let next = c.described-next.ensures d e in
     let held = c.write.ensures (d ++ (c.args.w ∷ [])) few next n r h tt in
-    describe-serves h runs e c.args.w (omega arith) held (rw next at c.accepted.ensures)
+    describe-serves h runs e c.args.w (omega arith) held (ap (λ (x : Descriptor·rt). x.len) next)

@@ -33,8 +33,8 @@ returns-then-p-at c n r h runs =
     let past = c.if-p-at.true in
     peek-past h runs e c.args.i (omega arith) (omega arith)
 
-pub overflow_add-start : goal.overflow_add-start
-overflow_add-start c = let i = inside c.before.before.before.before.before in omega (arith, c.if-p-at.false)
+pub overflow_add-result : goal.overflow_add-result
+overflow_add-result c = let i = inside c.before.before.before.before.before in omega (arith, c.if-p-at.false)
 
 pub offset_bounds-m-start : goal.offset_bounds-m-start
 offset_bounds-m-start c = let i = inside c.before.before.before.before.before in omega (arith, c.if-p-at.false)
@@ -47,4 +47,4 @@ unfolding word
 returns c n r h runs =
     let e = c.first-p.ensures n r h runs.valid in
     let below = c.if-p-at.false in
-    peek-there h runs e c.args.i (omega arith) c.accepted.ensures
+    peek-there h runs e c.args.i (omega arith)

@@ -4,11 +4,11 @@ use native.Mathlib.Omega.{arith}
 use Rattle.node.proofs.user.PeekLaws.{first-inside, poll-serves}
 use Rattle.node.proofs.user.poll.Goals as goal
 
-pub overflow_cast-p : goal.overflow_cast-p
-overflow_cast-p c =
+pub overflow_cast-result : goal.overflow_cast-result
+overflow_cast-result c =
     let p = c.requires in
     let few = (first-inside p.holds p.fact (c.first-p.ensures p.node p.rest p.holds p.fact.valid)).1 in
     omega arith
 
 pub returns : goal.returns
-returns c n r h runs = poll-serves h runs (c.first-p.ensures n r h runs.valid) c.accepted.ensures
+returns c n r h runs = poll-serves h runs (c.first-p.ensures n r h runs.valid)

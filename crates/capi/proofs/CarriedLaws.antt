@@ -74,19 +74,18 @@ saved (x ∷ y ∷ z ∷ w) b st {w₁} {b'} {w'} long c e all =
 
 -- The numbers of a part, one behind the other.
 
-pub portion-words : (p : List ℕ) (stop written used : ℕ) → portion_room ≤ length p
-    → set (set (set p 0 stop) 1 written) 2 used ≡ stop ∷ written ∷ used ∷ drop portion_room p
-portion-words p stop written used room =
-    let w0 = wrote-set p 0 stop (omega arith) in
-    let w1 = wrote-next w0 1 written refl (omega arith) in
-    let w2 = wrote-next w1 2 used refl (omega arith) in
-    front-written portion_room refl room w2
-
 pub end-words : (p : List ℕ) (stop written : ℕ) → end_room ≤ length p → set (set p 0 stop) 1 written ≡ stop ∷ written ∷ drop end_room p
 end-words p stop written room =
     let w0 = wrote-set p 0 stop (omega arith) in
     let w1 = wrote-next w0 1 written refl (omega arith) in
     front-written end_room refl room w1
+
+pub portion-words : (p : List ℕ) (stop written used : ℕ) → portion_room ≤ length p
+    → set (stop ∷ written ∷ drop end_room p) 2 used ≡ stop ∷ written ∷ used ∷ drop portion_room p
+portion-words [] stop written used room = absurd (omega arith)
+portion-words (x ∷ []) stop written used room = absurd (omega arith)
+portion-words (x ∷ y ∷ []) stop written used room = absurd (omega arith)
+portion-words (x ∷ y ∷ z ∷ p) stop written used room = refl
 
 -- why playing stopped is found again from its number
 pub stop-found : (s : Stop·rt) → stop_of (stop_number s) ≡ s

@@ -2,9 +2,9 @@
 -- of them is too short. Assumes nothing.
 use Prim.Native.Nat.{ℕ, ◌≤◌, ◌<◌}
 use native.Mathlib.Omega.{arith}
-use mathlib.Core.List.{List}
+use mathlib.Core.List.{List, ◌∷◌}
 use mathlib.Core.Path.{◌≡◌, ◌∙◌, ap, refl, subst, sym}
-use lib.ListN.{length, drop, get_or, set}
+use lib.ListN.{length, drop, get_or}
 use Rattle.rules.specs.Script.{header}
 use Rattle.script.specs.Feed.{FedTo}
 use Rattle.script.specs.Play.{stop_number}
@@ -15,7 +15,7 @@ use Rattle.script.specs.declared.feed.State.{State as State·rt}
 use Rattle.script.specs.declared.play.Stop.{Stop as Stop·rt}
 use Rattle.capi.specs.Carried.{Lent, ScriptCarried, end_room, portion_room, script_of, script_room, stop_of}
 use Rattle.capi.specs.Feed.{FeedsEnd, FeedsPortion, WritesHeader, fed_of}
-use Rattle.capi.proofs.CarriedLaws.{end-words, portion-words, script-bytes-behind, script-found, script-words-behind, stop-found, unchanged}
+use Rattle.capi.proofs.CarriedLaws.{script-bytes-behind, script-found, script-words-behind, stop-found, unchanged}
 
 -- The header.
 
@@ -33,29 +33,26 @@ header-nothing out short = record { written = λ long. absurd (omega arith); out
 
 -- A portion's numbers.
 
-abbrev fed : List ℕ → Fed·rt → List ℕ
-fed p f = set (set (set p 0 (stop_number f.stop)) 1 f.written) 2 f.used
-
--- the same with another state, and stopped for another reason
+-- another state, and stopped for another reason
 abbrev fed_at : Fed·rt → State·rt → Stop·rt → Fed·rt
 fed_at f st s = record { state = st; used = f.used; written = f.written; stop = s }
 
 -- with the state in the words and bytes they are what the portion came to
-fed-found : (w b p : List ℕ) (f : Fed·rt) → portion_room ≤ length p → script_of w b ≡ f.state → f ≡ fed_of w b (fed p f)
+fed-found : (w b : List ℕ) {behind p' : List ℕ} (f : Fed·rt) → p' ≡ stop_number f.stop ∷ f.written ∷ f.used ∷ behind → script_of w b ≡ f.state → f ≡ fed_of w b p'
 unfolding fed_of
-fed-found w b p f room e =
-    sym (ap (fed_of w b) (portion-words p (stop_number f.stop) f.written f.used room) ∙ ap (λ (x : State·rt). fed_at f x (stop_of (stop_number f.stop))) e
+fed-found w b f words e =
+    sym (ap (fed_of w b) words ∙ ap (λ (x : State·rt). fed_at f x (stop_of (stop_number f.stop))) e
     ∙ ap (fed_at f f.state) (stop-found f.stop))
 
-pub portion-fed : {m w b input out p m' w' b' out' : List ℕ} {st : State·rt} {f : Fed·rt} → Lent script_room (length w) (length b) (length p) portion_room
+pub portion-fed : {m w b input out p m' w' b' out' p' : List ℕ} {st : State·rt} {f : Fed·rt} → Lent script_room (length w) (length b) (length p) portion_room
     → st ≡ script_of w b
     → FedTo m st input out m' out' f
     → ScriptCarried w b f.state w' b'
-    → FeedsPortion m w b input out p m' w' b' out' (fed p f) portion_room
-portion-fed {m} {w} {b} {input} {out} {p} {m'} {w'} {b'} {out'} {st} {f} l e h c =
+    → p' ≡ stop_number f.stop ∷ f.written ∷ f.used ∷ drop portion_room p
+    → FeedsPortion m w b input out p m' w' b' out' p' portion_room
+portion-fed {m} {w} {b} {input} {out} {p} {m'} {w'} {b'} {out'} {p'} {st} {f} l e h c words =
     let h₁ = subst (λ (x : State·rt). FedTo m x input out m' out' f) e h in
-    let words = portion-words p (stop_number f.stop) f.written f.used l.room in
-    let found = fed-found w' b' p f l.room (script-found c) in
+    let found = fed-found w' b' f words (script-found c) in
     record {
       room = λ _.
           record {
@@ -75,12 +72,12 @@ portion-unfed m w b input out p fewer = record { room = λ l. absurd (fewer l); 
 
 -- The end's.
 
-pub end-fed : {m w b out p m' out' : List ℕ} {st : State·rt} {f : Fed·rt} → Lent script_room (length w) (length b) (length p) end_room
+pub end-fed : {m w b out p m' out' p' : List ℕ} {st : State·rt} {f : Fed·rt} → Lent script_room (length w) (length b) (length p) end_room
     → st ≡ script_of w b
     → FedTo m st (last_newline st) out m' out' f
-    → FeedsEnd m w b out p m' out' (set (set p 0 (stop_number f.stop)) 1 f.written) end_room
-end-fed {m} {w} {b} {out} {p} {m'} {out'} {st} {f} l e h =
-    let words = end-words p (stop_number f.stop) f.written l.room in
+    → p' ≡ stop_number f.stop ∷ f.written ∷ drop end_room p
+    → FeedsEnd m w b out p m' out' p' end_room
+end-fed {m} {w} {b} {out} {p} {m'} {out'} {st = st} {f} l e h words =
     record {
       room = λ _.
           record {

@@ -3,7 +3,7 @@
 use Prim.Native.Nat.{ℕ, ◌≤◌}
 use mathlib.Core.List.{List, ◌∷◌}
 use mathlib.Core.Path.{◌≡◌, ◌∙◌, ap, refl, subst, sym}
-use lib.ListN.{length, drop, get_or, set}
+use lib.ListN.{length, drop, get_or}
 use Rattle.follow.specs.Every.{FinishedTo, ToldTo}
 use Rattle.follow.specs.declared.every.End.{End as End·rt}
 use Rattle.follow.specs.declared.every.State.{State as State·rt}
@@ -12,43 +12,37 @@ use Rattle.script.specs.Play.{stop_number}
 use Rattle.script.specs.declared.play.Stop.{Stop as Stop·rt}
 use Rattle.capi.specs.Carried.{Carried, Lent, end_room, portion_room, state_of, state_room, stop_of}
 use Rattle.capi.specs.Tell.{TellsEnd, TellsPortion, end_of, portion_of}
-use Rattle.capi.proofs.CarriedLaws.{end-words, portion-words, stop-found, unchanged}
+use Rattle.capi.proofs.CarriedLaws.{stop-found, unchanged}
 
--- A portion's numbers, one behind the other.
+-- A portion's numbers.
 
-abbrev told : List ℕ → Told·rt → List ℕ
-told p t = set (set (set p 0 (stop_number t.stop)) 1 t.written) 2 t.used
-
--- the same with another state, and stopped for another reason
+-- another state, and stopped for another reason
 abbrev told_at : Told·rt → State·rt → Stop·rt → Told·rt
 told_at t st s = record { state = st; used = t.used; written = t.written; stop = s }
 
-module _ (p : List ℕ) (t : Told·rt) (room : portion_room ≤ length p) where
-  told-words : told p t ≡ stop_number t.stop ∷ t.written ∷ t.used ∷ drop portion_room p
-  told-words = portion-words p (stop_number t.stop) t.written t.used room
+-- with the state in the words and bytes they are what the portion came to
+told-found : (w b : List ℕ) {behind p' : List ℕ} (t : Told·rt) → p' ≡ stop_number t.stop ∷ t.written ∷ t.used ∷ behind → state_of w b ≡ t.state → t ≡ portion_of w b p'
+unfolding portion_of
+told-found w b t words e =
+    sym (ap (portion_of w b) words ∙ ap (λ (x : State·rt). told_at t x (stop_of (stop_number t.stop))) e ∙ ap (told_at t t.state) (stop-found t.stop))
 
-  -- with the state in the words and bytes they are what the portion came to
-  told-found : (w b : List ℕ) → state_of w b ≡ t.state → t ≡ portion_of w b (told p t)
-  unfolding portion_of
-  told-found w b e =
-      sym (ap (portion_of w b) told-words ∙ ap (λ (x : State·rt). told_at t x (stop_of (stop_number t.stop))) e ∙ ap (told_at t t.state) (stop-found t.stop))
-
-pub portion-told : {m w b input out p m' w' b' out' : List ℕ} {st : State·rt} {t : Told·rt} → Lent state_room (length w) (length b) (length p) portion_room
+pub portion-told : {m w b input out p m' w' b' out' p' : List ℕ} {st : State·rt} {t : Told·rt} → Lent state_room (length w) (length b) (length p) portion_room
     → st ≡ state_of w b
     → ToldTo m st input out m' out' t
     → Carried w b t.state w' b'
-    → TellsPortion m w b input out p m' w' b' out' (told p t) portion_room
-portion-told {m} {w} {b} {input} {out} {p} {m'} {w'} {b'} {out'} {st} {t} l e h c =
+    → p' ≡ stop_number t.stop ∷ t.written ∷ t.used ∷ drop portion_room p
+    → TellsPortion m w b input out p m' w' b' out' p' portion_room
+portion-told {m} {w} {b} {input} {out} {p} {m'} {w'} {b'} {out'} {p'} {st} {t} l e h c words =
     let h₁ = subst (λ (x : State·rt). ToldTo m x input out m' out' t) e h in
-    let found = told-found p t l.room w' b' c.state in
+    let found = told-found w' b' t words c.state in
     record {
       room = λ _.
           record {
             told = subst (λ (x : Told·rt). ToldTo m (state_of w b) input out m' out' x) found h₁;
-            stopped = ap (λ (x : List ℕ). get_or x 0 0) (told-words p t l.room) ∙ ap (λ (x : Told·rt). stop_number x.stop) found;
+            stopped = ap (λ (x : List ℕ). get_or x 0 0) words ∙ ap (λ (x : Told·rt). stop_number x.stop) found;
             words-behind = c.words-behind;
             bytes-behind = c.bytes-behind;
-            part-behind = ap (drop portion_room) (told-words p t l.room);
+            part-behind = ap (drop portion_room) words;
             counted = refl;
           };
       short = λ fewer. absurd (fewer l);
@@ -56,29 +50,23 @@ portion-told {m} {w} {b} {input} {out} {p} {m'} {w'} {b'} {out'} {st} {t} l e h 
 
 -- The end's.
 
-abbrev ended : List ℕ → End·rt → List ℕ
-ended p e = set (set p 0 (stop_number e.stop)) 1 e.written
+ended-found : {behind p' : List ℕ} (e : End·rt) → p' ≡ stop_number e.stop ∷ e.written ∷ behind → e ≡ end_of p'
+unfolding end_of
+ended-found e words = sym (ap end_of words ∙ ap (λ (s : Stop·rt). record { written = e.written; stop = s }) (stop-found e.stop))
 
-module _ (p : List ℕ) (e : End·rt) (room : end_room ≤ length p) where
-  ended-words : ended p e ≡ stop_number e.stop ∷ e.written ∷ drop end_room p
-  ended-words = end-words p (stop_number e.stop) e.written room
-
-  ended-found : e ≡ end_of (ended p e)
-  unfolding end_of
-  ended-found = sym (ap end_of ended-words ∙ ap (λ (s : Stop·rt). record { written = e.written; stop = s }) (stop-found e.stop))
-
-pub end-told : {m w b out p m' out' : List ℕ} {st : State·rt} {e : End·rt} → Lent state_room (length w) (length b) (length p) end_room
+pub end-told : {m w b out p m' out' p' : List ℕ} {st : State·rt} {e : End·rt} → Lent state_room (length w) (length b) (length p) end_room
     → st ≡ state_of w b
     → FinishedTo m st out m' out' e
-    → TellsEnd m w b out p m' out' (ended p e) end_room
-end-told {m} {w} {b} {out} {p} {m'} {out'} {st} {e} l s h =
+    → p' ≡ stop_number e.stop ∷ e.written ∷ drop end_room p
+    → TellsEnd m w b out p m' out' p' end_room
+end-told {m} {w} {b} {out} {p} {m'} {out'} {st = st} {e} l s h words =
     let h₁ = subst (λ (x : State·rt). FinishedTo m x out m' out' e) s h in
     record {
       room = λ _.
           record {
-            told = subst (λ (x : End·rt). FinishedTo m (state_of w b) out m' out' x) (ended-found p e l.room) h₁;
-            stopped = ap (λ (x : List ℕ). get_or x 0 0) (ended-words p e l.room) ∙ ap (λ (x : End·rt). stop_number x.stop) (ended-found p e l.room);
-            part-behind = ap (drop end_room) (ended-words p e l.room);
+            told = subst (λ (x : End·rt). FinishedTo m (state_of w b) out m' out' x) (ended-found e words) h₁;
+            stopped = ap (λ (x : List ℕ). get_or x 0 0) words ∙ ap (λ (x : End·rt). stop_number x.stop) (ended-found e words);
+            part-behind = ap (drop end_room) words;
             counted = refl;
           };
       short = λ fewer. absurd (fewer l);

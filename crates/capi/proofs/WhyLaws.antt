@@ -25,9 +25,6 @@ use Rattle.follow.specs.One.{Finished, FollowedTo, told_of}
 use Rattle.follow.specs.Portions.{New, Portion, Follows, bytes_of, last_memory, last_state}
 use Rattle.follow.proofs.PortionsLaws.{portions-told}
 use Rattle.follow.specs.declared.one.State.{State as State·rt}
-use Rattle.std.specs.Prelude.{Result, Err}
-use Rattle.reasons.specs.declared.Untold.{Untold as Untold·rt}
-use Rattle.reasons.specs.declared.Untold.TheVariants.{NotNode}
 use Rattle.follow.specs.declared.one.Told.{Told as Told·rt}
 use Rattle.capi.specs.Why.{TellsWhy, WhyAnswers, WhyStep, why_memory, why_room, why_words, word_numbers}
 use Rattle.capi.proofs.ToldLaws.{front-written}
@@ -53,7 +50,7 @@ last-kept m (x ∷ b) = ap (λ (o : Operation). (step_memory m o).memory) (kept-
 
 -- A whole script followed in one call, and ended.
 
-module _ (m s : List ℕ) {w : ℕ} {st : State·rt} {m₁ : List ℕ} {st₁ : State·rt} {m' : List ℕ} {t : Result Told·rt Untold·rt} (long : size ≤ length m)
+module _ (m s : List ℕ) {w : ℕ} {st : State·rt} {m₁ : List ℕ} {st₁ : State·rt} {m' : List ℕ} {t : Told·rt} (long : size ≤ length m)
     (few : length s + 1 < last_number) (new : New st w) (f : FollowedTo (power_on_memory m).memory st s m₁ st₁) (e : Finished m₁ st₁ m' t) where
   enough : st.script.lines + length s < last_number
   enough = let n = new.none in omega arith
@@ -106,20 +103,20 @@ module _ (m s : List ℕ) (w : ℕ) where
   unfolding why_memory
   why-long e = rw (e, why_memory)
 
-  pub asked-refused : {m' : List ℕ} {r : Report·rt} → Answers m' r (power_on_memory m) → (r.answer ≡ 0 → ⊥)
-      → WhyAnswers m' (Err NotNode) (why_memory m s w)
-  asked-refused {m'} {r} a some = go (leb size (length m)) refl
+  pub asked-refused : {m' : List ℕ} {r : Report·rt} {t : Told·rt} → Answers m' r (power_on_memory m) → (r.answer ≡ 0 → ⊥) → told_of t ≡ untold not_node
+      → WhyAnswers m' t (why_memory m s w)
+  asked-refused {m'} {r} {t} a some refused = go (leb size (length m)) refl
     where
-      go : (t : Bool) → leb size (length m) ≡ t → WhyAnswers m' (Err NotNode) (why_memory m s w)
+      go : (b : Bool) → leb size (length m) ≡ b → WhyAnswers m' t (why_memory m s w)
       go true e = absurd (some (ap (λ (x : Report·rt). x.answer) a.reported ∙ power-long m e))
       go false e =
           rw (why-short e)
           (record {
-            told = refl;
+            told = refused;
             left = a.left ∙ ap (λ (p : MemoryStep). p.memory) (power-short m e);
           })
 
-  pub asked-played : {m₀ : List ℕ} {r : Report·rt} {st : State·rt} {m₁ : List ℕ} {st₁ : State·rt} {m' : List ℕ} {t : Result Told·rt Untold·rt} → length s + 1 < last_number
+  pub asked-played : {m₀ : List ℕ} {r : Report·rt} {st : State·rt} {m₁ : List ℕ} {st₁ : State·rt} {m' : List ℕ} {t : Told·rt} → length s + 1 < last_number
       → Answers m₀ r (power_on_memory m) → r.answer ≡ 0 → New st w → FollowedTo m₀ st s m₁ st₁ → Finished m₁ st₁ m' t → WhyAnswers m' t (why_memory m s w)
   asked-played {st = st} {m₁} {st₁} {m'} {t} few a accepted new f e = go (leb size (length m)) refl
     where
@@ -135,8 +132,8 @@ module _ (m s : List ℕ) (w : ℕ) where
 
 -- The words.
 
-pub why-written : (p : List ℕ) (t : Told) → why_room ≤ length p
-    → set (set (set (set p 0 t.answer) 1 t.reason) 2 (t.line % word_numbers)) 3 (t.line / word_numbers) ≡ why_words t ++ drop why_room p
+pub why-written : (p : List ℕ) (t : Told·rt) → why_room ≤ length p
+    → set (set (set (set p 0 t.answer) 1 t.reason) 2 (t.line % word_numbers)) 3 (t.line / word_numbers) ≡ why_words (told_of t) ++ drop why_room p
 unfolding why_words
 why-written p t long =
     let w0 = wrote-set p 0 t.answer (omega arith) in
@@ -146,7 +143,7 @@ why-written p t long =
     front-written why_room refl long w3
 
 -- told
-pub why-told : {m p m' p' : List ℕ} {s : WhyStep} {t : Result Told·rt Untold·rt} → why_room ≤ length p → WhyAnswers m' t s → p' ≡ why_words (told_of t) ++ drop why_room p
+pub why-told : {m p m' p' : List ℕ} {s : WhyStep} {t : Told·rt} → why_room ≤ length p → WhyAnswers m' t s → p' ≡ why_words (told_of t) ++ drop why_room p
     → TellsWhy m p s m' p' why_room
 why-told {p = p} long a e =
     record {

@@ -1,5 +1,5 @@
 -- What is told why a message was buffered: a script is played on lent memory, and the words go into a part that is lent for them. Assumes nothing.
-use Rattle.std.specs.Prelude.{ℕ, ◌/◌, ◌%◌, ◌≤◌, ◌<◌, true, false, List, [], ◌∷◌, ◌++◌, ◌≡◌, leb, length, drop, Result}
+use Rattle.std.specs.Prelude.{ℕ, ◌/◌, ◌%◌, ◌≤◌, ◌<◌, true, false, List, [], ◌∷◌, ◌++◌, ◌≡◌, leb, length, drop}
 use Rattle.rules.specs.Memory.{size}
 use Rattle.rules.specs.MemoryTest.{power_on_memory}
 use Rattle.rules.specs.Operation.{not_node}
@@ -8,7 +8,6 @@ use Rattle.reasons.specs.Why.{Told, untold, why}
 use Rattle.script.specs.Feeding.{after_lines}
 use Rattle.follow.specs.One.{told_of}
 use Rattle.follow.specs.declared.one.Told.{Told as Told·rt}
-use Rattle.reasons.specs.declared.Untold.{Untold as Untold·rt}
 
 -- the words
 abbrev pub why_room : ℕ
@@ -36,7 +35,7 @@ why_memory m s w =
     ]
 
 -- the memory at exit and what is told are these
-pub record WhyAnswers (exit : List ℕ) (t : Result Told·rt Untold·rt) (s : WhyStep) : Type 0 where
+pub record WhyAnswers (exit : List ℕ) (t : Told·rt) (s : WhyStep) : Type 0 where
   pub told : told_of t ≡ s.told
   pub left : exit ≡ s.memory
 

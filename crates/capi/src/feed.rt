@@ -2,17 +2,12 @@
 ghost use Rattle.capi.specs.Feed.{WritesHeader, FeedsPortion, FeedsEnd};
 
 use crate::carried::{SCRIPT, lent, load_script, save_script};
+use crate::part::{END, PORTION, put_end, put_portion};
 use script::feed::{feed, feed_end};
 use script::write::put_header;
 
 // The bytes of the header.
 const HEADER: u32 = 36;
-
-// The words that say what a portion came to: why it stopped, how many bytes of the output were written, and how many of the portion used.
-const PORTION: u32 = 3;
-
-// Those that say what the script's end came to: the first two.
-const END: u32 = 2;
 
 // The listing's header.
 pub fn fugu_header(out: &mut [u8]) -> u32
@@ -41,9 +36,7 @@ pub fn fugu_feed(
     }
     let f = feed(memory, load_script(state, kept), input, out);
     save_script(state, kept, f.state);
-    part[0] = f.stop as u64;
-    part[1] = f.written as u64;
-    part[2] = f.used as u64;
+    put_portion(part, f.stop, f.written, f.used);
     PORTION
 }
 
@@ -61,7 +54,6 @@ pub fn fugu_feed_end(
         return 0;
     }
     let e = feed_end(memory, load_script(state, kept), out);
-    part[0] = e.stop as u64;
-    part[1] = e.written as u64;
+    put_end(part, e.stop, e.written);
     END
 }

@@ -7,6 +7,7 @@ pub mod feed;
 pub mod head;
 pub mod lines;
 pub mod paging;
+mod part;
 pub mod power;
 pub mod report;
 pub mod steps;

@@ -2,13 +2,8 @@
 ghost use Rattle.capi.specs.Tell.{TellsPortion, TellsEnd};
 
 use crate::carried::{STATE, lent, load, save};
+use crate::part::{END, PORTION, put_end, put_portion};
 use follow::every::{finish, tell};
-
-// The words that say what a portion came to: why it stopped, how many bytes of the output were written, and how many of the portion used.
-const PORTION: u32 = 3;
-
-// Those that say what the script's end came to: the first two.
-const END: u32 = 2;
 
 // The next portion of a script: of each message that leaves the hardware queue in it the line that tells why goes into the output.
 pub fn fugu_tell(
@@ -26,9 +21,7 @@ pub fn fugu_tell(
     }
     let t = tell(memory, load(state, kept), input, out);
     save(state, kept, t.state);
-    part[0] = t.stop as u64;
-    part[1] = t.written as u64;
-    part[2] = t.used as u64;
+    put_portion(part, t.stop, t.written, t.used);
     PORTION
 }
 
@@ -46,7 +39,6 @@ pub fn fugu_tell_end(
         return 0;
     }
     let e = finish(memory, load(state, kept), out);
-    part[0] = e.stop as u64;
-    part[1] = e.written as u64;
+    put_end(part, e.stop, e.written);
     END
 }

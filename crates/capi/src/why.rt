@@ -26,35 +26,24 @@ pub fn fugu_why(memory: &mut [u32], script: &[u8], line: u32, part: &mut [u32]) 
 }
 
 // The same, with what is told as it is. Memory that power-on refuses is not played on.
-fn ask(memory: &mut [u32], script: &[u8], line: u64) -> Result<Told, Untold>
+fn ask(memory: &mut [u32], script: &[u8], line: u64) -> Told
     ensures { WhyAnswers memory.new result (why_memory memory.old script.now line) }
 {
     let started = Node::power_on(memory);
     if started.answer != 0 {
-        return Err(Untold::NotNode);
+        return Told::from(Untold::NotNode);
     }
     let played = follow(memory, State::new(line), script);
     finish(memory, played)
 }
 
-// What is told, at the beginning of a part.
-fn put_told(part: &mut [u32], told: Result<Told, Untold>)
+// What is told, at the beginning of a part: the line by its low and high 32 bits.
+fn put_told(part: &mut [u32], told: Told)
     requires { why_room ≤ length part.old }
     ensures { part.new ≡ why_words (told_of told) ++ drop why_room part.old }
 {
-    match told {
-        Ok(told) => put_words(part, 0, told.reason as u32, told.line),
-        Err(refusal) => put_words(part, u32::from(refusal), 0, 0),
-    }
-}
-
-// Its words: the line by its low and high 32 bits.
-fn put_words(part: &mut [u32], answer: u32, reason: u32, line: u64)
-    requires { why_room ≤ length part.old }
-    ensures { part.new ≡ why_words (record { answer = answer; reason = reason; line = line }) ++ drop why_room part.old }
-{
-    part[0] = answer;
-    part[1] = reason;
-    part[2] = (line % WORD_NUMBERS) as u32;
-    part[3] = (line / WORD_NUMBERS) as u32;
+    part[0] = told.answer;
+    part[1] = told.reason;
+    part[2] = (told.line % WORD_NUMBERS) as u32;
+    part[3] = (told.line / WORD_NUMBERS) as u32;
 }

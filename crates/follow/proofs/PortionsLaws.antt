@@ -22,8 +22,6 @@ use Rattle.follow.specs.Seen.{seen_memory, seen_on, seen_step}
 use Rattle.follow.specs.One.{PortionFollowed, followed_of, told_of}
 use Rattle.follow.specs.Portions.{FinishesScript, Follows, FollowsScript, Portion, PortionsTold, Settled, bytes_of, last_memory, last_state}
 use Rattle.follow.specs.declared.one.State.{State as State·rt}
-use Rattle.std.specs.Prelude.{Result}
-use Rattle.reasons.specs.declared.Untold.{Untold as Untold·rt}
 use Rattle.follow.specs.declared.one.Told.{Told as Told·rt}
 use Rattle.follow.proofs.one.PlaceLaws.{follow-append, follow-settled, told-left}
 use Rattle.follow.proofs.portion.PassedLaws.{length_seen, seen-append}
@@ -174,7 +172,7 @@ abbrev followed : List ℕ → ℕ → Told
 followed s w = told_at (length (script_lines s)) (follow_lines w 1 unfollowed (seen_of_script s))
 
 -- the end
-script-told : {m s : List ℕ} {w : ℕ} {st : State·rt} {ps : List Portion} {m' : List ℕ} {t : Result Told·rt Untold·rt} → FollowsScript m w st ps s → FinishesScript m st ps m' t
+script-told : {m s : List ℕ} {w : ℕ} {st : State·rt} {ps : List Portion} {m' : List ℕ} {t : Told·rt} → FollowsScript m w st ps s → FinishesScript m st ps m' t
     → told_of t ≡ followed s w
 script-told {m} {s} {w} {st} {ps} q h =
     let m₀ = (power_on_memory m).memory in

@@ -1,10 +1,7 @@
 -- What following one message promises. Assumes nothing.
-use Rattle.std.specs.Prelude.{ℕ, suc, ◌+◌, ◌≤◌, ◌<◌, List, [], ◌++◌, ◌≡◌, length, take, Option, None, Some, Result, Ok, Err}
+use Rattle.std.specs.Prelude.{ℕ, suc, ◌+◌, ◌≤◌, ◌<◌, List, [], ◌++◌, ◌≡◌, length, take, Option, None, Some}
 use Rattle.reasons.specs.Follow.{Followed, follow_lines, told_at}
-use Rattle.reasons.specs.Numbers.{reason_number, untold_number}
-use Rattle.reasons.specs.Why.{Told, told, untold}
-use Rattle.reasons.specs.declared.Reason.{Reason as Reason·rt}
-use Rattle.reasons.specs.declared.Untold.{Untold as Untold·rt}
+use Rattle.reasons.specs.Why.{Told}
 use Rattle.script.specs.Feed.{kept_line, kept_room, last_number}
 use Rattle.script.specs.Feeding.{after_lines, begun, last_line, lines_behind, rest_behind, whole}
 use Rattle.follow.specs.Seen.{seen_memory}
@@ -14,9 +11,8 @@ use Rattle.follow.specs.declared.one.State.{State as State·rt}
 use Rattle.follow.specs.declared.one.Told.{Told as Told·rt}
 
 -- what is told, and the message followed, of which the code's values stand for
-abbrev pub told_of : Result Told·rt Untold·rt → Told
-told_of (Ok t) = told (reason_number t.reason) t.line
-told_of (Err u) = untold (untold_number u)
+abbrev pub told_of : Told·rt → Told
+told_of t = record { answer = t.answer; reason = t.reason; line = t.line }
 
 -- the place is one more than how many are queued ahead, and 0 where there is none to follow
 abbrev pub place_of : Option ℕ → ℕ
@@ -27,8 +23,8 @@ abbrev pub followed_of : Followed·rt → Followed
 followed_of f = record { place = place_of f.ahead; told = told_of f.told }
 
 -- a message that left in line i
-abbrev pub left_in : ℕ → Reason·rt → Followed·rt
-left_in i reason = record { ahead = None; told = Ok (record { reason = reason; line = i }) }
+abbrev pub left_in : ℕ → ℕ → Followed·rt
+left_in i reason = record { ahead = None; told = record { answer = 0; reason = reason; line = i } }
 
 -- the lines of u, where b has begun, are stepped, counted and followed, and nothing has begun behind them where there are some
 pub record LinesFollowed (m b u : List ℕ) (lines w : ℕ) (f : Followed·rt) (m' kept' : List ℕ) (r : Lines·rt) : Type 0 where
@@ -53,12 +49,12 @@ pub record FollowedTo (m : List ℕ) (st : State·rt) (input m' : List ℕ) (st'
   pub last-number : last_number ≤ st.script.lines + length input → (m' ≡ m) × (st' ≡ st)
 
 -- the script's end: a line that has begun is its last; where no line number is left for it, it is not used
-pub record Ended (m : List ℕ) (st : State·rt) (ls : List (List ℕ)) (m' : List ℕ) (t : Result Told·rt Untold·rt) : Type 0 where
+pub record Ended (m : List ℕ) (st : State·rt) (ls : List (List ℕ)) (m' : List ℕ) (t : Told·rt) : Type 0 where
   pub memory : m' ≡ after_lines m ls
   pub told : told_of t
       ≡ told_at (st.script.lines + length ls)
       (follow_lines st.wanted (st.script.lines + 1) (followed_of st.followed) (seen_memory m ls))
 
-pub record Finished (m : List ℕ) (st : State·rt) (m' : List ℕ) (t : Result Told·rt Untold·rt) : Type 0 where
+pub record Finished (m : List ℕ) (st : State·rt) (m' : List ℕ) (t : Told·rt) : Type 0 where
   pub enough : st.script.lines + 1 < last_number → Ended m st (last_line (kept_line st.script)) m' t
   pub last-number : last_number ≤ st.script.lines + 1 → Ended m st [] m' t

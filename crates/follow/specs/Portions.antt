@@ -1,12 +1,11 @@
 -- However a script is cut into portions, what is told of a line is what is told of the whole script. Calls
 -- of `follow`, each handed the memory and the state that the last one left, and one of `finish`. Assumes nothing.
-use Rattle.std.specs.Prelude.{ℕ, ◌+◌, ◌≤◌, ◌<◌, List, [], ◌∷◌, ◌++◌, ◌≡◌, length, Result}
+use Rattle.std.specs.Prelude.{ℕ, ◌+◌, ◌≤◌, ◌<◌, List, [], ◌∷◌, ◌++◌, ◌≡◌, length}
 use Rattle.rules.specs.Memory.{size}
 use Rattle.rules.specs.MemoryTest.{power_on_memory}
 use Rattle.reasons.specs.Follow.{unfollowed}
 use Rattle.reasons.specs.Why.{why}
 use Rattle.script.specs.Feed.{kept_line, last_number}
-use Rattle.reasons.specs.declared.Untold.{Untold as Untold·rt}
 use Rattle.follow.specs.One.{Finished, FollowedTo, followed_of, place_of, told_of}
 use Rattle.follow.specs.declared.one.State.{State as State·rt}
 use Rattle.follow.specs.declared.one.Told.{Told as Told·rt}
@@ -53,7 +52,7 @@ pub record FollowsScript (m : List ℕ) (w : ℕ) (st : State·rt) (ps : List Po
   pub read : bytes_of ps ≡ bytes
 
 -- the script's end, with a line number for a line that has begun
-pub record FinishesScript (m : List ℕ) (st : State·rt) (ps : List Portion) (m' : List ℕ) (t : Result Told·rt Untold·rt) : Type 0 where
+pub record FinishesScript (m : List ℕ) (st : State·rt) (ps : List Portion) (m' : List ℕ) (t : Told·rt) : Type 0 where
   pub number : (last_state st ps).script.lines + 1 < last_number
   pub finishes : Finished (last_memory (power_on_memory m).memory ps) (last_state st ps) m' t
 
@@ -65,7 +64,7 @@ pub record Settled (st : State·rt) : Type 0 where
 -- what is told is why the message was buffered
 pub record PortionsTold : Type 0 where
   -- whatever the portions
-  pub told : (m s : List ℕ) (w : ℕ) (st : State·rt) (ps : List Portion) (m' : List ℕ) (t : Result Told·rt Untold·rt)
+  pub told : (m s : List ℕ) (w : ℕ) (st : State·rt) (ps : List Portion) (m' : List ℕ) (t : Told·rt)
       → FollowsScript m w st ps s → FinishesScript m st ps m' t → told_of t ≡ why s w
   -- and whatever follows once it is settled, so that the rest need not be read
   pub settled : (m s rest : List ℕ) (w : ℕ) (st : State·rt) (ps : List Portion)

@@ -88,7 +88,7 @@ left_of (Some l) = l.count
 
 abbrev pub reasons_of : Option Leaving·rt → List ℕ
 reasons_of None = []
-reasons_of (Some l) = leaving l.count (reason_number l.first) (reason_number l.later)
+reasons_of (Some l) = leaving l.count l.first l.later
 
 -- those that leave are told where the operation has a reason for the first, as it has wherever one leaves
 unfoldable pub Gone : List ℕ → Operation·rt → ℕ → Option Leaving·rt → Type 0

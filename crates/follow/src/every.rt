@@ -192,11 +192,11 @@ fn put_queued(state: State, out: &mut [u8], at: usize) -> End
     let count = fewer(state.count, PLACES as u64);
     let queued = Leaving {
         count: PLACES as u64,
-        first: Reason::StillQueued,
-        later: Reason::StillQueued,
+        first: Reason::StillQueued as u32,
+        later: Reason::StillQueued as u32,
     };
     End {
-        written: put_left(out, at, &waiting, count, script.lines, queued),
+        written: put_left(out, at, &waiting[..count], script.lines, queued),
         stop: Stop::AllUsed,
     }
 }

@@ -1,6 +1,8 @@
 // One message followed through the hardware queue by its place, line after line.
 ghost use Rattle.std.specs.Prelude.{◌≡◌, [], ◌+◌, ◌≤◌, ◌<◌, take};
 ghost use Rattle.reasons.specs.Follow.{Seen, unfollowed, moved_up, picked_up, follow_line, told_at};
+ghost use Rattle.reasons.specs.Numbers.{untold_number};
+ghost use Rattle.reasons.specs.Why.{untold};
 ghost use Rattle.script.specs.Feed.{kept_line};
 ghost use Rattle.follow.specs.Seen.{Sees, left_limit, left_of, reasons_of};
 ghost use Rattle.follow.specs.One.{told_of, place_of, followed_of, left_in, LinesFollowed, FollowedTo, Finished};
@@ -15,18 +17,32 @@ use script::feed::{behind_last, keep, kept_count};
 use script::read::FIELDS;
 use validate::is_node;
 
-// What is told of an accepted arrival: the reason, and the line that it names.
-#[derive(Clone, Copy, PartialEq, Eq, Debug)]
+// What is told of a line: 0, the reason's number and the line that it names; or the number of the refusal.
+#[derive(Clone, Copy)]
 pub struct Told {
-    pub reason: Reason,
+    pub answer: u32,
+    pub reason: u32,
     pub line: u64,
+}
+
+// A refusal's number, and zeros.
+impl From<Untold> for Told {
+    ghost from_gives = { λ refusal t. told_of t ≡ untold (untold_number refusal) };
+
+    fn from(refusal: Untold) -> Told {
+        Told {
+            answer: u32::from(refusal),
+            reason: 0,
+            line: 0,
+        }
+    }
 }
 
 // How many messages are queued ahead of the one that is followed, while there is one; and what is told so far.
 #[derive(Clone, Copy)]
 pub struct Followed {
     pub ahead: Option<u64>,
-    pub told: Result<Told, Untold>,
+    pub told: Told,
 }
 
 // What is carried from portion to portion: the script so far, the number of the line wanted, and its message.
@@ -55,7 +71,7 @@ impl State {
             wanted,
             followed: Followed {
                 ahead: None,
-                told: Err(Untold::NoArrival),
+                told: Told::from(Untold::NoArrival),
             },
         }
     }
@@ -69,7 +85,7 @@ fn picked_up(f: Followed, l: Line) -> Followed
     if l.answer == Refusal::Unreadable as u32 {
         return Followed {
             ahead: None,
-            told: Err(Untold::Unreadable),
+            told: Told::from(Untold::Unreadable),
         };
     }
     let left = l.leaving.map_or(0, |leaving| leaving.count);
@@ -98,12 +114,16 @@ fn moved_up(i: u64, f: Followed, l: Line) -> Followed
 }
 
 // A message that left in line i.
-fn left_in(i: u64, reason: Reason) -> Followed
+fn left_in(i: u64, reason: u32) -> Followed
     ensures { result ≡ left_in i reason }
 {
     Followed {
         ahead: None,
-        told: Ok(Told { reason, line: i }),
+        told: Told {
+            answer: 0,
+            reason,
+            line: i,
+        },
     }
 }
 
@@ -187,20 +207,21 @@ pub fn follow(memory: &mut [u32], state: State, input: &[u8]) -> State
 }
 
 // What is told at the script's end: a message still queued names the last line.
-fn told_at(last: u64, f: Followed) -> Result<Told, Untold>
+fn told_at(last: u64, f: Followed) -> Told
     ensures { told_of result ≡ told_at last (followed_of f) }
 {
     match f.ahead {
         None => f.told,
-        Some(_) => Ok(Told {
-            reason: Reason::StillQueued,
+        Some(_) => Told {
+            answer: 0,
+            reason: Reason::StillQueued as u32,
             line: last,
-        }),
+        },
     }
 }
 
 // The script's end: a line that has begun is its last, as if it had its newline.
-pub fn finish(memory: &mut [u32], state: State) -> Result<Told, Untold>
+pub fn finish(memory: &mut [u32], state: State) -> Told
     ensures { Finished memory.old state memory.new result }
 {
     let script = state.script;

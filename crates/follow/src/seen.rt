@@ -17,12 +17,12 @@ use rules::Operation;
 use script::play::words_of;
 use script::read::read_at;
 
-// Those that leave the queue at a line, from the head on: how many, why the first of them does, and why those behind it do.
+// Those that leave the queue at a line, from the head on: how many, and by its number why the first of them does, and why those behind it do.
 #[derive(Clone, Copy)]
 pub struct Leaving {
     pub count: u64,
-    pub first: Reason,
-    pub later: Reason,
+    pub first: u32,
+    pub later: u32,
 }
 
 // What is seen of a line: where the next one begins, its answer, of an accepted arrival how many are queued after it, and those that leave the
@@ -37,8 +37,8 @@ pub struct Line {
 
 impl Leaving {
     // Why one of them does, by how many leave ahead of it.
-    pub fn reason_at(self, ahead: u64) -> Reason
-        ensures { reason_number result ≡ cond (eqb ahead 0) (reason_number self.first) (reason_number self.later) }
+    pub fn reason_at(self, ahead: u64) -> u32
+        ensures { result ≡ cond (eqb ahead 0) self.first self.later }
     {
         if ahead == 0 { self.first } else { self.later }
     }
@@ -58,7 +58,7 @@ fn is_arrival(op: Operation, accepted: bool) -> bool
 fn disposed(answer: u32, trap: u32) -> u64
     ensures { result ≡ cond (eqb answer 0 && eqb trap 0) 1 0 }
 {
-    if answer == 0 && trap == 0 { 1 } else { 0 }
+    u64::from(answer == 0 && trap == 0)
 }
 
 // How many leave the queue: those moved, and one that is disposed of there.
@@ -120,8 +120,8 @@ fn gone(memory: &[u32], op: Operation, left: u64) -> Option<Leaving>
     match first_reason(memory, op, left) {
         Some(first) => Some(Leaving {
             count: left,
-            first,
-            later: later_reason(op),
+            first: first as u32,
+            later: later_reason(op) as u32,
         }),
         None => None,
     }

@@ -51,30 +51,18 @@ fn leave(waiting: &mut [u64], count: usize, left: u64) -> usize
 pub fn fewer(count: usize, left: u64) -> usize
     ensures { result ≡ cond (ltb left count) left count }
 {
-    if left < count as u64 {
-        left as usize
-    } else {
-        count
-    }
+    left.min(count as u64) as usize
 }
 
-// The lines of those that leave in line i.
-pub fn put_left(
-    out: &mut [u8],
-    at: usize,
-    waiting: &[u64],
-    count: usize,
-    i: u64,
-    gone: Leaving,
-) -> usize
-    requires { (at + lines_room ≤ length out.old) × ((count ≤ length waiting.now) × (count ≤ paper01.places)) }
-    ensures { Appended out.old at out.new result (telling_lines (tellings i (take count waiting.now) (reasons_of (Some gone)))) × (result ≤ at + lines_room) }
+// The lines of those that leave in line i, of all that wait.
+pub fn put_left(out: &mut [u8], at: usize, waiting: &[u64], i: u64, gone: Leaving) -> usize
+    requires { (at + lines_room ≤ length out.old) × (length waiting.now ≤ paper01.places) }
+    ensures { Appended out.old at out.new result (telling_lines (tellings i waiting.now (reasons_of (Some gone)))) × (result ≤ at + lines_room) }
 {
-    let n = fewer(count, gone.count);
+    let n = fewer(waiting.len(), gone.count);
     let mut end = at;
     for k in 0..n {
-        let reason = gone.reason_at(k as u64);
-        end = put_why(out, end, waiting[k], reason as u32, i);
+        end = put_why(out, end, waiting[k], gone.reason_at(k as u64), i);
     }
     end
 }
@@ -94,7 +82,7 @@ pub fn tell_line(
     let n = join(waiting, count, i, l.queued.is_some());
     match l.leaving {
         Some(gone) => {
-            let end = put_left(out, at, waiting, n, i, gone);
+            let end = put_left(out, at, &waiting[..n], i, gone);
             Waiting {
                 count: leave(waiting, n, gone.count),
                 end,

@@ -18,8 +18,6 @@ use Rattle.rules.proofs.Map.RunMemory.{power-on-tested}
 use Rattle.reasons.specs.Follow.{unfollowed}
 use Rattle.reasons.specs.Why.{Departure, Told, tell_event, tell_line, tell_message, why}
 use Rattle.script.specs.Feed.{kept_line, last_number}
-use Rattle.std.specs.Prelude.{Result}
-use Rattle.reasons.specs.declared.Untold.{Untold as Untold·rt}
 use Rattle.follow.specs.One.{Finished, followed_of, place_of, told_of}
 use Rattle.follow.specs.Portions.{FollowsScript, Settled, last_memory, last_state}
 use Rattle.follow.specs.declared.one.State.{State as State·rt}
@@ -32,10 +30,10 @@ use Rattle.why.specs.declared.one.Following.{Following as Following·rt}
 use Rattle.why.specs.declared.one.Text.{Text as Text·rt}
 
 -- power-on, a new state, a run, what is told of it, and its text
-pub answers-told : {m : List ℕ} {w : ℕ} {m₀ : List ℕ} {st : State·rt} {m' : List ℕ} {t : Result Told·rt Untold·rt} {out' : List ℕ} {r : Text·rt}
+pub answers-told : {m : List ℕ} {w : ℕ} {m₀ : List ℕ} {st : State·rt} {m' : List ℕ} {t : Told·rt} {out' : List ℕ} {r : Text·rt}
     → size ≤ length m → m₀ ≡ replaced (power_on paper01) m
     → (st.script.lines ≡ 0) × ((kept_line st.script ≡ []) × ((st.wanted ≡ w) × (followed_of st.followed ≡ unfollowed)))
-    → streams.Runs {P = Following·rt} {A = Result Told·rt Untold·rt} (λ m p bytes m' p'. Reaches m p.state bytes m' p'.state) (λ m p out m' out' t. TellsEnd m p.state m' t)
+    → streams.Runs {P = Following·rt} {A = Told·rt} (λ m p bytes m' p'. Reaches m p.state bytes m' p'.state) (λ m p out m' out' t. TellsEnd m p.state m' t)
     (λ p t. (settled p.state ≡ true) × (t ≡ p.state.followed.told)) m₀ (record { state = st }) m' t
     → Written w (told_of t) out' r → Answers m w out' r
 answers-told {m} {w} {m₀} {st} {m'} {t} {out'} {r} long start new run written = go run.stops

@@ -3,15 +3,12 @@ use Prim.Native.Nat.{ℕ, ◌+◌, ◌≤◌}
 use native.Mathlib.Omega.{arith}
 use mathlib.Core.Bool.{Bool, not, cond}
 use mathlib.Core.List.{List, ◌++◌, append_assoc}
-use mathlib.Core.Path.{◌≡◌, refl, sym, ap, ◌∙◌}
+use mathlib.Core.Path.{◌≡◌, sym, ap, ◌∙◌}
 use lib.ListN.{length}
 use borrow.Author.Tests.{eq-eqb, ne_eqb}
 use Rattle.rules.specs.Operation.{unreadable}
 use Rattle.rules.specs.Text.{bytes, decimal}
-use Rattle.reasons.specs.Numbers.{untold_number}
 use Rattle.reasons.specs.Why.{Told, why_line}
-use Rattle.reasons.specs.declared.Untold.{Untold as Untold·rt}
-use Rattle.reasons.specs.declared.Untold.TheVariants.{NotNode, Unreadable, NoArrival}
 use Rattle.script.specs.Written.{Appended}
 use Rattle.follow.specs.Text.{why_room}
 use Rattle.why.specs.declared.one.Text.TheVariants.{Answer, Refusal}
@@ -22,14 +19,9 @@ pub words-unread : (a : ℕ) → a ≡ unreadable → bytes ": it can't be read\
 unfolding refusal_words
 words-unread a e = rw (eq-eqb a unreadable e)
 
-words-else : (a : ℕ) → (a ≡ unreadable → ⊥) → bytes ": it is no accepted arrival of this script\n" ≡ refusal_words a
+pub words-else : (a : ℕ) → (a ≡ unreadable → ⊥) → bytes ": it is no accepted arrival of this script\n" ≡ refusal_words a
 unfolding refusal_words
 words-else a e = rw (ne_eqb a unreadable e)
-
-pub words-refused : (u : Untold·rt) → (u ≡ Unreadable → ⊥) → bytes ": it is no accepted arrival of this script\n" ≡ refusal_words (untold_number u)
-words-refused NotNode other = words-else (untold_number NotNode) (λ e. absurd (omega arith))
-words-refused Unreadable other = absurd (other refl)
-words-refused NoArrival other = words-else (untold_number NoArrival) (λ e. absurd (omega arith))
 
 -- its parts joined
 in_a_row : (a b c d e : List ℕ) → (a ++ b) ++ ((c ++ d) ++ e) ≡ a ++ (b ++ (c ++ (d ++ e)))
@@ -40,12 +32,6 @@ unfolding refusal_line
 refusal-row w a {ws} e =
     in_a_row (bytes "why: line ") (decimal w) (bytes ": refused with ") (decimal a) ws
     ∙ ap (λ (x : List ℕ). bytes "why: line " ++ (decimal w ++ (bytes ": refused with " ++ (decimal a ++ x)))) e
-
--- a refusal's number is not that of an accepted arrival
-pub refused : (u : Untold·rt) → untold_number u ≡ 0 → ⊥
-refused NotNode e = absurd (omega arith)
-refused Unreadable e = absurd (omega arith)
-refused NoArrival e = absurd (omega arith)
 
 -- what is told, written
 module _ (w : ℕ) (t : Told) {out out' : List ℕ} {end : ℕ} where

@@ -1,13 +1,12 @@
 -- What the answer for one line promises where all goes well: what the reads brought is followed, by calls of `follow` that `PortionsTold` speaks of, each
 -- with line numbers enough; and what is told is why the message of the line was buffered. Assumes nothing.
-use Rattle.std.specs.Prelude.{ℕ, ◌+◌, ◌≤◌, ◌<◌, Bool, true, false, not, cond, ◌&&◌, ◌||◌, List, ◌++◌, ◌≡◌, eqb, leb, length, take, Result}
+use Rattle.std.specs.Prelude.{ℕ, ◌+◌, ◌≤◌, ◌<◌, Bool, true, false, not, cond, ◌&&◌, ◌||◌, List, ◌++◌, ◌≡◌, eqb, leb, length, take}
 use Rattle.rules.specs.Memory.{size}
 use Rattle.rules.specs.MemoryTest.{power_on_memory}
 use Rattle.rules.specs.Operation.{unreadable}
 use Rattle.rules.specs.Text.{bytes, decimal}
 use Rattle.reasons.specs.Why.{Told, why, why_line}
 use Rattle.script.specs.Feed.{last_number}
-use Rattle.reasons.specs.declared.Untold.{Untold as Untold·rt}
 use Rattle.follow.specs.One.{Finished, place_of, told_of}
 use Rattle.follow.specs.Portions.{Follows, New, Portion, bytes_of, last_memory, last_state}
 use Rattle.follow.specs.declared.one.State.{State as State·rt}
@@ -33,12 +32,12 @@ unfoldable pub settled : State·rt → Bool
 settled st = leb st.wanted st.script.lines && eqb (place_of st.followed.ahead) 0
 
 -- what is told at the end of the input, with a number for a line that has begun
-pub record TellsEnd (m : List ℕ) (st : State·rt) (m' : List ℕ) (t : Result Told·rt Untold·rt) : Type 0 where
+pub record TellsEnd (m : List ℕ) (st : State·rt) (m' : List ℕ) (t : Told·rt) : Type 0 where
   pub number : st.script.lines + 1 < last_number
   pub finished : Finished m st m' t
 
 -- and what is told after a run, which has come to the end of its input or not: before it only what is settled
-pub record Tells (m : List ℕ) (st : State·rt) (ended : Bool) (m' : List ℕ) (t : Result Told·rt Untold·rt) : Type 0 where
+pub record Tells (m : List ℕ) (st : State·rt) (ended : Bool) (m' : List ℕ) (t : Told·rt) : Type 0 where
   pub at-end : ended ≡ true → TellsEnd m st m' t
   pub before : ended ≡ false → (settled st ≡ true) × (t ≡ st.followed.told)
 
@@ -83,7 +82,7 @@ pub record Answers (m : List ℕ) (w : ℕ) (out' : List ℕ) (r : Text·rt) : T
   pub runs : Runs (power_on_memory m).memory state memory last
   pub ended : Bool
   pub memory' : List ℕ
-  pub told : Result Told·rt Untold·rt
+  pub told : Told·rt
   pub tells : Tells memory last ended memory' told
   pub written : Written w (told_of told) out' r
 

@@ -2,7 +2,6 @@
 ghost use Rattle.std.specs.Prelude.{◌≡◌, true, ◌≤◌, length, IfOk};
 ghost use Rattle.rules.specs.Memory.{size};
 ghost use Rattle.script.specs.Written.{Appended};
-ghost use Rattle.reasons.specs.Numbers.{untold_number};
 ghost use Rattle.follow.specs.One.{told_of};
 ghost use Rattle.follow.specs.Text.{why_room};
 ghost use Rattle.why.specs.One.{Reaches, settled, TellsEnd, refusal_line, Written, Answers};
@@ -35,15 +34,12 @@ fn is_settled(state: State) -> bool
     ensures { result ≡ settled state }
 {
     let script = state.script;
-    if state.wanted > script.lines {
-        return false;
-    }
     let followed = state.followed;
-    followed.ahead.is_none()
+    state.wanted <= script.lines && followed.ahead.is_none()
 }
 
 impl Player for Following {
-    type Answer = Result<Told, Untold>;
+    type Answer = Told;
 
     ghost reaches = { λ m p bytes m' p'. Reaches m p.state bytes m' p'.state };
 
@@ -77,12 +73,7 @@ impl Player for Following {
     }
 
     // The script's end. A line that has begun needs a number.
-    fn end<W: Print>(
-        self,
-        _rt: &W,
-        memory: &mut [u32],
-        _out: &mut [u8],
-    ) -> Result<Result<Told, Untold>, Failed> {
+    fn end<W: Print>(self, _rt: &W, memory: &mut [u32], _out: &mut [u8]) -> Result<Told, Failed> {
         let state = self.state;
         let script = state.script;
         if script.lines >= u64::MAX - 1 {
@@ -92,7 +83,7 @@ impl Player for Following {
     }
 
     // What is told before it.
-    fn settled(&self) -> Option<Result<Told, Untold>> {
+    fn settled(&self) -> Option<Told> {
         let state = self.state;
         if is_settled(state) {
             return Some(state.followed.told);
@@ -102,26 +93,27 @@ impl Player for Following {
 }
 
 // The line of a refusal.
-fn put_refusal(out: &mut [u8], wanted: u64, refusal: Untold) -> usize
+fn put_refusal(out: &mut [u8], wanted: u64, answer: u32) -> usize
     requires { why_room ≤ length out.old }
-    ensures { Appended out.old 0 out.new result (refusal_line wanted (untold_number refusal)) × (result ≤ why_room) }
+    ensures { Appended out.old 0 out.new result (refusal_line wanted answer) × (result ≤ why_room) }
 {
     let a = put_named(out, 0, b"why: line ", wanted);
-    let b = put_named(out, a, b": refused with ", u32::from(refusal) as u64);
-    if refusal == Untold::Unreadable {
+    let b = put_named(out, a, b": refused with ", answer as u64);
+    if answer == Untold::Unreadable as u32 {
         return put_text(out, b, b": it can't be read\n");
     }
     put_text(out, b, b": it is no accepted arrival of this script\n")
 }
 
 // The line of what is told.
-fn put_told(out: &mut [u8], wanted: u64, told: Result<Told, Untold>) -> Text
+fn put_told(out: &mut [u8], wanted: u64, told: Told) -> Text
     requires { why_room ≤ length out.old }
     ensures { Written wanted (told_of told) out.new result }
 {
-    match told {
-        Ok(told) => Text::Answer(put_why(out, 0, wanted, told.reason as u32, told.line)),
-        Err(refusal) => Text::Refusal(put_refusal(out, wanted, refusal)),
+    if told.answer == 0 {
+        Text::Answer(put_why(out, 0, wanted, told.reason, told.line))
+    } else {
+        Text::Refusal(put_refusal(out, wanted, told.answer))
     }
 }
 

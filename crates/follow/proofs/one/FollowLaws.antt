@@ -20,8 +20,6 @@ use Rattle.follow.specs.One.{Ended, Finished, FollowedTo, LinesFollowed, followe
 use Rattle.follow.specs.declared.one.Followed.{Followed as Followed·rt}
 use Rattle.follow.specs.declared.one.Lines.{Lines as Lines·rt}
 use Rattle.follow.specs.declared.one.State.{State as State·rt}
-use Rattle.std.specs.Prelude.{Result}
-use Rattle.reasons.specs.declared.Untold.{Untold as Untold·rt}
 use Rattle.follow.specs.declared.one.Told.{Told as Told·rt}
 use Rattle.follow.specs.declared.seen.Line.{Line as Line·rt}
 use Rattle.follow.proofs.one.PlaceLaws.{follow-append}
@@ -117,11 +115,11 @@ none_last [] e = refl
 none_last (x ∷ b) e = absurd (true≢false e)
 
 -- nothing is played any more
-pub ended_here : {m m' : List ℕ} {st : State·rt} {t : Result Told·rt Untold·rt} → m' ≡ m → told_of t ≡ told_at st.script.lines (followed_of st.followed) → Ended m st [] m' t
+pub ended_here : {m m' : List ℕ} {st : State·rt} {t : Told·rt} → m' ≡ m → told_of t ≡ told_at st.script.lines (followed_of st.followed) → Ended m st [] m' t
 unfolding after_lines seen_memory follow_lines
 ended_here {st = st} same e = record { memory = same; told = e ∙ ap (λ (k : ℕ). told_at k (followed_of st.followed)) (omega arith) }
 
-pub finished-none : {m : List ℕ} {st : State·rt} {t : Result Told·rt Untold·rt} → false ≡ not (is_empty (kept_line st.script)) → told_of t ≡ told_at st.script.lines (followed_of st.followed)
+pub finished-none : {m : List ℕ} {st : State·rt} {t : Told·rt} → false ≡ not (is_empty (kept_line st.script)) → told_of t ≡ told_at st.script.lines (followed_of st.followed)
     → Finished m st m t
 finished-none {m} {st} {t} none e =
     record {
@@ -129,7 +127,7 @@ finished-none {m} {st} {t} none e =
       last-number = λ h. ended_here refl e;
     }
 
-pub finished-begun : {m m' : List ℕ} {st st' : State·rt} {t : Result Told·rt Untold·rt} → true ≡ not (is_empty (kept_line st.script)) → FollowedTo m st (newline ∷ []) m' st'
+pub finished-begun : {m m' : List ℕ} {st st' : State·rt} {t : Told·rt} → true ≡ not (is_empty (kept_line st.script)) → FollowedTo m st (newline ∷ []) m' st'
     → told_of t ≡ told_at st'.script.lines (followed_of st'.followed) → Finished m st m' t
 finished-begun {m} {m'} {st} {st'} {t} some g e =
     let b = kept_line st.script in

@@ -11,7 +11,6 @@ use Rattle.rules.specs.Operation.{unreadable}
 use Rattle.reasons.specs.ByPlace.{leaving}
 use Rattle.reasons.specs.Follow.{Followed, Seen, follow_line, follow_lines, moved_up, picked_up, told_at}
 use Rattle.reasons.specs.Why.{Told, told, untold}
-use Rattle.reasons.specs.Numbers.{reason_number}
 use Rattle.std.proofs.lemmas.Option.{same_Some}
 use Rattle.std.specs.Prelude.{Option, None, Some, SomeIff, is_some}
 use Rattle.follow.specs.One.{place_of}
@@ -101,7 +100,7 @@ module _ (i : ℕ) (t : Told) where
 -- as many leave as are told
 pub length-reasons : (o : Option Leaving·rt) → length (reasons_of o) ≡ left_of o
 length-reasons None = refl
-length-reasons (Some l) = length-leaving l.count (reason_number l.first) (reason_number l.later)
+length-reasons (Some l) = length-leaving l.count l.first l.later
 
 place-one_less : (o : Option ℕ) (n : ℕ) → SomeIff o (1 ≤ n) (n - 1) → place_of o ≡ n
 place-one_less None n h = omega (arith, h)

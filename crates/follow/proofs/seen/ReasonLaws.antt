@@ -163,7 +163,7 @@ gone-none m op left f ws some = go left (f ws) some
     go (suc k) none some = absurd (some (omega arith) (sym (none (omega arith))))
 
 pub gone-some : (m : List ℕ) (op : Operation·rt) (left : ℕ) (first later : Reason·rt) → First m op left (Some first) → Later op later
-    → Gone m op left (Some (record { count = left; first = first; later = later }))
+    → Gone m op left (Some (record { count = left; first = reason_number first; later = reason_number later }))
 unfolding First Later Gone
 gone-some m op left first later f l ws some =
     leaving-as left _ (f ws) ∙ ap (leaving left (first_reason (operation_of op ws) (node_at m))) (l ws)

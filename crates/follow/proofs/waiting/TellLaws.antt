@@ -17,7 +17,6 @@ use Rattle.reasons.specs.Why.{why_line}
 use Rattle.script.specs.Written.{Appended}
 use Rattle.script.proofs.read.LineEndLaws.{by-test}
 use Rattle.script.proofs.write.AppendedLaws.{appended-as, appended-none, appended_then}
-use Rattle.reasons.specs.Numbers.{reason_number}
 use Rattle.std.specs.Prelude.{None, Some, is_some}
 use Rattle.follow.specs.Seen.{Sees, reasons_of}
 use Rattle.follow.specs.Text.{why_room}
@@ -93,12 +92,12 @@ module _ (out : List ℕ) (at : ℕ) (ws : List ℕ) (i : ℕ) (g : Leaving·rt)
   putting-start = record { put = appended-none out at; at_most = omega arith }
 
   module _ {out₁ : List ℕ} {end k : ℕ} (p : Putting out at ws i g out₁ end k) where
-    pub putting-more : k < length ws → k < g.count → {out₂ : List ℕ} {end₂ : ℕ} (w r : ℕ) → w ≡ get_or ws k 0 → r ≡ cond (eqb k 0) (reason_number g.first) (reason_number g.later)
+    pub putting-more : k < length ws → k < g.count → {out₂ : List ℕ} {end₂ : ℕ} (w r : ℕ) → w ≡ get_or ws k 0 → r ≡ cond (eqb k 0) g.first g.later
         → Appended out₁ end out₂ end₂ (why_line w r i) → end₂ ≤ end + why_room → Putting out at ws i g out₂ end₂ (k + 1)
     putting-more waits leaves w r ew er a few =
         let rs = reasons_of (Some g) in
-        let n = length-leaving g.count (reason_number g.first) (reason_number g.later) in
-        let reason : r ≡ get_or rs k 0 = er ∙ reason-at g.count (reason_number g.first) (reason_number g.later) k leaves in
+        let n = length-leaving g.count g.first g.later in
+        let reason : r ≡ get_or rs k 0 = er ∙ reason-at g.count g.first g.later k leaves in
         let line : why_line w r i ≡ telling_lines (record { arrival = get_or ws k 0; reason = get_or rs k 0; line = i } ∷ []) =
         ap (λ (x : ℕ). why_line x r i) ew ∙ ap (λ (x : ℕ). why_line (get_or ws k 0) x i) reason ∙ sym (lines-one (get_or ws k 0) (get_or rs k 0) i) in
         record {
@@ -111,7 +110,7 @@ module _ (out : List ℕ) (at : ℕ) (ws : List ℕ) (i : ℕ) (g : Leaving·rt)
     pub putting-end : Fewer (length ws) g.count k → Appended out at out₁ end (telling_lines (tellings i ws (reasons_of (Some g))))
     putting-end f =
         let rs = reasons_of (Some g) in
-        let n = length-leaving g.count (reason_number g.first) (reason_number g.later) in
+        let n = length-leaving g.count g.first g.later in
         appended-as p.put
         (ap telling_lines (⊎_elim (λ h. tellings-all i k ws rs (omega arith)) (λ h. ap (λ (x : List ℕ). tellings i x rs) (take_all k ws h)) f.all))
 

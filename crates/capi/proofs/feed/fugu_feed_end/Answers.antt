@@ -1,7 +1,4 @@
 -- `capi::feed::fugu_feed_end` meets its contract: the script is ended from where it is found. Assumes nothing.
-use native.Mathlib.Omega.{arith}
-use lib.ListN.{length-set}
-use Rattle.capi.proofs.CarriedLaws.{stop-told}
 use Rattle.capi.proofs.FeedLaws.{end-fed, end-unfed}
 use Rattle.capi.proofs.feed.fugu_feed_end.Goals as goal
 
@@ -13,12 +10,8 @@ returns-then-not-lent c =
 pub load_script-requires : goal.load_script-requires
 load_script-requires c = let l = c.lent.ensures.0 c.if-not-lent.false in (l.state, l.line)
 
-pub bounds-part-0 : goal.bounds-part-0
-bounds-part-0 c = let l = c.lent.ensures.0 c.if-not-lent.false in omega arith
-
-pub bounds-part-1 : goal.bounds-part-1
-bounds-part-1 c = let l = c.lent.ensures.0 c.if-not-lent.false in simp length-set (omega arith)
+pub put_end-requires : goal.put_end-requires
+put_end-requires c = (c.lent.ensures.0 c.if-not-lent.false).room
 
 pub returns : goal.returns
-returns c =
-    rw (stop-told c.feed_end-e.result.stop) (end-fed (c.lent.ensures.0 c.if-not-lent.false) c.load_script.ensures c.feed_end-e.ensures)
+returns c = end-fed (c.lent.ensures.0 c.if-not-lent.false) c.load_script.ensures c.feed_end-e.ensures c.put_end.ensures

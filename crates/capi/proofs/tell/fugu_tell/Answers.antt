@@ -1,7 +1,4 @@
 -- `capi::tell::fugu_tell` meets its contract: the state that is found is told on, and the one behind the portion is put in its place. Assumes nothing.
-use native.Mathlib.Omega.{arith}
-use lib.ListN.{length-set}
-use Rattle.capi.proofs.CarriedLaws.{stop-told}
 use Rattle.capi.proofs.TellLaws.{portion-nothing, portion-told}
 use Rattle.capi.proofs.tell.fugu_tell.Goals as goal
 
@@ -17,15 +14,8 @@ load-requires c = let l = c.lent.ensures.0 c.if-not-lent.false in (l.state, l.li
 pub save-requires : goal.save-requires
 save-requires c = let l = c.lent.ensures.0 c.if-not-lent.false in (l.state, l.line)
 
-pub bounds-part-0 : goal.bounds-part-0
-bounds-part-0 c = let l = c.lent.ensures.0 c.if-not-lent.false in omega arith
-
-pub bounds-part-1 : goal.bounds-part-1
-bounds-part-1 c = let l = c.lent.ensures.0 c.if-not-lent.false in simp length-set (omega arith)
-
-pub bounds-part-2 : goal.bounds-part-2
-bounds-part-2 c = let l = c.lent.ensures.0 c.if-not-lent.false in simp length-set (omega arith)
+pub put_portion-requires : goal.put_portion-requires
+put_portion-requires c = (c.lent.ensures.0 c.if-not-lent.false).room
 
 pub returns : goal.returns
-returns c =
-    rw (stop-told c.tell-t.result.stop) (portion-told (c.lent.ensures.0 c.if-not-lent.false) c.load.ensures c.tell-t.ensures c.save.ensures)
+returns c = portion-told (c.lent.ensures.0 c.if-not-lent.false) c.load.ensures c.tell-t.ensures c.save.ensures c.put_portion.ensures

@@ -1,7 +1,4 @@
 -- `capi::tell::fugu_tell_end` meets its contract: the state that is found is ended. Assumes nothing.
-use native.Mathlib.Omega.{arith}
-use lib.ListN.{length-set}
-use Rattle.capi.proofs.CarriedLaws.{stop-told}
 use Rattle.capi.proofs.TellLaws.{end-nothing, end-told}
 use Rattle.capi.proofs.tell.fugu_tell_end.Goals as goal
 
@@ -13,12 +10,8 @@ returns-then-not-lent c =
 pub load-requires : goal.load-requires
 load-requires c = let l = c.lent.ensures.0 c.if-not-lent.false in (l.state, l.line)
 
-pub bounds-part-0 : goal.bounds-part-0
-bounds-part-0 c = let l = c.lent.ensures.0 c.if-not-lent.false in omega arith
-
-pub bounds-part-1 : goal.bounds-part-1
-bounds-part-1 c = let l = c.lent.ensures.0 c.if-not-lent.false in simp length-set (omega arith)
+pub put_end-requires : goal.put_end-requires
+put_end-requires c = (c.lent.ensures.0 c.if-not-lent.false).room
 
 pub returns : goal.returns
-returns c =
-    rw (stop-told c.finish-e.result.stop) (end-told (c.lent.ensures.0 c.if-not-lent.false) c.load.ensures c.finish-e.ensures)
+returns c = end-told (c.lent.ensures.0 c.if-not-lent.false) c.load.ensures c.finish-e.ensures c.put_end.ensures

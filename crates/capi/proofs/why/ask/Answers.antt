@@ -5,7 +5,7 @@ use Rattle.capi.proofs.why.ask.Goals as goal
 
 pub returns-then-started-ne0 : goal.returns-then-started-ne0
 returns-then-started-ne0 c =
-    asked-refused c.args.memory.now c.args.script.now c.args.line c.power_on-started.ensures c.if-started-ne0.true
+    asked-refused c.args.memory.now c.args.script.now c.args.line c.power_on-started.ensures c.if-started-ne0.true c.from.ensures
 
 pub returns : goal.returns
 returns c =

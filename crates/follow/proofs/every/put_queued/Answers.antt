@@ -13,8 +13,8 @@ use borrow.Author.Rules.{rules}
 use Rattle.follow.proofs.every.put_queued.Goals as goal
 
 pub put_left-requires : goal.put_left-requires
-put_left-requires c = let f = (waiting_few c.args.state c.fewer-count.result (let l : 16 ≡ length c.args.state.waiting = search rules in omega arith) (fewer-said c.args.state.count paper01.places c.fewer-count.ensures)).1 in (c.requires, ((let l : 16 ≡ length c.args.state.waiting = search rules in omega arith), f))
+put_left-requires c = let l : 16 ≡ length c.args.state.waiting = search rules in let w = waiting_few c.args.state c.fewer-count.result (omega arith) (fewer-said c.args.state.count paper01.places c.fewer-count.ensures) in let f = w.1 in let k = length-take-le c.fewer-count.result c.args.state.waiting (omega arith) in (c.requires, omega arith)
 
 pub returns : goal.returns
-returns c = let w = waiting_few c.args.state c.fewer-count.result (let l : 16 ≡ length c.args.state.waiting = search rules in omega arith) (fewer-said c.args.state.count paper01.places c.fewer-count.ensures) in let k = length-take-le c.fewer-count.result c.args.state.waiting (let f = w.1 in let l : 16 ≡ length c.args.state.waiting = search rules in omega arith) in
-    (appended-as c.put_left.ensures.0 (ap telling_lines (queued-told c.args.state.script.lines (take c.fewer-count.result c.args.state.waiting) (let f = w.1 in omega arith) ∙ ap (tell_queued c.args.state.script.lines) w.0)), refl)
+returns c = let l : 16 ≡ length c.args.state.waiting = search rules in let w = waiting_few c.args.state c.fewer-count.result (omega arith) (fewer-said c.args.state.count paper01.places c.fewer-count.ensures) in let f = w.1 in let k = length-take-le c.fewer-count.result c.args.state.waiting (omega arith) in
+    (appended-as c.put_left.ensures.0 (ap telling_lines (queued-told c.args.state.script.lines (take c.fewer-count.result c.args.state.waiting) (omega arith) ∙ ap (tell_queued c.args.state.script.lines) w.0)), refl)

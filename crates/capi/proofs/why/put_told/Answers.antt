@@ -1,9 +1,9 @@
--- `capi::why::put_words` meets its contract: four words, one behind the other; a line number's high half is a word, since the number has 64 bits.
+-- `capi::why::put_told` meets its contract: four words, one behind the other; a line number's high half is a word, since the number has 64 bits.
 -- Assumes nothing.
 use native.Mathlib.Omega.{arith}
 use lib.ListN.{length-set}
 use Rattle.capi.proofs.WhyLaws.{why-written}
-use Rattle.capi.proofs.why.put_words.Goals as goal
+use Rattle.capi.proofs.why.put_told.Goals as goal
 
 pub bounds-part-1 : goal.bounds-part-1
 bounds-part-1 c = simp length-set (omega arith)
@@ -12,4 +12,4 @@ pub bounds-part-2 : goal.bounds-part-2
 bounds-part-2 c = simp length-set (omega arith)
 
 pub returns : goal.returns
-returns c = why-written c.args.part.now (record { answer = c.args.answer; reason = c.args.reason; line = c.args.line }) c.requires
+returns c = why-written c.args.part.now c.args.told c.requires

@@ -33,9 +33,6 @@ impl Player for Listing {
 
     ghost ends = { λ m p out m' out' a. Finished m p.state m' };
 
-    // A listing is not done before the end of its script.
-    ghost settles = { λ p a. ⊥ };
-
     ghost room = { line_room };
 
     ghost leads = { reaches_leads };
@@ -67,10 +64,6 @@ impl Player for Listing {
             self.play(rt, memory, b"\n", out)?;
         }
         Ok(())
-    }
-
-    fn settled(&self) -> Option<()> {
-        None
     }
 }
 

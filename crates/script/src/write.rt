@@ -74,8 +74,8 @@ impl Counter {
         self.len += 1;
     }
 
-    // The number. All twenty places are copied, from an array that the output can't overlap, which is faster than to copy some; what stands
-    // behind the number is written over next.
+    // The number. All twenty places are copied, from an array that the output can't overlap: the compiler then moves them as words, and byte by
+    // byte where they might overlap or their count isn't known. What stands behind the number is written over next.
     pub fn put(&self, out: &mut [u8], at: usize) -> usize
         requires room { at + places ≤ length out.old }
         requires counting { Counting self.now }

@@ -28,8 +28,8 @@ pub trait Player: Sized + Drop {
     // the answer at the end of the input,
     ghost ends: { End Self Self.Answer };
 
-    // the one that is settled before it,
-    ghost settles: { Self → Self.Answer → Type 0 };
+    // the one that is settled before it, where a player has such a one,
+    ghost settles: { Self → Self.Answer → Type 0 } = { λ _ _. ⊥ };
 
     // and how long the output has to be.
     ghost room: { ℕ };
@@ -58,7 +58,10 @@ pub trait Player: Sized + Drop {
 
     // The answer, where nothing that follows can change it.
     fn settled(&self) -> Option<Self::Answer>
-        ensures { IfSome result (λ answer. settles self.now answer) };
+        ensures { IfSome result (λ answer. settles self.now answer) }
+    {
+        None
+    }
 
     ghost leads: { Leads reaches };
 }

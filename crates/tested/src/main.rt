@@ -9,7 +9,7 @@ ghost use Rattle.tested.specs.Counted.{CountsTo};
 use memory::Node;
 use memory::map::SIZE;
 use script::line;
-use script::read::end_of_line;
+use script::read::NEWLINE;
 use script::write::{Counter, LINE_ROOM, put_header, put_line};
 
 // Standard input and standard output.
@@ -57,15 +57,18 @@ fn list_all(
     requires room { (from ≤ length out.old) × (line_room ≤ length out.old) }
     requires few { length script.now ≤ 65536 }
     requires counts { CountsTo counter.old 4200000 }
-    ensures { (result ≤ length out.new) × ((most : ℕ) → CountsTo counter.old most → CountsTo counter.new (most + 65537)) }
+    ensures { (result ≤ length out.new) × ((most : ℕ) → CountsTo counter.old most → CountsTo counter.new (most + 65536)) }
 {
     let mut at = from;
-    let mut used = 0;
-    while used < script.len() {
-        let end = end_of_line(script, used);
+    for text in script.split_inclusive(|b| *b == NEWLINE) {
         let start = room(out, at);
-        at = list(memory, &script[used..end], out, counter, start);
-        used = end + 1;
+        at = list(
+            memory,
+            text.strip_suffix(&[NEWLINE]).unwrap_or(text),
+            out,
+            counter,
+            start,
+        );
     }
     at
 }

@@ -1,6 +1,6 @@
 -- `tested::main` is safe and ends: at each turn of the loop the line number is at most what the times so far can have counted. Assumes nothing.
 use native.Mathlib.Omega.{arith}
-use mathlib.Core.Path.{refl, sym}
+use mathlib.Core.Path.{sym}
 use lib.Seq.{length-take-le}
 use Rattle.script.proofs.write.ListingLaws.{header-length}
 use Rattle.tested.proofs.CountedLaws.{counts-within}

@@ -7,4 +7,4 @@ use Rattle.tested.proofs.main.Given as goal
 
 abbrev pub invariant-loop : goal.invariant-loop
 invariant-loop l =
-    (length l.memory ≡ 8104) × ((length l.out ≡ 65536) × ((l.at ≤ 65536) × CountsTo l.number (65537 * l.counter)))
+    (length l.memory ≡ 8104) × ((length l.out ≡ 65536) × ((l.at ≤ 65536) × CountsTo l.number (65536 * l.counter)))

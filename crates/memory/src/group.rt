@@ -47,33 +47,35 @@ impl Group {
 }
 
 // Those of group g.
+#[tactic(auto, unfolding(rules::specs::Memory::group_address, rules::specs::Memory::word))]
 pub fn read(m: &[u32], g: u32) -> Group
     requires { InGroup m.now g count_offset }
     ensures { result ≡ group_read m.now g }
 {
     let a = map::group_at(g);
     Group {
-        atomic: m[a],
-        pending: m[a + 1],
-        force: m[a + 2],
-        revoked: m[a + 3],
-        used: m[a + 4],
-        count: m[a + 5],
+        atomic: m[a + map::ATOMIC],
+        pending: m[a + map::PENDING],
+        force: m[a + map::FORCE],
+        revoked: m[a + map::REVOKED],
+        used: m[a + map::USED],
+        count: m[a + map::COUNT],
     }
 }
 
 // The same, written.
+#[tactic(auto, unfolding(rules::specs::Memory::group_address))]
 pub fn write(m: &mut [u32], g: u32, x: Group)
     requires { InGroup m.old g count_offset }
     ensures { Wrote m.old m.new (group_address g) (group_front x) }
 {
     let a = map::group_at(g);
-    m[a] = x.atomic;
-    m[a + 1] = x.pending;
-    m[a + 2] = x.force;
-    m[a + 3] = x.revoked;
-    m[a + 4] = x.used;
-    m[a + 5] = x.count;
+    m[a + map::ATOMIC] = x.atomic;
+    m[a + map::PENDING] = x.pending;
+    m[a + map::FORCE] = x.force;
+    m[a + map::REVOKED] = x.revoked;
+    m[a + map::USED] = x.used;
+    m[a + map::COUNT] = x.count;
 }
 
 // Whether the buffer of group g holds messages.

@@ -47,6 +47,7 @@ impl Line {
     }
 
     // The number at index i leaves, and those behind it move up.
+    #[tactic(auto, unfolding(rules::specs::Memory::word))]
     pub fn leave(self, m: &mut [u32], i: usize) -> u32
         requires in_line { InLine m.old self.count self.first }
         requires i_bound { i < word m.old self.count }
@@ -60,6 +61,7 @@ impl Line {
     }
 
     // The number x joins the end.
+    #[tactic(auto, unfolding(rules::specs::Memory::word))]
     pub fn join(self, m: &mut [u32], x: u32)
         requires in_line { InLine m.old self.count self.first }
         requires count_bound { (word m.old self.count < page_count paper01) × (self.first + word m.old self.count < length m.old) }

@@ -116,6 +116,7 @@ pub fn place_at(f: u32, place: u32) -> usize
 }
 
 // Word k of the record of group g.
+#[tactic(auto, unfolding(rules::specs::Memory::group_address, rules::specs::Memory::word))]
 pub fn group_word(m: &[u32], g: u32, k: usize) -> u32
     requires { InGroup m.now g k }
     ensures { result ≡ word m.now (group_address g + k) }
@@ -124,6 +125,7 @@ pub fn group_word(m: &[u32], g: u32, k: usize) -> u32
 }
 
 // The same, written.
+#[tactic(auto, unfolding(rules::specs::Memory::group_address))]
 pub fn set_group_word(m: &mut [u32], g: u32, k: usize, x: u32)
     requires { InGroup m.old g k }
     ensures { Wrote m.old m.new (group_address g + k) (x ∷ []) }

@@ -23,6 +23,7 @@ pub fn traded(x: u32, p: u32, q: u32) -> u32
 }
 
 // The same in the list of group g.
+#[tactic(auto, unfolding(rules::specs::Memory::group_address))]
 pub fn trade_list(m: &mut [u32], g: u32, p: u32, q: u32)
     requires in_group { InGroup m.old g held_offset }
     requires held_offset_bound { word m.old (group_address g + held_offset) ≤ page_count paper01 }
@@ -46,6 +47,7 @@ pub fn trade(m: &mut [u32], p: u32, q: u32)
 }
 
 // Where page p stands.
+#[tactic(auto, unfolding(rules::specs::Memory::frame_address))]
 pub fn page_at(p: u32) -> usize
     requires { p < page_count paper01 }
     ensures { result ≡ frame_address p }
@@ -67,6 +69,7 @@ pub fn move_page(m: &mut [u32], p: u32, q: u32)
 }
 
 // The pages in f and p, which is behind it, trade places.
+#[tactic(auto, unfolding(rules::specs::Memory::frame_address))]
 pub fn swap_pages(m: &mut [u32], f: u32, p: u32)
     requires f_lt_p { (f < p) × (p < page_count paper01) }
     requires listing { Listing m.old }
@@ -91,8 +94,7 @@ pub fn count(m: &mut [u32], at: usize)
     requires { at < length m.old }
     ensures { Wrote m.old m.new at (more (word m.old at) ∷ []) }
 {
-    let k = more(m[at]);
-    m[at] = k;
+    m[at] = more(m[at]);
 }
 
 // The running group, where one runs and has a page.

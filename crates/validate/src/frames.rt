@@ -238,8 +238,8 @@ fn in_frame(places: u32) -> u32
     places.min(Node::PER_FRAME)
 }
 
-// "waiting messages' lengths"; "a waiting message's words past its length are 0": of those in the buffer of group g, page by page,
-// so that a page's number is read once and not for each of its places
+// "waiting messages' lengths"; "a waiting message's words past its length are 0": of those in the buffer of group g, page by page, so that a page's
+// number is read once and not for each of its places. It is a loop, since `all` over the pages takes 6 instructions more in a hundred of the test.
 fn waiting_good(m: &[u32], g: u32) -> bool
     requires { Framed m.now g }
     ensures { waiting_good m.now g ≡ result }

@@ -6,14 +6,14 @@ ghost use Rattle.rules.specs.Memory.{word, queued_at};
 ghost use Rattle.validate.specs.Clauses.{message_good, buffer_good, numbers_good};
 ghost use Rattle.validate.specs.Known.{Counted};
 
-use crate::GROUPS_END;
+use crate::{GROUPS_END, PAGE_COUNT};
 use memory::Node;
 use memory::map::{
     COUNT, GROUP, HELD, LENGTH, QUEUED, RUNNING, TIMER, USED, frames_for, group_word, queue_word,
 };
 
 // The messages that all frames and swap pages hold.
-const ROOM: u32 = 768;
+const ROOM: u32 = PAGE_COUNT * Node::PER_FRAME;
 
 // "groups, waiting messages' lengths .. are within the bounds above": those of the i-th in the queue
 fn message_good(m: &[u32], i: u32) -> bool

@@ -161,7 +161,7 @@ fn messages_unused(m: &[u32]) -> bool
 }
 
 // "unused places of the queue, free line and lists, unused descriptor words and a waiting message's words past its length are 0"
-#[tactic(auto, unfolding(rules::specs::MemoryTest::unused_are_zero, rules::specs::MemoryTest::free_unused, rules::specs::MemoryTest::swap_unused, rules::specs::MemoryTest::entered_unused))]
+#[tactic(auto, unfolding(rules::specs::Memory::word, rules::specs::MemoryTest::unused_are_zero, rules::specs::MemoryTest::free_unused, rules::specs::MemoryTest::swap_unused, rules::specs::MemoryTest::entered_unused))]
 pub fn unused_are_zero(m: &[u32]) -> bool
     requires { Counted m.now }
     ensures { unused_are_zero m.now ≡ result }

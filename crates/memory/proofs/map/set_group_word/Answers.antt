@@ -6,18 +6,6 @@ use Rattle.memory.proofs.group.GroupLaws.{record-within}
 use Rattle.memory.proofs.WriteLaws.{wrote-set}
 use Rattle.memory.proofs.map.set_group_word.Goals as goal
 
-pub overflow_add-m : goal.overflow_add-m
-unfolding group_address
-overflow_add-m c = omega arith
-
-pub offset_bounds-m-group_at : goal.offset_bounds-m-group_at
-unfolding group_address
-offset_bounds-m-group_at c = omega arith
-
-pub bounds-m-group_at : goal.bounds-m-group_at
-unfolding group_address
-bounds-m-group_at c = omega arith
-
 pub returns : goal.returns
 returns c =
     let a = c.args in

@@ -8,4 +8,4 @@ pub returns : goal.returns
 unfolding word
 returns c =
     let a = c.args in
-    rw c.more-k.ensures (wrote-set a.m.now a.at (more (word a.m.now a.at)) c.requires)
+    rw c.more.ensures (wrote-set a.m.now a.at (more (word a.m.now a.at)) c.requires)

@@ -1,12 +1,6 @@
 -- `memory::paging::swap_pages` meets its contract. Assumes nothing.
-use native.Mathlib.Omega.{arith}
-use Rattle.rules.specs.Memory.{frame_address}
 use Rattle.memory.proofs.paging.TradeLaws.{swapped-listing}
 use Rattle.memory.proofs.paging.swap_pages.Goals as goal
-
-pub swap-requires : goal.swap-requires
-unfolding frame_address
-swap-requires c = omega arith
 
 pub trade-requires : goal.trade-requires
 trade-requires c =

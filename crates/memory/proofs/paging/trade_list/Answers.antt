@@ -11,22 +11,6 @@ use Rattle.rules.specs.Memory.{group_address, held_offset, list_at, list_offset,
 use Rattle.memory.proofs.paging.TradeLaws.{list-changed}
 use Rattle.memory.proofs.paging.trade_list.Goals as goal
 
-pub overflow_add-at : goal.overflow_add-at
-unfolding group_address
-overflow_add-at c = omega arith
-
-pub overflow_add-x-items : goal.overflow_add-x-items
-unfolding group_address
-overflow_add-x-items c = omega arith
-
-pub offset_bounds-m-at : goal.offset_bounds-m-at
-unfolding group_address
-offset_bounds-m-at c = omega arith
-
-pub slice_bounds-x-items-end : goal.slice_bounds-x-items-end
-unfolding group_address
-slice_bounds-x-items-end c = omega arith
-
 pub loop-x-preserved : goal.loop-x-preserved
 loop-x-preserved c =
     let xs = c.loop-x.x-items in

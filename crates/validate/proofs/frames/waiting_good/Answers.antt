@@ -32,9 +32,6 @@ within : (c : In-loop)
     c.loop-p.p < word s.m.now (group_address s.g + used_offset) + word s.m.now (group_address s.g + count_offset)
 within c = omega arith
 
-pub overflow_cast-p : goal.overflow_cast-p
-overflow_cast-p c = omega arith
-
 pub overflow_add-p : goal.overflow_add-p
 overflow_add-p c =
     omega (arith, listed-inside c.args.m.now c.args.g c.requires c.loop-p.p (within c.before))
@@ -48,12 +45,6 @@ group_word-f-requires c =
 frame : (c : After-group_word3) → c.group_word-f.result < 96
 frame c =
     listed-frame c.args.m.now c.args.g c.requires c.loop-p.p (within c.before) c.group_word-f.result c.group_word-f.ensures
-
-pub overflow_sub-first : goal.overflow_sub-first
-overflow_sub-first c = omega arith
-
-pub overflow_sub-end : goal.overflow_sub-end
-overflow_sub-end c = omega arith
 
 pub places_waiting-requires : goal.places_waiting-requires
 places_waiting-requires c =
@@ -72,9 +63,6 @@ returns-then-not-places_waiting c =
 pub overflow_add-p-in-loop-p : goal.overflow_add-p-in-loop-p
 overflow_add-p-in-loop-p c =
     omega (arith, room c.args.m.now c.args.g c.requires, c.requires.few)
-
-pub loop-p-smaller : goal.loop-p-smaller
-loop-p-smaller c = omega arith
 
 pub loop-p-preserved : goal.loop-p-preserved
 loop-p-preserved c =

@@ -6,26 +6,6 @@ use Rattle.rules.specs.Memory.{word}
 use Rattle.memory.proofs.WriteLaws.{wrote-set}
 use Rattle.memory.proofs.lines.Line.join.Goals as goal
 
-pub overflow_cast-m : goal.overflow_cast-m
-unfolding word
-overflow_cast-m c = omega arith
-
-pub overflow_add-m : goal.overflow_add-m
-unfolding word
-overflow_add-m c = omega arith
-
-pub offset_bounds-m-self-2 : goal.offset_bounds-m-self-2
-unfolding word
-offset_bounds-m-self-2 c = omega arith
-
-pub bounds-m-self-2 : goal.bounds-m-self-2
-unfolding word
-bounds-m-self-2 c = omega arith
-
-pub overflow_add-m-2 : goal.overflow_add-m-2
-unfolding word
-overflow_add-m-2 c = omega arith
-
 pub returns : goal.returns
 unfolding word
 returns c =

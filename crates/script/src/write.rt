@@ -1,10 +1,10 @@
 // The listing written: numbers, the line number kept as text, a report's line and the header.
-ghost use Rattle.std.specs.Prelude.{ℕ, ◌+◌, ◌≤◌, ◌<◌, length, take};
+ghost use Rattle.std.specs.Prelude.{ℕ, ◌+◌, ◌*◌, ◌≤◌, ◌<◌, length};
 ghost use Rattle.rules.specs.Build.{word_limit};
 ghost use Rattle.rules.specs.Script.{header};
 ghost use Rattle.rules.specs.Text.{decimal};
 ghost use Rattle.script.specs.Written.{Appended, field, places, Counts, Counting, Countable};
-ghost use Rattle.script.specs.Written.{fields, sent_numbers, behind_number, Line, field_room, words_room, sent_room, report_room, line_room};
+ghost use Rattle.script.specs.Written.{fields, sent_numbers, behind_number, Line, field_room, sent_room, report_room, line_room};
 
 use crate::read::NEWLINE;
 use memory::words::copy_all;
@@ -87,14 +87,14 @@ impl Counter {
     }
 }
 
-// The first `len` of the words, each as a field.
-fn put_words(out: &mut [u8], at: usize, words: [u32; 8], len: u32) -> usize
-    requires { (len ≤ word_limit) × (at + words_room ≤ length out.old) }
-    ensures { Appended out.old at out.new result (fields (take len words)) × (result ≤ at + words_room) }
+// Numbers, each as a field.
+fn put_fields(out: &mut [u8], at: usize, numbers: &[u32]) -> usize
+    requires { at + field_room * length numbers.now ≤ length out.old }
+    ensures { Appended out.old at out.new result (fields numbers.now) × (result ≤ at + field_room * length numbers.now) }
 {
     let mut end = at;
-    for word in &words[..len as usize] {
-        end = put_field(out, end, *word);
+    for number in numbers {
+        end = put_field(out, end, *number);
     }
     end
 }
@@ -104,14 +104,12 @@ fn put_sent(out: &mut [u8], at: usize, s: Sent) -> usize
     requires { (s.len ≤ word_limit) × (at + sent_room ≤ length out.old) }
     ensures { Appended out.old at out.new result (fields (sent_numbers s)) × (result ≤ at + sent_room) }
 {
-    let len = s.len;
-    if len == 0 {
+    if s.len == 0 {
         return at;
     }
     let node = put_field(out, at, s.node);
     let group = put_field(out, node, s.group);
-    let words = s.words;
-    put_words(out, group, words, len)
+    put_fields(out, group, &s.words[..s.len as usize])
 }
 
 // A line of the listing behind its number.
@@ -119,13 +117,8 @@ fn put_report(out: &mut [u8], at: usize, r: Report) -> usize
     requires { (r.sent.len ≤ word_limit) × (at + report_room ≤ length out.old) }
     ensures { Appended out.old at out.new result (behind_number r) × (result ≤ at + report_room) }
 {
-    let answer = put_field(out, at, r.answer);
-    let value = put_field(out, answer, r.value);
-    let trap = put_field(out, value, r.trap);
-    let upcall = put_field(out, trap, r.upcall);
-    let moved = put_field(out, upcall, r.moved);
-    let s = r.sent;
-    let end = put_sent(out, moved, s);
+    let fields = put_fields(out, at, &[r.answer, r.value, r.trap, r.upcall, r.moved]);
+    let end = put_sent(out, fields, r.sent);
     out[end] = NEWLINE;
     end + 1
 }

@@ -79,10 +79,10 @@ sent-fields s e = append_assoc (field s.node) (field s.group) (fields (take s.le
 
 -- what stands behind a line's number is fields and the newline
 pub behind-fields : (r : Report·rt)
-    → ((((((field r.answer ++ field r.value) ++ field r.trap) ++ field r.upcall) ++ field r.moved) ++ fields (sent_numbers r.sent)) ++ (newline ∷ []))
-    ≡ behind_number r
-unfolding behind_number fields
-behind-fields r = simp append_assoc
+    → (fields (r.answer ∷ r.value ∷ r.trap ∷ r.upcall ∷ r.moved ∷ []) ++ fields (sent_numbers r.sent)) ++ (newline ∷ []) ≡ behind_number r
+unfolding behind_number
+behind-fields r =
+    ap (λ (t : List ℕ). t ++ (newline ∷ [])) (sym (fields-append (r.answer ∷ r.value ∷ r.trap ∷ r.upcall ∷ r.moved ∷ []) (sent_numbers r.sent)))
 
 -- what was sent is read back from the report
 pub listed-sent : {q : Report} → Listed q → sent_numbers (sent_of q.sent) ≡ q.sent

@@ -6,16 +6,16 @@ use Rattle.script.proofs.write.AppendedLaws.{appended-none, appended-as, appende
 use Rattle.script.proofs.write.ListingLaws.{fields-none, sent-none, sent-fields}
 use Rattle.script.proofs.write.put_sent.Goals as goal
 
-pub returns-then-len-eq0 : goal.returns-then-len-eq0
-returns-then-len-eq0 c =
+pub returns-then-s-eq0 : goal.returns-then-s-eq0
+returns-then-s-eq0 c =
     let a = c.args in
-    (appended-as (appended-none a.out.now a.at) (sym (ap fields (sent-none a.s c.if-len-eq0.true) ∙ fields-none)), omega arith)
+    (appended-as (appended-none a.out.now a.at) (sym (ap fields (sent-none a.s c.if-s-eq0.true) ∙ fields-none)), omega arith)
 
 pub returns : goal.returns
 returns c =
-    let words = c.put_words.ensures in
+    let words = c.put_fields.ensures in
     let group = c.put_field-group.ensures in
     let node = c.put_field-node.ensures in (
-      appended-as (appended_then (appended_then node.0 group.0) words.0) (sent-fields c.args.s c.if-len-eq0.false),
+      appended-as (appended_then (appended_then node.0 group.0) words.0) (sent-fields c.args.s c.if-s-eq0.false),
       omega (arith, node.1, group.1, words.1),
     )

@@ -136,7 +136,7 @@ fn request(memory: &mut [u32], op: Operation) -> Result<Act, Refusal>
         }
         Operation::EndAtomic => section::end(memory),
         Operation::Describe(w) => Ok(Act::Done(user::describe(memory, w)?)),
-        Operation::Launch(k) => user::launch(memory, k),
+        Operation::Launch(k) => user::launchable(memory, k),
         _ => Err(Refusal::Unreadable),
     }
 }

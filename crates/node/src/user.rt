@@ -55,8 +55,8 @@ pub fn describe(m: &mut [u32], w: u32) -> Result<u32, Refusal>
     Ok(next.len)
 }
 
-// L: whether the running group's descriptor may be sent to this node.
-pub fn launch(m: &[u32], to: u32) -> Result<Act, Refusal>
+// L, before it is accepted: whether the running group's descriptor may be sent to this node. `send` sends it.
+pub fn launchable(m: &[u32], to: u32) -> Result<Act, Refusal>
     requires { IsRunning m.now }
     ensures { ActsFor m.now m.now (launch to) result }
 {

@@ -50,9 +50,9 @@ pub describe-requires : goal.describe-requires
 unfolding word
 describe-requires c = running c.args.memory.now c.requires c.if-memory-eq0.false
 
-pub launch-requires : goal.launch-requires
+pub launchable-requires : goal.launchable-requires
 unfolding word
-launch-requires c = running c.args.memory.now c.requires c.if-memory-eq0.false
+launchable-requires c = running c.args.memory.now c.requires c.if-memory-eq0.false
 
 -- the request that is asked, by its Rattle name
 asked : (op o : Operation·rt) (q : Request) → op ≡ o → operation_of op [] ≡ user q → operation_of o [] ≡ user q
@@ -94,7 +94,7 @@ returns-in_err-describe-in-Describe c q e n r h v =
 
 pub returns-in-Launch : goal.returns-in-Launch
 unfolding word operation_of
-returns-in-Launch c q e n r h v = rw (← asked c.args.op _ q c.in-Launch.is e) (c.launch.ensures n r h (somebody-runs h c.if-memory-eq0.false v))
+returns-in-Launch c q e n r h v = rw (← asked c.args.op _ q c.in-Launch.is e) (c.launchable.ensures n r h (somebody-runs h c.if-memory-eq0.false v))
 
 pub returns-in_default : goal.returns-in_default
 returns-in_default c q e n r h v = absurd (not-request c.args.op c.in_default.in_default-own.keys8 q e)

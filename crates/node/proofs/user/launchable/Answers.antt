@@ -1,11 +1,11 @@
--- `node::user::launch` meets its contract. The running group's descriptor is read; without words it is empty, and a node above 63 is none;
+-- `node::user::launchable` meets its contract. The running group's descriptor is read; without words it is empty, and a node above 63 is none;
 -- else it is to be sent, and nothing is changed yet. Assumes nothing.
 use native.Mathlib.Omega.{arith}
 use mathlib.Core.Path.{refl}
 use Rattle.rules.specs.Memory.{word}
 use Rattle.memory.proofs.PieceLaws.{holds-pieces}
 use Rattle.node.proofs.user.SendLaws.{launch-empty, launch-far, launch-ready, runner-there}
-use Rattle.node.proofs.user.launch.Goals as goal
+use Rattle.node.proofs.user.launchable.Goals as goal
 
 pub bounds-m-0 : goal.bounds-m-0
 bounds-m-0 c = omega (arith, (holds-pieces c.requires.holds).long)

@@ -107,7 +107,8 @@ fn queue_unused(m: &[u32]) -> bool
     )
 }
 
-// Of a line with room for so many numbers: those of the free line, of the swap line, of the order of entry and of a list.
+// "unused places of the .. free line and lists .. are 0", and so those of the swap line; the order of entry has "its unused places 0": those of a
+// line with room for so many numbers
 #[tactic(auto, unfolding(rules::specs::Memory::word))]
 fn line_unused(m: &[u32], line: Line, room: usize) -> bool
     requires in_bounds { (line.count < length m.now) × (line.first + room ≤ length m.now) }

@@ -1,6 +1,6 @@
 -- What the calls tell by which every message is told of: the state behind a portion in the words and bytes, the numbers in the part; or nothing, where one of
 -- them is too short. Assumes nothing.
-use Prim.Native.Nat.{ℕ, ◌≤◌}
+use Prim.Native.Nat.{ℕ}
 use mathlib.Core.List.{List, ◌∷◌}
 use mathlib.Core.Path.{◌≡◌, ◌∙◌, ap, refl, subst, sym}
 use lib.ListN.{length, drop, get_or}

@@ -1,5 +1,4 @@
 -- `capi::part::put_portion` meets its contract: a third word behind those of the end. Assumes nothing.
-use native.Mathlib.Omega.{arith}
 use Rattle.script.specs.Play.{stop_number}
 use Rattle.capi.proofs.CarriedLaws.{portion-words}
 use Rattle.capi.proofs.part.put_portion.Goals as goal

@@ -15,9 +15,6 @@ use Rattle.follow.proofs.every.tell.Goals as goal
 pub returns-then-lines-input : goal.returns-then-lines-input
 returns-then-lines-input c = record { enough = λ h. absurd (let t = c.if-lines-input.true in omega arith); last-number = λ h. (refl, (refl, refl)) }
 
-pub kept_count-begun-requires : goal.kept_count-begun-requires
-kept_count-begun-requires c = let l : 130 ≡ length c.args.state.script.kept = search rules in omega arith
-
 pub tell_lines-r-requires : goal.tell_lines-r-requires
 unfolding kept_line
 tell_lines-r-requires c = let z : c.behind_last-last.result - 0 ≡ c.behind_last-last.result = omega arith in rw z (portion-tellable c.args.memory.now c.args.state c.kept_count-begun.result (let t = c.if-lines-input.false in omega arith) c.behind_last-last.ensures c.kept_count-begun.ensures.1 c.is_node-good.ensures (let l : 130 ≡ length c.args.state.script.kept = search rules in omega arith) c.kept_count-begun.ensures.0 c.fewer-count.result (let l : 16 ≡ length c.args.state.waiting = search rules in omega arith) (waiting_few c.args.state c.fewer-count.result (let l : 16 ≡ length c.args.state.waiting = search rules in omega arith) (fewer-said c.args.state.count paper01.places c.fewer-count.ensures)).1)

@@ -12,14 +12,8 @@ use Rattle.follow.proofs.every.tell_lines.Goals as goal
 pub loop-r-init : goal.loop-r-init
 loop-r-init c = (refl, (refl, (refl, (refl, (refl, (refl, telling-start c.args.out.now c.requires))))))
 
-pub overflow_sub-out : goal.overflow_sub-out
-overflow_sub-out c = let v = c.loop-r.invariant in let g = v.1.1.1.1.1.1 in g.within
-
 pub next-l-requires : goal.next-l-requires
 next-l-requires c = let v = c.loop-r.invariant in let g = v.1.1.1.1.1.1 in passed-next g.passed c.requires.ahead.known (let l = v.1.0 in let r = c.requires.ahead.room in omega arith) c.loop-r-test.true (let f = v.1.1.1.1.0 in omega arith)
-
-pub overflow_add-i : goal.overflow_add-i
-overflow_add-i c = let v = c.loop-r.invariant in let g = v.1.1.1.1.1.1 in let f = g.passed.few in let t = c.loop-r-test.true in let n = c.requires.ahead.numbers in omega arith
 
 pub tell_line-w-requires : goal.tell_line-w-requires
 tell_line-w-requires c = let v = c.loop-r.invariant in let g = v.1.1.1.1.1.1 in record { all = v.1.1.0 ∙ c.requires.all; few = g.few; room = let w = g.within in let r = c.if-out-r-lt-LINES_ROOM.false in omega arith }
@@ -30,32 +24,8 @@ loop-r-smaller c = let f = next-forward c.args.whole.now c.loop-r.r.used c.next-
 pub loop-r-preserved : goal.loop-r-preserved
 loop-r-preserved c = let v = c.loop-r.invariant in let g = v.1.1.1.1.1.1 in (c.next-l.auto.memory ∙ v.0, (c.next-l.auto.kept ∙ v.1.0, (c.tell_line-w.auto.waiting ∙ v.1.1.0, (c.tell_line-w.auto.out ∙ v.1.1.1.0, (c.next-l.auto.fields ∙ v.1.1.1.1.0, (refl, telling-more g c.loop-r-test.true c.next-l.ensures c.tell_line-w.ensures (let w = g.within in let r = c.if-out-r-lt-LINES_ROOM.false in omega arith) c.tell_line-w.auto.out))))))
 
-pub shape_of-memory-after-loop-r : goal.shape_of-memory-after-loop-r
-shape_of-memory-after-loop-r c = c.loop-r.invariant.0
-
-pub shape_of-kept-after-loop-r : goal.shape_of-kept-after-loop-r
-shape_of-kept-after-loop-r c = c.loop-r.invariant.1.0
-
-pub shape_of-waiting-after-loop-r : goal.shape_of-waiting-after-loop-r
-shape_of-waiting-after-loop-r c = c.loop-r.invariant.1.1.0
-
-pub shape_of-out-after-loop-r : goal.shape_of-out-after-loop-r
-shape_of-out-after-loop-r c = c.loop-r.invariant.1.1.1.0
-
 pub returns-after-loop-r : goal.returns-after-loop-r
 returns-after-loop-r c = let v = c.loop-r.invariant in let g = v.1.1.1.1.1.1 in let z = v.1.1.1.1.1.0 in telling-end g c.loop-r.r.stop v.1.1.1.0 (λ e. let i = g.passed.inside in let f = c.loop-r-test.false in omega arith) (λ e. absurd (all-or-room (sym z ∙ e))) (λ e. absurd (all-or-room (sym z ∙ e))) (λ e. absurd (all-or-number (sym z ∙ e)))
-
-pub shape_of-memory-then-out-r-lt-LINES_ROOM : goal.shape_of-memory-then-out-r-lt-LINES_ROOM
-shape_of-memory-then-out-r-lt-LINES_ROOM c = c.loop-r.invariant.0
-
-pub shape_of-kept-then-out-r-lt-LINES_ROOM : goal.shape_of-kept-then-out-r-lt-LINES_ROOM
-shape_of-kept-then-out-r-lt-LINES_ROOM c = c.loop-r.invariant.1.0
-
-pub shape_of-waiting-then-out-r-lt-LINES_ROOM : goal.shape_of-waiting-then-out-r-lt-LINES_ROOM
-shape_of-waiting-then-out-r-lt-LINES_ROOM c = c.loop-r.invariant.1.1.0
-
-pub shape_of-out-then-out-r-lt-LINES_ROOM : goal.shape_of-out-then-out-r-lt-LINES_ROOM
-shape_of-out-then-out-r-lt-LINES_ROOM c = c.loop-r.invariant.1.1.1.0
 
 pub returns-then-out-r-lt-LINES_ROOM : goal.returns-then-out-r-lt-LINES_ROOM
 returns-then-out-r-lt-LINES_ROOM c = let v = c.loop-r.invariant in let g = v.1.1.1.1.1.1 in telling-end g NoRoom v.1.1.1.0 (λ e. absurd (all-or-room (sym e))) (λ e. let w = g.within in let t = c.if-out-r-lt-LINES_ROOM.true in omega arith) (λ e. c.loop-r-test.true) room-or-number

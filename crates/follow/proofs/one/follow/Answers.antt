@@ -11,15 +11,8 @@ use Rattle.follow.proofs.portion.PassedLaws.{portion-ahead}
 use borrow.Author.Rules.{rules}
 use Rattle.follow.proofs.one.follow.Goals as goal
 
--- nothing.
-
--- nothing.
-
 pub returns-then-lines-input : goal.returns-then-lines-input
 returns-then-lines-input c = record { enough = λ h. absurd (let t = c.if-lines-input.true in omega arith); last-number = λ h. (refl, refl) }
-
-pub kept_count-begun-requires : goal.kept_count-begun-requires
-kept_count-begun-requires c = let l : 130 ≡ length c.args.state.script.kept = search rules in omega arith
 
 pub follow_lines-r-requires : goal.follow_lines-r-requires
 unfolding kept_line

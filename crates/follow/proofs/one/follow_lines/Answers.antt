@@ -13,23 +13,11 @@ loop-at-init c = (refl, (refl, (refl, going_start c.args.wanted c.args.followed 
 pub next-l-requires : goal.next-l-requires
 next-l-requires c = let v = c.loop-at.invariant in passed-next v.1.1.1.passed c.requires.known (let l = v.1.0 in let r = c.requires.room in omega arith) c.loop-at-test.true (let f = v.1.1.0 in omega arith)
 
-pub overflow_add-i : goal.overflow_add-i
-overflow_add-i c = let f = c.loop-at.invariant.1.1.1.passed.few in let t = c.loop-at-test.true in let n = c.requires.numbers in omega arith
-
-pub follow_line-requires : goal.follow_line-requires
-follow_line-requires c = c.next-l.ensures.sees.few
-
 pub loop-at-smaller : goal.loop-at-smaller
 loop-at-smaller c = let f = next-forward c.args.whole.now c.loop-at.at c.next-l.ensures in let t = c.loop-at-test.true in omega arith
 
 pub loop-at-preserved : goal.loop-at-preserved
 loop-at-preserved c = let v = c.loop-at.invariant in (c.next-l.auto.memory ∙ v.0, (c.next-l.auto.kept ∙ v.1.0, (c.next-l.auto.fields ∙ v.1.1.0, going_more v.1.1.1 c.loop-at-test.true c.next-l.ensures c.follow_line.ensures)))
-
-pub shape_of-memory : goal.shape_of-memory
-shape_of-memory c = c.loop-at.invariant.0
-
-pub shape_of-kept : goal.shape_of-kept
-shape_of-kept c = c.loop-at.invariant.1.0
 
 pub returns : goal.returns
 returns c = going_end c.loop-at.invariant.1.1.1 c.loop-at-test.false

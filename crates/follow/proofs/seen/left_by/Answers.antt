@@ -6,9 +6,6 @@ use lib.Dec.{eqb}
 use Rattle.follow.proofs.seen.ReasonLaws.{few-disposed, none-disposed, one-disposed}
 use Rattle.follow.proofs.seen.left_by.Goals as goal
 
-pub overflow_add-result : goal.overflow_add-result
-overflow_add-result c = let k = few-disposed (eqb c.args.answer 0 && eqb c.args.trap 0) c.disposed.ensures in omega arith
-
 pub returns-in-Dispose : goal.returns-in-Dispose
 returns-in-Dispose c = (one-disposed c.args.op c.in-Dispose.is _ c.args.moved c.disposed.ensures, let k = few-disposed (eqb c.args.answer 0 && eqb c.args.trap 0) c.disposed.ensures in omega arith)
 

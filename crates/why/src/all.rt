@@ -25,9 +25,6 @@ impl Player for Telling {
 
     ghost ends = { λ m p out m' out' a. Ends m p.state out m' out' };
 
-    // Not all is told before the end of the script.
-    ghost settles = { λ p a. ⊥ };
-
     ghost room = { 2 * lines_room };
 
     ghost leads = { telling_leads };
@@ -61,10 +58,6 @@ impl Player for Telling {
         }
         let e = finish(memory, state, out);
         put_all(b"why", rt, &out[..e.written])
-    }
-
-    fn settled(&self) -> Option<()> {
-        None
     }
 }
 

@@ -289,27 +289,14 @@ keep_module() {
     [[ -s $parts/module.bc ]] || fail 1 'the prover handed its compiler no module'
 }
 
-# read_apart: of a module as text, each read of a byte and a pointer as one value becomes two reads and the same value. The module writes the two apart,
-# eight bytes from each other, as such a value has them on its machine; where pointers are narrower it has them nearer.
-read_apart() {
-    local value='%[-a-zA-Z$._0-9]+'
-    sed -E "s/^  ($value) = load \{ i8, ptr \}, ptr ($value), align 8\$/\
-  \1.byte = load i8, ptr \2, align 8\n\
-  \1.place = getelementptr i8, ptr \2, i64 8\n\
-  \1.pointer = load ptr, ptr \1.place, align 8\n\
-  \1.half = insertvalue { i8, ptr } poison, i8 \1.byte, 0\n\
-  \1 = insertvalue { i8, ptr } \1.half, ptr \1.pointer, 1/"
-}
-
 # retarget: leaves the module as text, native.ll, and the same for the other machine, wasm.ll: the two lines that name the machine exchanged and three
 # attributes taken off. Where something is left that only the one has, or that depends on how wide a pointer is, this fails. Of values with a pointer in
 # them that stand in memory whole, only one with 64 bits behind it is on both machines as it is here.
 retarget() {
     local layout changed found
     local bound='ptrtoint|ptrtoaddr|inttoptr|\<asm\>|x86|addrspace|x ptr\]|getelementptr( [a-z]+)* ptr,'
-    local whole='(load|store|alloca|getelementptr)( [a-z]+)* [{[<].*\<ptr\>.*[]}>]'
-    watch compiling "$parts" "$clang" -S -emit-llvm -Xclang -disable-llvm-passes -x ir module.bc -o module.ll
-    read_apart <"$parts/module.ll" >"$parts/native.ll"
+    local whole='(load|store|alloca|getelementptr)( [a-z]+)* [{[<].*\<ptr\>.*[]}>]|^%.* = type .*\<ptr\>'
+    watch compiling "$parts" "$clang" -S -emit-llvm -Xclang -disable-llvm-passes -x ir module.bc -o native.ll
     layout=$("$clang" --target=wasm32-unknown-unknown -S -emit-llvm -x c /dev/null -o - | grep '^target datalayout = ') ||
         fail 1 "$clang can't compile for WebAssembly: this is another toolchain than VERSION names"
     sed -E -e "s|^target datalayout = .*|$layout|" -e 's|^(target triple = ).*|\1"wasm32-unknown-unknown"|' \

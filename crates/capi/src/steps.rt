@@ -33,9 +33,10 @@ fn step_by_letter(memory: &mut [u32], letter: u8, arguments: &[u32]) -> Report
     step(memory, op, words_of(arguments, count))
 }
 
-// The first number, 0 where there is none.
+// The first number, 0 where there is none. By its index: `first()` answers a byte and a pointer in one value, which stands elsewhere in memory on
+// the machine of a replay's page.
 fn first_of(numbers: &[u32]) -> u32
     ensures { result ≡ get_or numbers.now 0 0 }
 {
-    numbers.first().copied().unwrap_or(0)
+    if numbers.is_empty() { 0 } else { numbers[0] }
 }

@@ -117,14 +117,12 @@ fn gone(memory: &[u32], op: Operation, left: u64) -> Option<Leaving>
     requires { ArrivalKnown memory.now op left }
     ensures { Gone memory.now op left result × (left_of result ≤ left) }
 {
-    match first_reason(memory, op, left) {
-        Some(first) => Some(Leaving {
-            count: left,
-            first: first as u32,
-            later: later_reason(op) as u32,
-        }),
-        None => None,
-    }
+    let first = first_reason(memory, op, left)?;
+    Some(Leaving {
+        count: left,
+        first: first as u32,
+        later: later_reason(op) as u32,
+    })
 }
 
 // How many are queued after an accepted arrival.

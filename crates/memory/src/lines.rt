@@ -72,13 +72,14 @@ impl Line {
         m[self.count] = n + 1;
     }
 
-    // Where the number x first stands.
+    // Where the number x first stands; by number, since a slice's iterator answers with a byte and a pointer, which a replay's page has elsewhere.
+    #[tactic(auto, unfolding(rules::specs::Memory::word))]
     pub fn position(self, m: &[u32], x: u32) -> Option<usize>
         requires { InLine m.now self.count self.first }
         ensures { let i = index_of x (words_at m.now self.first (word m.now self.count)) in SomeIff result (i < word m.now self.count) i }
     {
         let n = m[self.count] as usize;
-        m[self.first..self.first + n].iter().position(|y| *y == x)
+        (0..n).position(|i| m[self.first + i] == x)
     }
 }
 

@@ -15,14 +15,16 @@ use super::{Node, frames, map, words};
 pub fn traded(x: u32, p: u32, q: u32) -> u32
     ensures { result ≡ traded p q x }
 {
-    match x {
-        _ if x == p => q,
-        _ if x == q => p,
-        _ => x,
+    if x == p {
+        q
+    } else if x == q {
+        p
+    } else {
+        x
     }
 }
 
-// The same in the list of group g.
+// The same in the list of group g; by number, since a slice's iterator answers with a byte and a pointer, which a replay's page has elsewhere.
 #[tactic(auto, unfolding(rules::specs::Memory::group_address))]
 pub fn trade_list(m: &mut [u32], g: u32, p: u32, q: u32)
     requires in_group { InGroup m.old g held_offset }
@@ -31,8 +33,8 @@ pub fn trade_list(m: &mut [u32], g: u32, p: u32, q: u32)
 {
     let k = map::group_word(m, g, map::HELD) as usize;
     let at = map::group_at(g) + map::LIST;
-    for x in &mut m[at..at + k] {
-        *x = traded(*x, p, q);
+    for i in at..at + k {
+        m[i] = traded(m[i], p, q);
     }
 }
 

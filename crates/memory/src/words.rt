@@ -101,14 +101,15 @@ pub fn shift(m: &mut [u32], at: usize, by: usize, n: usize)
     clear(m, at + n, by);
 }
 
-// Whether the n words from address a on are 0: their | is. No branch depends on a word, so that several are read at once.
+// Whether the n words from address a on are 0: their | is. No branch depends on a word, so that several are read at once. By number, since a
+// slice's iterator answers with a byte and a pointer, which a replay's page has elsewhere.
 pub fn zeros(m: &[u32], a: usize, n: usize) -> bool
     requires { a + n ≤ length m.now }
     ensures { zero_at m.now a n ≡ result }
 {
     let mut sum = 0;
-    for x in &m[a..a + n] {
-        sum |= *x;
+    for i in a..a + n {
+        sum |= m[i];
     }
     sum == 0
 }

@@ -63,15 +63,18 @@ pub fn keep(kept: &mut [u8], count: usize, text: &[u8]) -> usize
     put_text(kept, count, &text[..fits])
 }
 
-// The position behind the last newline from a position on, or that position.
+// The position behind the last newline from a position on, or that position. By number, since a slice's iterator answers with a byte and a pointer,
+// which a replay's page has elsewhere.
 pub fn behind_last(s: &[u8], from: usize) -> usize
     requires { from ≤ length s.now }
     ensures { Cut s.now from result }
 {
-    match s[from..].iter().rposition(|b| *b == NEWLINE) {
-        Some(last) => from + last + 1,
-        None => from,
+    for i in (from..s.len()).rev() {
+        if s[i] == NEWLINE {
+            return i + 1;
+        }
     }
+    from
 }
 
 // The whole lines of a portion from a position on, and what is kept of the line that has begun behind them.

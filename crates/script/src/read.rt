@@ -110,16 +110,18 @@ fn read_fields(s: &[u8], at: usize, fields: &mut [u32]) -> Result<Fields, usize>
     ended(true, i - at, count, i)
 }
 
-// Where the line ends that goes on at a position.
+// Where the line ends that goes on at a position. By number, since a slice's iterator answers with a byte and a pointer, which a replay's page has
+// elsewhere.
 pub fn end_of_line(s: &[u8], from: usize) -> usize
     requires { from ≤ length s.now }
     ensures { result ≡ line_end s.now from }
 {
-    let rest = &s[from..];
-    from + rest
-        .iter()
-        .position(|b| *b == NEWLINE)
-        .unwrap_or(rest.len())
+    for i in from..s.len() {
+        if s[i] == NEWLINE {
+            return i;
+        }
+    }
+    s.len()
 }
 
 // B by its number, which tells whether it turns force on.

@@ -87,14 +87,14 @@ impl Counter {
     }
 }
 
-// Numbers, each as a field.
+// Numbers, each as a field: by number, since a slice's iterator answers with a byte and a pointer, which a replay's page has elsewhere.
 fn put_fields(out: &mut [u8], at: usize, numbers: &[u32]) -> usize
     requires { at + field_room * length numbers.now ≤ length out.old }
     ensures { Appended out.old at out.new result (fields numbers.now) × (result ≤ at + field_room * length numbers.now) }
 {
     let mut end = at;
-    for number in numbers {
-        end = put_field(out, end, *number);
+    for i in 0..numbers.len() {
+        end = put_field(out, end, numbers[i]);
     }
     end
 }

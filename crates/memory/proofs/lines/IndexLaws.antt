@@ -1,6 +1,7 @@
 -- Where a number stands in a list: its index, found word by word in memory, and the list without it. Assumes nothing.
-use Prim.Native.Nat.{ℕ, suc, ◌+◌, ◌≤◌, ◌<◌}
+use Prim.Native.Nat.{ℕ, zero, suc, ◌+◌, ◌≤◌, ◌<◌}
 use native.Mathlib.Decide.{dec_lt}
+use native.Mathlib.Nat.{add-zero}
 use native.Mathlib.Omega.{arith}
 use mathlib.Core.Bool.{Bool, true, false, not, cond}
 use mathlib.Core.List.{List, [], ◌∷◌}
@@ -9,10 +10,12 @@ use lib.Dec.{eqb, ltb}
 use lib.ListN.{length}
 use borrow.Author.Tests.{le-ltb, lt-ltb}
 use Rattle.std.specs.Prelude.{Option, Some, None}
-use Rattle.std.specs.List.{position, position_or_len}
+use Rattle.std.specs.List.{position, position_or_len, range_with_len}
 use Rattle.std.specs.Option.{IsSome, SomeIff, unwrap_or}
+use Rattle.std.proofs.lemmas.List.FromFn.{length-range_with_len}
 use Rattle.rules.specs.Frames.{without}
 use Rattle.rules.specs.Lists.{count_of}
+use Rattle.rules.specs.Memory.{word, words_at}
 use Rattle.rules.proofs.Steps.ListLaws.{filter-fail, filter-pass}
 use Rattle.memory.specs.Lines.{index_of}
 use Rattle.memory.proofs.lines.LineLaws.{lacking}
@@ -55,27 +58,38 @@ module _ (f : ℕ) where
           let l : count_of f xs ≡ 1 = let k = rw e at once in omega arith in
           ap (λ (t : List ℕ). x ∷ t) (r l) ∙ sym (filter-pass (λ y. not (eqb y f)) x xs (ap not e))
 
--- The search for it: the library's position, and what it answers.
+-- The search for it: the library's position over a range of numbers, and what it answers.
 
-index-position : (x : ℕ) (xs : List ℕ) → index_of x xs ≡ position_or_len (λ y. eqb y x) xs
-unfolding index_of
-index-position x [] = refl
-index-position x (y ∷ ys) = go (eqb y x) (index-position x ys)
-  where
-    go : (t : Bool) → index_of x ys ≡ position_or_len (λ y. eqb y x) ys → cond t 0 (suc (index_of x ys)) ≡ cond (not t) (1 + position_or_len (λ y. eqb y x) ys) 0
-    go true e = refl
-    go false e = omega arith
+module _ (m : List ℕ) (a x : ℕ) where
+  -- the i-th word from address a on is x
+  abbrev pub is_here : ℕ → Bool
+  is_here i = eqb (word m (a + i)) x
 
--- what is found is the index, where x stands among the n words
-pub found-index : (x n : ℕ) (xs : List ℕ) {r : Option ℕ} → length xs ≡ n → r ≡ position (λ y. eqb y x) xs → SomeIff r (index_of x xs < n) (index_of x xs)
-found-index x n xs {r} l e = go (dec_lt (index_of x xs) n)
-  where
-    found : r ≡ cond (ltb (index_of x xs) n) (Some (index_of x xs)) None
-    found = rw (index-position x xs, ← l) e
+  index-position : (b n : ℕ) → index_of x (words_at m (a + b) n) ≡ position_or_len is_here (range_with_len b n)
+  unfolding index_of words_at
+  index-position b zero = refl
+  index-position b (suc n) =
+      let e : a + b + 1 ≡ a + (b + 1) = omega arith in
+      rw e (go (is_here b) (index-position (b + 1) n))
+    where
+      go : (t : Bool) {i j : ℕ} → i ≡ j → cond t 0 (suc i) ≡ cond (not t) (1 + j) 0
+      go true e = refl
+      go false e = omega arith
 
-    go : Dec (index_of x xs < n) → SomeIff r (index_of x xs < n) (index_of x xs)
-    go (yes h) = rw (found, lt-ltb (index_of x xs) n h) (h, refl)
-    go (no h) = let le : n ≤ index_of x xs = omega arith in rw (found, le-ltb (index_of x xs) n le) h
+  -- what is found is the index, where x stands among the n words
+  pub found-index : (n : ℕ) {r : Option ℕ} → r ≡ position is_here (range_with_len 0 n)
+      → SomeIff r (index_of x (words_at m a n) < n) (index_of x (words_at m a n))
+  found-index n {r} e = go (dec_lt (index_of x (words_at m a n)) n)
+    where
+      index : index_of x (words_at m a n) ≡ position_or_len is_here (range_with_len 0 n)
+      index = let k = add-zero a in rw k at (index-position 0 n)
+
+      found : r ≡ cond (ltb (index_of x (words_at m a n)) n) (Some (index_of x (words_at m a n))) None
+      found = let l = length-range_with_len 0 n in rw index (rw l at e)
+
+      go : Dec (index_of x (words_at m a n) < n) → SomeIff r (index_of x (words_at m a n) < n) (index_of x (words_at m a n))
+      go (yes h) = rw (found, lt-ltb (index_of x (words_at m a n)) n h) (h, refl)
+      go (no h) = let le : n ≤ index_of x (words_at m a n) = omega arith in rw (found, le-ltb (index_of x (words_at m a n)) n le) h
 
 module _ {P : Type 0} (v : ℕ) where
   -- where it stands it is found

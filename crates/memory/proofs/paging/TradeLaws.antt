@@ -2,29 +2,26 @@
 use Prim.Native.Nat.{ℕ, ◌+◌, ◌≤◌, ◌<◌}
 use native.Mathlib.Decide.{dec_lt, dec_le}
 use native.Mathlib.Omega.{arith}
-use mathlib.Core.Path.{◌≡◌, ap, sym, ◌∙◌}
-use mathlib.Core.List.{List, [], ◌++◌, append-nil, map}
-use lib.ListN.{length, take, drop, length-drop, length-map, drop_of_length-le}
-use lib.Seq.{length-take-le, take_all}
-use borrow.Rule.Slice.PartMut.{put_mid}
+use mathlib.Core.Path.{◌≡◌, ap, ◌∙◌}
+use mathlib.Core.List.{List, [], ◌∷◌, map, map-append}
+use lib.ListN.{length, set, length-map}
 use Rattle.rules.specs.Build.{group_count}
 use Rattle.rules.specs.Memory.{held_offset, list_offset, word, words_at, list_at, group_address, frame_address}
 use Rattle.rules.specs.Paging.{traded}
-use Rattle.rules.proofs.Map.MapWords.{length-words_at, words_at-part}
+use Rattle.rules.proofs.Map.MapWords.{length-words_at}
 use Rattle.memory.specs.Writes.{Wrote, Swapped}
 use Rattle.memory.specs.Paging.{Listing, ListTraded, InList, Traded}
-use Rattle.memory.proofs.WriteLaws.{same-words_at, wrote_as, wrote_range}
+use Rattle.memory.proofs.WriteLaws.{same-words_at, words_at-more, wrote_as, wrote-next}
 
--- the numbers of a list, each changed by f where they stand
-pub list-changed : (f : ℕ → ℕ) (m xs : List ℕ) (a n i : ℕ) → a + n ≤ length m → n ≤ i
-    → xs ≡ map f (take i (take n (drop a m))) ++ drop i (take n (drop a m)) → Wrote m (put_mid a n m xs) a (map f (words_at m a n))
-list-changed f m xs a n i inside all e =
-    let us = take n (drop a m) in
-    let l : length us ≡ n = length-take-le n (drop a m) (omega (arith, length-drop a m)) in
-    let first : take i us ≡ us = take_all i us (omega arith) in
-    let rest : drop i us ≡ [] = drop_of_length-le us (omega arith) in
-    let whole : xs ≡ map f us = e ∙ rw (first, rest, append-nil) in
-    wrote_as (wrote_range m xs a n inside (ap length whole ∙ length-map us f ∙ l)) (whole ∙ ap (map f) (sym (words_at-part m a n inside)))
+-- one number more of a list
+pub list-next : {m m' : List ℕ} (p q a i x : ℕ) → a + i < length m → Wrote m m' a (map (traded p q) (words_at m a i)) → x ≡ traded p q (word m' (a + i))
+    → Wrote m (set m' (a + i) x) a (map (traded p q) (words_at m a (i + 1)))
+list-next {m} {m'} p q a i x inside w e =
+    let l : length (map (traded p q) (words_at m a i)) ≡ i = length-map (words_at m a i) (traded p q) ∙ length-words_at m a i in
+    let same : word m' (a + i) ≡ word m (a + i) = w.above (a + i) (omega arith) in
+    let f : x ≡ traded p q (word m (a + i)) = e ∙ ap (traded p q) same in
+    wrote_as (wrote-next w (a + i) x (omega arith) inside)
+    (rw (f, words_at-more m a i, map-append (traded p q) (words_at m a i) (word m (a + i) ∷ [])))
 
 module _ {m m' m'' : List ℕ} (L : Listing m) (p q k : ℕ) (more : k < group_count) (s : Traded m m' p q k) (w : ListTraded m' m'' p q (k + 1)) where
   -- the record of the next group is as it was

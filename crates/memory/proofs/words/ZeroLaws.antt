@@ -1,16 +1,14 @@
--- Words are tested for 0 by their |, which is 0 where every word is, and only there; it is folded, or gathered word by word. Assumes nothing.
+-- Words are tested for 0 by their |, gathered word by word: it is 0 where every word is, and only there. Assumes nothing.
 use Prim.Native.Nat.{ℕ, zero, suc, ◌+◌}
 use native.Mathlib.Omega.{arith}
 use native.Mathlib.Nat.{add-zero}
 use native.Mathlib.Numerals.{add-one}
 use mathlib.Core.Bool.{Bool, true, ◌&&◌, and-true, and_assoc}
-use mathlib.Core.List.{List, [], ◌∷◌}
+use mathlib.Core.List.{List}
 use mathlib.Core.Path.{◌∙◌, ◌≡◌, ap, refl, sym}
 use borrow.Author.Tests.{ne_eqb}
 use lib.Bits.{bit_or, or_add_and, and_le_r}
 use lib.Dec.{eqb, eqb-suc-zero, eqb-zero-suc}
-use Rattle.std.specs.List.{fold}
-use Rattle.rules.specs.Lists.{all}
 use Rattle.rules.specs.Memory.{word, words_at}
 use Rattle.rules.specs.MemoryTest.{zero_at}
 
@@ -24,11 +22,6 @@ or-zero (suc x) y =
 pub zero-swap : (x : ℕ) → eqb x 0 ≡ eqb 0 x
 zero-swap zero = refl
 zero-swap (suc x) = eqb-suc-zero x ∙ sym (eqb-zero-suc x)
-
--- words folded by | onto s give 0 where s and each of them is 0
-pub zero-folded : (xs : List ℕ) (s : ℕ) → eqb (fold bit_or s xs) 0 ≡ eqb s 0 && all (eqb 0) xs
-zero-folded [] s = sym (and-true (eqb s 0))
-zero-folded (x ∷ xs) s = zero-folded xs (bit_or s x) ∙ rw (or-zero s x, zero-swap x) (and_assoc (eqb s 0) (eqb 0 x) (all (eqb 0) xs))
 
 module _ (m : List ℕ) where
   -- no words are 0

@@ -3,11 +3,11 @@ use Prim.Native.Nat.{ℕ, suc, ◌+◌, ◌-◌, ◌≤◌, ◌<◌, min}
 use native.Mathlib.Decide.{dec_lt}
 use native.Mathlib.Omega.{arith}
 use mathlib.Core.List.{List, [], ◌∷◌, ◌++◌, append-nil}
-use mathlib.Core.Path.{◌≡◌, refl, sym, ap, ◌∙◌}
+use mathlib.Core.Path.{◌≡◌, refl, sym, ap, ◌∙◌, subst}
 use mathlib.Core.Bool.{Bool, true, false}
 use lib.Dec.{eqb}
 use lib.ListN.{length, take, drop, get_or, length-drop}
-use lib.Seq.{drop_at, drop-drop, get_or-drop, length-take-le, take-add, take_all, take-append-add, take-suc, take-take}
+use lib.Seq.{drop_at, drop-cons, drop-drop, drop-length, get_or-drop, length-take-le, take-add, take_all, take-append-add, take-suc, take-take}
 use borrow.Author.Tests.{ne_eqb}
 use Rattle.rules.specs.Script.{newline}
 use Rattle.script.specs.Feeding.{whole, begun, after_lines, list_memory}
@@ -71,11 +71,17 @@ kept-counted kept count {n} {r} room all e =
 
 -- Where a portion is cut: behind its last newline.
 
--- bytes none of which is a newline complete no line
-pub whole-none : (xs : List ℕ) → ((k : ℕ) → k < length xs → get_or xs k 0 ≡ 10 → ⊥) → whole xs ≡ []
-whole-none [] none = whole-nil
-whole-none (x ∷ xs) none =
-    (whole-other x xs (ne_eqb x 10 (none 0 (omega arith)))).0 ∙ ap (join_lines x) (whole-none xs (λ k h. none (suc k) (omega arith)))
+-- at its end nothing is left
+pub behind-none : (s : List ℕ) → whole (drop (length s) s) ≡ []
+behind-none s = rw (drop-length s) whole-nil
+
+-- a byte that is no newline completes no line
+pub behind-other : (s : List ℕ) (i : ℕ) → 1 ≤ i → i ≤ length s → whole (drop i s) ≡ [] → (get_or s (i - 1) 0 ≡ 10 → ⊥) → whole (drop (i - 1) s) ≡ []
+behind-other s i some inside none other =
+    let e : suc (i - 1) ≡ i = omega arith in
+    let x = get_or s (i - 1) 0 in
+    ap whole (drop-cons s (i - 1) 0 (omega arith) ∙ ap (λ (k : ℕ). x ∷ drop k s) e)
+    ∙ (whole-other x (drop i s) (ne_eqb x 10 other)).0 ∙ ap (join_lines x) none
 
 -- behind a newline nothing has begun
 pub record Ended (c : List ℕ) : Type 0 where
@@ -102,7 +108,7 @@ ended-line (x ∷ c) = by-test (eqb x newline) (behind (ended-line c)) (joined (
           none = f.1 ∙ ap (λ (ks : List (List ℕ)). join_rest x ks (begun (c ++ (newline ∷ [])))) w ∙ r.none;
         }
 
-cut-newline : (s : List ℕ) (from i : ℕ) → from < i → i ≤ length s → whole (drop i s) ≡ [] → get_or s (i - 1) 0 ≡ 10 → Cut s from i
+pub cut-newline : (s : List ℕ) (from i : ℕ) → from < i → i ≤ length s → whole (drop i s) ≡ [] → get_or s (i - 1) 0 ≡ 10 → Cut s from i
 unfolding part
 cut-newline s from i some inside rest e =
     let l = drop from s in
@@ -115,29 +121,13 @@ cut-newline s from i some inside rest e =
     ap (λ (j : ℕ). take j l) n ∙ take-suc l k 0 (omega arith) ∙ ap (λ (x : ℕ). take k l ++ (x ∷ [])) last in
     record { forward = omega arith; inside = inside; lines = ap begun p ∙ (ended-line (take k l)).none; rest = rest }
 
--- at the last newline of the rest
-pub cut-last : (s : List ℕ) (from last : ℕ) → from ≤ length s → last < length (drop from s) → get_or (drop from s) last 0 ≡ 10
-    → ((k : ℕ) → last + 1 ≤ k → k < length (drop from s) → get_or (drop from s) k 0 ≡ 10 → ⊥) → Cut s from (from + last + 1)
-cut-last s from last inside some newline none =
-    let i = from + last + 1 in
-    let l = length-drop from s in
-    let m = length-drop i s in
-    let at : i - 1 ≡ from + last = omega arith in
-    let behind : whole (drop i s) ≡ [] = whole-none (drop i s)
-    (λ k h e.
-    let j : from + (last + 1 + k) ≡ i + k = omega arith in
-    none (last + 1 + k) (omega arith) (omega arith)
-    (get_or-drop from s (last + 1 + k) 0 ∙ ap (λ (n : ℕ). get_or s n 0) j ∙ sym (get_or-drop i s k 0) ∙ e)) in
-    cut-newline s from i (omega arith) (omega arith) behind (ap (λ (n : ℕ). get_or s n 0) at ∙ sym (get_or-drop from s last 0) ∙ newline)
-
--- or nowhere, where there is none
-pub cut-none : (s : List ℕ) (from : ℕ) → from ≤ length s → ((k : ℕ) → k < length (drop from s) → get_or (drop from s) k 0 ≡ 10 → ⊥) → Cut s from from
-cut-none s from inside none =
+pub cut-none : (s : List ℕ) (from i : ℕ) → from ≤ length s → i ≡ from → whole (drop i s) ≡ [] → Cut s from from
+cut-none s from i inside e rest =
     record {
       forward = omega arith;
       inside = inside;
       lines = ap begun (part_none s from) ∙ begun-nil;
-      rest = whole-none (drop from s) none;
+      rest = subst (λ (k : ℕ). whole (drop k s) ≡ []) e rest;
     }
 
 -- The lines of a portion.

@@ -2,15 +2,13 @@
 use Prim.Native.Nat.{ℕ, ◌+◌, ◌≤◌, ◌<◌}
 use native.Mathlib.Numerals.{add-one}
 use native.Mathlib.Omega.{arith}
-use borrow.Author.Tests.{eq-eqb, ltb-false, ne_eqb}
-use mathlib.Core.Bool.{Bool, true, false, cond}
-use mathlib.Core.Path.{◌≡◌, refl, sym, ap, ◌∙◌}
+use borrow.Author.Tests.{eq-eqb, ne_eqb}
+use mathlib.Core.Bool.{Bool, true, false}
+use mathlib.Core.Path.{◌≡◌, refl}
 use mathlib.Core.List.{List, [], ◌∷◌}
-use lib.Dec.{eqb, ltb}
+use lib.Dec.{eqb}
 use lib.ListN.{length, drop, get_or, length-drop, drop_of_length-le}
 use lib.Seq.{drop-cons}
-use Rattle.std.specs.List.{position_or_len}
-use Rattle.std.specs.Prelude.{Option as Maybe, Some, None, unwrap_or}
 use Rattle.script.specs.Read.{line_of, line_end}
 
 -- either way of a test
@@ -54,30 +52,3 @@ module _ (s : List ℕ) (i : ℕ) where
   pub end_more : i < length s → (get_or s i 0 ≡ 10 → ⊥) → line_end s (i + 1) ≡ line_end s i
   unfolding line_end
   end_more h e = rw (line-more h e) (omega arith)
-
--- a line is as long as the bytes before the first newline
-line-length : (xs : List ℕ) → length (line_of xs) ≡ position_or_len (λ x. eqb x 10) xs
-unfolding line_of
-line-length [] = refl
-line-length (x ∷ xs) = by-test (eqb x 10) (λ e. rw (line_of, e)) (λ e. rw (line_of, e) (let h = line-length xs in omega arith))
-
--- it ends at the first newline, or with the text where there is none
-pub first-newline : (s : List ℕ) (from : ℕ) {rest : List ℕ} {found : Maybe ℕ} {end : ℕ} → rest ≡ drop from s
-    → found ≡ cond (ltb (position_or_len (λ x. eqb x 10) rest) (length rest)) (Some (position_or_len (λ x. eqb x 10) rest)) None
-    → end ≡ unwrap_or found (length rest)
-    → from + end ≡ line_end s from
-unfolding line_end
-first-newline s from {rest} {found} {end} r f e =
-    let first = position_or_len (λ x. eqb x 10) rest in
-    let n = line-length rest in
-    let l = line-short rest in
-    let p : line_of (drop from s) ≡ line_of rest = ap line_of (sym r) in
-    by-test (ltb first (length rest))
-    (λ t.
-    let q : end ≡ first = e ∙ ap (λ (x : Maybe ℕ). unwrap_or x (length rest)) (f ∙ ap (λ (b : Bool). cond b (Some first) None) t) in
-    ap (λ (k : ℕ). from + k) (q ∙ sym n ∙ sym (ap length p)))
-    (λ t.
-    let q : end ≡ length rest = e ∙ ap (λ (x : Maybe ℕ). unwrap_or x (length rest)) (f ∙ ap (λ (b : Bool). cond b (Some first) None) t) in
-    let m = ltb-false first (length rest) t in
-    let k : length rest ≡ length (line_of rest) = omega arith in
-    ap (λ (k : ℕ). from + k) (q ∙ k ∙ sym (ap length p)))

@@ -4,9 +4,9 @@ use Rattle.reasons.proofs.NumberLaws.{reason-placed}
 use Rattle.follow.proofs.seen.ReasonLaws.{gone-none, gone-some}
 use Rattle.follow.proofs.seen.gone.Goals as goal
 
-pub returns-in-Some : goal.returns-in-Some
-returns-in-Some c =
-    (rw (reason-placed c.in-Some.first, reason-placed c.later_reason.result) (gone-some c.args.memory.now c.args.op c.args.left c.in-Some.first c.later_reason.result c.in-Some.ensures c.later_reason.ensures), omega arith)
+pub returns-in_err-first : goal.returns-in_err-first
+returns-in_err-first c = rw (c.from_residual.ensures) (gone-none c.args.memory.now c.args.op c.args.left c.in_err-first.ensures, omega arith)
 
-pub returns-in-None : goal.returns-in-None
-returns-in-None c = (gone-none c.args.memory.now c.args.op c.args.left c.in-None.ensures, omega arith)
+pub returns : goal.returns
+returns c =
+    (rw (reason-placed c.in_ok-first.first, reason-placed c.later_reason.result) (gone-some c.args.memory.now c.args.op c.args.left c.in_ok-first.first c.later_reason.result c.in_ok-first.ensures c.later_reason.ensures), omega arith)

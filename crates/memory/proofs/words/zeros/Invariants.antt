@@ -1,9 +1,9 @@
--- `memory::words::zeros` meets its contract: the | of the words is 0 where they are, and only there. The invariant: sum is that of the words passed. Assumes nothing.
+-- `memory::words::zeros` meets its contract: the | of the words passed is 0 where they are, and only there. Assumes nothing.
+use Prim.Native.Nat.{◌-◌}
 use mathlib.Core.Path.{◌≡◌}
-use lib.Bits.{bit_or}
-use lib.ListN.{take}
-use Rattle.std.specs.List.{fold}
+use lib.Dec.{eqb}
+use Rattle.rules.specs.MemoryTest.{zero_at}
 use Rattle.memory.proofs.words.zeros.Given as goal
 
-abbrev pub invariant-loop-x : goal.invariant-loop-x
-invariant-loop-x l = l.sum ≡ fold bit_or 0 (take l.x-index l.x-items)
+abbrev pub invariant-loop-i : goal.invariant-loop-i
+invariant-loop-i l = zero_at l.m l.a (l.i - l.a) ≡ eqb l.sum 0

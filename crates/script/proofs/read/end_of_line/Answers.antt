@@ -1,19 +1,30 @@
--- `script::read::end_of_line` meets its contract: the line that goes on here ends at the first newline, or with the text. Assumes nothing.
-use Prim.Native.Nat.{◌-◌}
-use lib.Dec.{eqb}
-use lib.ListN.{drop, length, take}
-use borrow.Author.Rules.{rules}
-use borrow.Author.Tests.{tests}
-use Rattle.std.proofs.lemmas.List.{take_rest}
-use Rattle.std.proofs.lemmas.Iterator.{YieldsList-from_slice}
-use Rattle.std.proofs.lemmas.Iterator.Search.{position_from_yields_List}
-use Rattle.script.proofs.read.LineEndLaws.{first-newline}
+-- `script::read::end_of_line` meets its contract: no newline is passed, so the line that goes on here ends where the first does. Assumes nothing.
+use native.Mathlib.Omega.{arith}
+use mathlib.Core.Path.{◌≡◌, refl, sym, ◌∙◌}
+use lib.ListN.{length}
+use Rattle.script.proofs.read.LineEndLaws.{line-at-end, line-newline, end_empty, end_more}
 use Rattle.script.proofs.read.end_of_line.Goals as goal
+
+pub loop-i-init : goal.loop-i-init
+loop-i-init c = (c.requires, refl)
+
+pub returns-then-s-i-eq-NEWLINE : goal.returns-then-s-i-eq-NEWLINE
+returns-then-s-i-eq-NEWLINE c =
+    let s = c.args.s.now in
+    let i = c.loop-i.i in
+    sym (end_empty s i (line-newline s i c.loop-i-test.true c.if-s-i-eq-NEWLINE.true)) ∙ c.loop-i.invariant.1
+
+pub loop-i-preserved : goal.loop-i-preserved
+loop-i-preserved c =
+    let s = c.args.s.now in
+    let i = c.loop-i.i in
+    (omega arith, end_more s i c.loop-i-test.true c.if-s-i-eq-NEWLINE.false ∙ c.loop-i.invariant.1)
 
 pub returns : goal.returns
 returns c =
     let s = c.args.s.now in
-    let rest = take (length s - c.args.from) (drop c.args.from s) in
-    first-newline s c.args.from (take_rest s c.args.from)
-    (position_from_yields_List (λ x. eqb x 10) _ _ c.position.result c.position.ensures.ran (YieldsList-from_slice rest cc) (λ x b q k. search (rules, tests)))
-    c.unwrap_or.ensures
+    let i = c.loop-i.i in
+    let past = c.loop-i-test.false in
+    let inside = c.loop-i.invariant.0 in
+    let e : length s ≡ i = omega arith in
+    e ∙ sym (end_empty s i (line-at-end s i past)) ∙ c.loop-i.invariant.1

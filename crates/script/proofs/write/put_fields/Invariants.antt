@@ -5,5 +5,5 @@ use lib.ListN.{take}
 use Rattle.script.specs.Written.{Appended, fields}
 use Rattle.script.proofs.write.put_fields.Given as goal
 
-abbrev pub invariant-loop-number : goal.invariant-loop-number
-invariant-loop-number l = Appended l.initial.out l.at l.out l.end (fields (take l.number-index l.numbers)) × (l.end ≤ l.at + 11 * l.number-index)
+abbrev pub invariant-loop-i : goal.invariant-loop-i
+invariant-loop-i l = Appended l.initial.out l.at l.out l.end (fields (take l.i l.numbers)) × (l.end ≤ l.at + 11 * l.i)

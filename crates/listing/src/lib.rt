@@ -65,6 +65,11 @@ impl Player for Listing {
         }
         Ok(())
     }
+
+    // Never before it: what follows would be listed.
+    fn settled(&self) -> Option<()> {
+        None
+    }
 }
 
 // The header, and the listing of the script that a reader has.

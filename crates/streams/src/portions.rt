@@ -1,5 +1,5 @@
 // A script that is read in portions and played by them, to the end of the input or until its answer is settled.
-ghost use Rattle.std.specs.Prelude.{ℕ, ◌≤◌, ◌<◌, length, IfOk, IfSome};
+ghost use Rattle.std.specs.Prelude.{ℕ, ◌≤◌, ◌<◌, length, IfOk, IfSome, IfNone};
 ghost use Rattle.streams.specs.Moved.{Moved};
 ghost use Rattle.streams.specs.Turns.{Reach, End, Leads, Plays, TakesIn, Turns, Runs};
 
@@ -56,12 +56,10 @@ pub trait Player: Sized + Drop {
         requires { room ≤ length out.old }
         ensures { IfOk result (λ answer. ends memory.old self out.old memory.new out.new answer) };
 
-    // The answer, where nothing that follows can change it.
+    // The answer, where nothing that follows can change it, and none just where there is no such one.
     fn settled(&self) -> Option<Self::Answer>
-        ensures { IfSome result (λ answer. settles self.now answer) }
-    {
-        None
-    }
+        ensures told { IfSome result (λ answer. settles self.now answer) }
+        ensures open { IfNone result ((answer : Self.Answer) → settles self.now answer → ⊥) };
 
     ghost leads: { Leads reaches };
 }

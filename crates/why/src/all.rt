@@ -59,6 +59,11 @@ impl Player for Telling {
         let e = finish(memory, state, out);
         put_all(b"why", rt, &out[..e.written])
     }
+
+    // Never before it: what follows would be told of.
+    fn settled(&self) -> Option<()> {
+        None
+    }
 }
 
 // The answers for the script that is read.

@@ -3,6 +3,8 @@
 #![tactic(auto)]
 
 pub mod portions;
+#[cfg(test)]
+mod tests;
 
 ghost use Rattle.std.specs.Prelude.{◌≤◌, length};
 ghost use Rattle.streams.specs.Moved.{Moved};

@@ -56,12 +56,22 @@ pub trait Player: Sized + Drop {
         requires { room ≤ length out.old }
         ensures { IfOk result (λ answer. ends memory.old self out.old memory.new out.new answer) };
 
-    // The answer, where nothing that follows can change it, and none just where there is no such one.
+    // The answer, where nothing that follows can change it.
     fn settled(&self) -> Option<Self::Answer>
-        ensures told { IfSome result (λ answer. settles self.now answer) }
-        ensures open { IfNone result ((answer : Self.Answer) → settles self.now answer → ⊥) };
+        ensures { IfSome result (λ answer. settles self.now answer) }
+    {
+        None
+    }
 
     ghost leads: { Leads reaches };
+}
+
+// A player whose answer is told wherever it is settled.
+pub trait DecidingPlayer: Player {
+    // The answer, where nothing that follows can change it, and none just where there is no such one.
+    fn decided(&self) -> Option<Self::Answer>
+        ensures told { IfSome result (λ answer. Self.settles self.now answer) }
+        ensures open { IfNone result ((answer : Self.Answer) → Self.settles self.now answer → ⊥) };
 }
 
 // More lines than there are numbers for.

@@ -1,5 +1,5 @@
 // The answer for one line of a script: its message is followed until it has left, or to the script's end.
-ghost use Rattle.std.specs.Prelude.{◌≡◌, true, ◌≤◌, length, IfOk};
+ghost use Rattle.std.specs.Prelude.{◌≡◌, true, ◌≤◌, length, IfOk, IfSome, IfNone};
 ghost use Rattle.rules.specs.Memory.{size};
 ghost use Rattle.script.specs.Written.{Appended};
 ghost use Rattle.follow.specs.One.{told_of};
@@ -14,7 +14,7 @@ use reasons::Untold;
 use script::write::put_text;
 use std::io::Read;
 use streams::Failed;
-use streams::portions::{Player, Step, no_number, play_script};
+use streams::portions::{DecidingPlayer, Player, Step, no_number, play_script};
 
 // A script of which one line is followed, between two portions of it.
 #[derive(Drop)]
@@ -82,8 +82,17 @@ impl Player for Following {
         Ok(finish(memory, state))
     }
 
-    // What is told before it.
-    fn settled(&self) -> Option<Told> {
+    // What is told before it, wherever that is settled.
+    fn settled(&self) -> Option<Told>
+        ensures told { IfSome result (λ answer. ⟦<Following as Player>⟧.settles self.now answer) }
+        ensures open { IfNone result ((answer : _) → ⟦<Following as Player>⟧.settles self.now answer → ⊥) }
+    {
+        self.decided()
+    }
+}
+
+impl DecidingPlayer for Following {
+    fn decided(&self) -> Option<Told> {
         let state = self.state;
         if is_settled(state) {
             return Some(state.followed.told);

@@ -9,4 +9,4 @@ pub loop-preserved : goal.loop-preserved
 loop-preserved g c = goes_on-more c.loop.invariant c.in_ok-answer.ensures g.met.P.Player.leads c.in-Continue.is
 
 pub returns-in-Some : goal.returns-in-Some
-returns-in-Some g c = runs-settled c.loop.invariant c.in-Some.ensures.told
+returns-in-Some g c = runs-settled c.loop.invariant c.in-Some.ensures
